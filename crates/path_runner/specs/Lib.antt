@@ -1,0 +1,10 @@
+-- What callers rest on, in reading order.
+pub mod Machine
+pub mod Network
+pub mod Events
+pub mod NetworkRun
+pub mod PathMeaning
+pub mod World
+-- What serves the proofs: the words of the small laws, and the examples of the worked rows.
+pub mod RunLaws
+pub mod Example

@@ -1,0 +1,6 @@
+pub mod Lists
+pub mod Moment
+pub mod Agree
+pub mod Keep
+pub mod Runs
+pub mod NoRejects
