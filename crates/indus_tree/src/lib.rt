@@ -1,0 +1,17 @@
+//! Indus properties as trees, and what they mean.
+//!
+//! The layers above get the tree types, the tree without pointers that each stands for, `copy` for
+//! each, and the meaning of expressions, blocks and the two parts of a property at a hop.
+//!
+//! Follows: "Hydra: Effective Runtime Network Verification", SIGCOMM 2023; grammar and rules are this
+//! project's profile. Here stand the forms of the first small grammar: `tele` scalars, sums,
+//! assignments, `if` and `reject`. Nothing is said of texts.
+#![tactic(auto)]
+
+mod copy;
+mod tree;
+
+pub use tree::{Decl, DeclKind, Expr, Op, Property, Shape, Stmt, Ty};
+
+#[cfg(test)]
+mod tests;
