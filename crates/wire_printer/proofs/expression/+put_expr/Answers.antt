@@ -1,0 +1,14 @@
+use Rattle.std.proofs.Common.{append_assoc, ◌++◌, ◌∷◌, [], codes, string_bytes, sym, ap, ◌∙◌}
+use Rattle.p4_tree.specs.View.{expr_of}
+use Rattle.wire_printer.specs.Text.{text_of}
+use Rattle.wire_printer.specs.Expressions.{words_of_expr, mark_of}
+use Rattle.wire_printer.proofs.Texts.{follows}
+use Rattle.wire_printer.proofs.Views.{expr_of-Bin}
+use Rattle.wire_printer.proofs.expression.+put_expr.Goals as goal
+
+pub put_expr-returns-in_ok-put_right-in-Bin : goal.put_expr-returns-in_ok-put_right-in-Bin
+put_expr-returns-in_ok-put_right-in-Bin t c =
+    follows (string_bytes c.args.out.now) (string_bytes c.put_left.new.out) (string_bytes c.put_right.new.out) (codes "(" ∷ words_of_expr (expr_of c.in-Bin.a.value)) (mark_of c.in-Bin.op ∷ (words_of_expr (expr_of c.in-Bin.b.value) ++ codes ")" ∷ []))
+    (rw c.deref-in-Bin.ensures at c.in_ok-put_left-in-Bin.ensures) (rw c.deref-in-Bin-2.ensures at c.in_ok-put_right-in-Bin.ensures)
+    ∙ ap (λ z. string_bytes c.args.out.now ++ text_of (codes "(" ∷ z)) (sym (append_assoc (words_of_expr (expr_of c.in-Bin.a.value)) (mark_of c.in-Bin.op ∷ words_of_expr (expr_of c.in-Bin.b.value)) (codes ")" ∷ [])))
+    ∙ ap (λ z. string_bytes c.args.out.now ++ text_of (words_of_expr z)) (sym (ap expr_of c.in-Bin.is ∙ expr_of-Bin c.in-Bin.field-0 c.in-Bin.op c.in-Bin.a c.in-Bin.b))

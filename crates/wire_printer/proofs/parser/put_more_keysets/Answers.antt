@@ -1,0 +1,12 @@
+use Rattle.std.proofs.Common.{◌∷◌, [], codes, string_bytes, map, refl}
+use Rattle.p4_tree.specs.View.{keyset_of}
+use Rattle.wire_printer.specs.Text.{each_after}
+use Rattle.wire_printer.specs.Programs.{words_of_keyset}
+use Rattle.wire_printer.proofs.Texts.{follows}
+use Rattle.wire_printer.proofs.Loops.{step}
+use Rattle.wire_printer.proofs.parser.put_more_keysets.Goals as goal
+
+pub loop-key-preserved : goal.loop-key-preserved
+loop-key-preserved c =
+    step (λ xs. each_after (codes ",") (map words_of_keyset (map keyset_of xs))) (λ x. codes "," ∷ words_of_keyset (keyset_of x)) refl (λ x xs. refl) (string_bytes c.args.out.now) (string_bytes c.loop-key.out) (string_bytes c.put_keyset.new.out) c.args.keys.now c.key-item.result c.loop-key.key-index
+    c.loop-key-test.true c.key-item.is c.loop-key.invariant (follows (string_bytes c.loop-key.out) (string_bytes c.put.new.out) (string_bytes c.put_keyset.new.out) (codes "," ∷ []) (words_of_keyset (keyset_of c.key-item.result)) c.in_ok-put.ensures c.in_ok-put_keyset.ensures)
