@@ -1,0 +1,7 @@
+-- What callers rest on.
+pub mod Paths
+pub mod Headers
+pub mod PartsIn
+-- What serves the proof.
+pub mod Lent
+pub mod Locals

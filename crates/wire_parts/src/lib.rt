@@ -1,0 +1,28 @@
+//! The parts of a P4 program that a switch runs.
+//!
+//! The layers above get `parts_of`: headers, registers, parser states and controls, found by the
+//! names that `main` and the parameters give, in trees whose paths begin with fixed roots.
+//!
+//! Follows: P4_16 Language Specification and v1model, this project's subset.
+//!
+//! Any tree has parts, an ill-typed one too: what a name does not stand for is empty.
+#![tactic(auto)]
+
+mod build;
+mod find;
+mod header;
+mod names;
+mod parts;
+mod roots;
+mod states;
+mod under;
+mod widths;
+
+pub use build::parts_of;
+pub use header::{Field, Header};
+pub use names::{
+    copy_path, field_path, has_two, last_name, parent, path_of_one, path_of_two, same_path,
+    same_text,
+};
+pub use parts::{Cells, Parts};
+pub use widths::{sound_width, width_of};
