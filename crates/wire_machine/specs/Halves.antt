@@ -1,0 +1,24 @@
+-- The two halves of a pass, step by step.
+use Rattle.std.specs.Prelude.{ℕ, List, [], length}
+use Rattle.bit_values.specs.Bytes.{bits_of}
+use Rattle.p4_tree.specs.Statements.{Run, meaning_of}
+use Rattle.p4_tree.specs.Store.{Store}
+use Rattle.p4_tree.specs.Parsing.{ParserEnd, parse_of}
+use Rattle.p4_tree.specs.Parts.{Parts}
+use Rattle.p4_tree.specs.Pass.{Registers, store_before, run_from}
+
+-- how the parser ends on a frame
+abbrev pub parser_ends : Parts → (port : ℕ) → (frame : List ℕ) → ParserEnd
+parser_ends p port frame = parse_of p.headers p.states (record { store = store_before p port (length frame); rest = bits_of frame })
+
+-- the run at the end of ingress, from the store behind the parser
+abbrev pub ingress_run : Parts → Store → Registers → Run
+ingress_run p s cells = (meaning_of p.ingress (meaning_of p.verify (run_from s cells)).0).0
+
+-- the run at the end of egress
+abbrev pub egress_run : Parts → Store → Registers → Run
+egress_run p s cells = (meaning_of p.egress (run_from s cells)).0
+
+-- the store behind compute checksum
+abbrev pub computed : Parts → Store → Store
+computed p s = (meaning_of p.compute (run_from s (λ x. []))).0.store

@@ -1,0 +1,36 @@
+//! A switch that runs a P4 program as a tree, on maps by name.
+//!
+//! The layers above get `Switch`: a program's parts and the cells of its registers, with the two
+//! halves of a pass, `enter` and `leave`. Contracts see a switch as a `Machine` of `specs/`, and
+//! what each half does as `parts_enter` and `parts_leave` of the trees' meaning.
+//!
+//! Follows: P4_16 Language Specification and v1model, this project's subset.
+//!
+//! A program may be any tree, also an ill-typed one. Speed is not promised. After want of memory the
+//! registers of a switch may have changed in part.
+#![tactic(auto)]
+
+mod begin;
+mod calls;
+mod eval;
+mod fields;
+mod halves;
+mod parse;
+mod passed;
+mod queued;
+mod registers;
+mod rest;
+mod run;
+mod select;
+mod statements;
+mod states;
+mod switch;
+#[cfg(test)]
+mod tests;
+mod write;
+mod writer;
+
+pub use passed::Passed;
+pub use queued::Queued;
+pub use run::Digest;
+pub use switch::Switch;

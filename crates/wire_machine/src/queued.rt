@@ -1,0 +1,88 @@
+//! What waits between the halves of a pass.
+
+ghost use Rattle.std.specs.Prelude.{◌≡◌, ◌≤◌, ◌*◌, ◌++◌, length, drop, IfOk, map};
+ghost use Rattle.bit_values.specs.Bytes.{bits_of};
+ghost use Rattle.p4_tree.specs.Parsing.{bytes_of, deparse_of};
+ghost use Rattle.p4_tree.specs.Pass.{is_dropped, to_egress, unless_dropped};
+ghost use Rattle.wire_machine.specs.Fields.{store_of};
+ghost use Rattle.wire_machine.specs.Rests.{rest_in};
+ghost use Rattle.wire_machine.specs.Machine.{queued_of};
+ghost use Rattle.std.specs.Option.{option_map};
+ghost use Rattle.wire_parts.specs.PartsIn.{parts_in};
+
+use crate::begin::{is_dropped, to_egress};
+use crate::fields::Fields;
+use crate::rest::Rest;
+use crate::writer::BitWriter;
+use std::alloc::{AllocError, Global};
+use wire_parts::Parts;
+
+/// A packet that waits for egress: its store, and the bits that the parser did not consume.
+#[derive(Drop)]
+pub struct Queued {
+    fields: Fields,
+    rest: Rest,
+}
+
+/// The bytes of a frame from one on.
+fn from_byte(frame: &[u8], first: usize) -> &[u8]
+    requires { first ≤ length frame.now }
+    ensures { result.now ≡ drop first frame.now }
+{
+    &frame[first..]
+}
+
+fn copy_bytes(alloc: Global, bytes: &[u8]) -> Result<Vec<u8>, AllocError>
+    ensures { IfOk result (λ v. v.items ≡ bytes.now) }
+{
+    let copy = bytes.to_vec(alloc)?;
+    Ok(copy)
+}
+
+/// The bits of a frame from a place on.
+fn rest_from(alloc: Global, frame: &[u8], at: usize) -> Result<Rest, AllocError>
+    requires { at ≤ 8 * length frame.now }
+    ensures { IfOk result (λ r. rest_in r ≡ drop at (bits_of frame.now)) }
+{
+    let bytes = copy_bytes(alloc, from_byte(frame, at / 8))?;
+    let skip = (at % 8) as u8;
+    Ok(Rest { bytes, skip })
+}
+
+/// What waits for egress after ingress; `None` where the packet is dropped.
+pub fn queue(
+    alloc: Global,
+    mut fields: Fields,
+    frame: &[u8],
+    at: usize,
+) -> Result<Option<Queued>, AllocError>
+    requires { at ≤ 8 * length frame.now }
+    ensures { IfOk result (λ q. option_map queued_of q ≡ unless_dropped (is_dropped (store_of fields)) (record { store = to_egress (store_of fields); rest = drop at (bits_of frame.now) })) }
+{
+    let drops = is_dropped(alloc, &fields)?;
+    if drops {
+        return Ok(None);
+    }
+    to_egress(alloc, &mut fields)?;
+    let rest = rest_from(alloc, frame, at)?;
+    Ok(Some(Queued { fields, rest }))
+}
+
+/// The store and the rest that wait.
+pub fn taken(queued: Queued) -> (Fields, Rest)
+    ensures store { store_of result.0 ≡ (queued_of queued).store }
+    ensures rest { rest_in result.1 ≡ (queued_of queued).rest }
+{
+    let Queued { fields, rest } = queued;
+    (fields, rest)
+}
+
+/// The frame that a deparser makes.
+pub fn write_frame(alloc: Global, p: &Parts, s: &Fields, rest: &Rest) -> Result<Vec<u8>, AllocError>
+    ensures { IfOk result (λ v. v.items ≡ bytes_of (deparse_of (parts_in p.now).headers (parts_in p.now).emits (store_of s.now) ++ rest_in rest.now)) }
+{
+    let mut out = BitWriter::new(alloc);
+    out.put_headers(alloc, &p.headers, &p.emits, s)?;
+    out.put_rest(&rest.bytes, rest.skip)?;
+    Ok(out.finish())
+}

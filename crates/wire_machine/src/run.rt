@@ -1,0 +1,28 @@
+//! What statements work on.
+
+use crate::fields::Fields;
+use bit_values::Bits;
+use lex_text::Name;
+
+/// What a `digest` hands up: the receiver's number, and the words.
+#[derive(Drop)]
+pub struct Digest {
+    pub receiver: u32,
+    pub values: Vec<Bits>,
+}
+
+/// What is in sight, the cells of the registers, and the digests so far.
+#[derive(Drop)]
+pub struct Run {
+    pub fields: Fields,
+    pub registers: Vec<(Name, Vec<Bits>)>,
+    pub digests: Vec<Digest>,
+}
+
+/// How a statement ends: what follows goes on, the control returns, or it exits.
+#[derive(Clone, Copy, Debug, PartialEq, Eq)]
+pub enum Flow {
+    Go,
+    Return,
+    Exit,
+}
