@@ -1,0 +1,3 @@
+-- What callers rest on.
+pub mod Travel
+pub mod Fates

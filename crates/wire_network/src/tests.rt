@@ -1,0 +1,126 @@
+//! Two switches and a cable, by hand. Each switch sends all frames out by port 2, and tells the port
+//! by which a frame came.
+
+use crate::{Arrival, Fate, Link, Told, carry};
+use bit_values::Bits;
+use lex_text::{Literal, Name};
+use p4_tree::{Arg, Control, Expr, PTy, Param, Program, Stmt, Top, Way};
+use std::alloc::{AllocError, Global};
+use std::test::Fail;
+use wire_machine::Switch;
+
+fn path(alloc: Global, names: &[&str]) -> Result<Vec<Name>, AllocError> {
+    let mut path = Vec::new(alloc);
+    for name in names {
+        path.push(Name::new(alloc, name)?)?;
+    }
+    Ok(path)
+}
+
+fn num(value: u128) -> Expr {
+    Expr::Num(0, Literal { width: 0, value })
+}
+
+fn param(alloc: Global, name: &str) -> Result<Param, AllocError> {
+    let name = Name::new(alloc, name)?;
+    Ok(Param {
+        at: 0,
+        way: Way::Both,
+        ty: PTy::Bool,
+        name,
+    })
+}
+
+fn all_by_port_two(alloc: Global) -> Result<Program, AllocError> {
+    let mut params = Vec::new(alloc);
+    params.push(param(alloc, "h")?)?;
+    params.push(param(alloc, "m")?)?;
+    params.push(param(alloc, "std")?)?;
+    let mut apply = Vec::new(alloc);
+    apply.push(Stmt::Assign(0, path(alloc, &["std", "egress_spec"])?, num(2)))?;
+    let mut values = Vec::new(alloc);
+    values.push(Expr::Path(0, path(alloc, &["std", "ingress_port"])?))?;
+    let mut args = Vec::new(alloc);
+    args.push(Arg::One(0, num(1)))?;
+    args.push(Arg::Many(0, values))?;
+    apply.push(Stmt::Call(0, path(alloc, &["digest"])?, args))?;
+    let name = Name::new(alloc, "Ing")?;
+    let ingress = Control {
+        at: 0,
+        name,
+        params,
+        locals: Vec::new(alloc),
+        apply,
+    };
+    let mut tops = Vec::new(alloc);
+    tops.push(Top::Ctl(0, ingress))?;
+    let main = path(alloc, &["", "", "Ing", "", "", ""])?;
+    Ok(Program { at: 0, tops, main })
+}
+
+// The switch at which a frame arrives, by port 1; the frame's length; the hop limit and the link's
+// limit; the switch by whose port 2 it leaves, if it does; and how many switches it passes.
+const WAYS: [(u16, usize, u8, u32, Option<u16>, usize); 6] = [
+    (0, 3, 9, 100, Some(1), 2),
+    (0, 3, 2, 100, Some(1), 2),
+    (0, 3, 1, 100, None, 1),
+    (0, 3, 9, 2, None, 1),
+    (1, 3, 1, 2, Some(1), 1),
+    (1, 65536, 1, 2, None, 1),
+];
+
+#[test]
+fn ways(rt: HostRuntime) -> Result<(), Fail> {
+    let alloc = rt.alloc();
+    let links = [Link {
+        switch: 0,
+        port: 2,
+        far_switch: 1,
+        far_port: 1,
+    }];
+    for (first, size, hops, limit, leaves, passes) in WAYS {
+        assert!(rt; first < 2 && size <= 65536 && 1 <= hops && limit <= 100);
+        let program = all_by_port_two(alloc)?;
+        let mut switches = Vec::new(alloc);
+        switches.push(Switch::new(alloc, &program)?)?;
+        switches.push(Switch::new(alloc, &program)?)?;
+        let mut frame = Vec::new(alloc);
+        frame.resize(size, 7)?;
+        let arrival = Arrival {
+            switch: first,
+            port: 1,
+            frame,
+        };
+        let mut told: Vec<Told> = Vec::new(alloc);
+        match carry(
+            alloc,
+            &mut switches,
+            &links,
+            arrival,
+            hops,
+            limit,
+            &mut told,
+        )? {
+            Fate::Left {
+                switch,
+                port,
+                frame,
+            } => {
+                assert_eq!(rt; Some(switch), leaves);
+                assert_eq!(rt; port, 2);
+                assert_eq!(rt; frame.len(), size);
+            }
+            Fate::Dropped => assert!(rt; false),
+            Fate::Lost => assert_eq!(rt; None, leaves),
+        }
+        assert_eq!(rt; told.len(), passes);
+        assert!(rt; told.len() > 0);
+        assert_eq!(rt; told[0].switch, first);
+        assert_eq!(rt; told[0].digest.receiver, 1);
+        assert_eq!(rt;
+            told[0].digest.values.as_slice(),
+            [Bits::new(9, 1)].as_slice()
+        );
+    }
+    Ok(())
+}
