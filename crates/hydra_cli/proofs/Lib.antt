@@ -1,0 +1,4 @@
+pub mod Courses
+pub mod Writing
+pub mod Joining
+pub mod WireRun

@@ -1,0 +1,34 @@
+-- A course: which files a command asks for, which first refusals the files admit, and what they give.
+use Rattle.std.specs.Prelude.{◌≡◌, ◌⊎◌, ℕ, ◌<◌, ◌≤◌, List, length, Some, None}
+use Rattle.outside.specs.Files.{Files}
+use Rattle.hydra_cli.specs.declared.status.Status.{Status}
+use Rattle.hydra_cli.specs.declared.status.Status.TheVariants.{ReadFault}
+use Rattle.hydra_cli.specs.declared.status.Area.{Area}
+use Rattle.hydra_cli.specs.Lines.{read_line, area_status, long_line}
+
+pub record Course (J : Type 0) : Type 1 where
+  pub asks : Files → List ℕ → Type 0
+  -- a first refusal, with its status and its line
+  pub refuses : Files → Status → List ℕ → Type 0
+  pub gives : Files → J → Type 0
+
+-- a file of at most `limit` bytes
+abbrev pub file : List ℕ → ℕ → Area → Course (List ℕ)
+file name limit area = record {
+  asks = λ f n. n ≡ name;
+  refuses = λ f s l. ((f name ≡ None) × (s ≡ ReadFault) × (l ≡ read_line name))
+      ⊎ (((b : List ℕ) × (f name ≡ Some b) × (limit < length b)) × (s ≡ area_status area) × (l ≡ long_line area name));
+  gives = λ f b. (f name ≡ Some b) × (length b ≤ limit);
+}
+
+-- a decision on what was read
+abbrev pub decide : {J : Type 0} → (J → Type 0) → (Status → List ℕ → Type 0) → Course J
+decide gives refuses = record { asks = λ f n. ⊥; refuses = λ f s l. refuses s l; gives = λ f j. gives j }
+
+-- first one course, and where it gives something the next
+unfoldable pub and_then : {A B : Type 0} → Course A → (A → Course B) → Course B
+and_then {A} {B} first next = record {
+  asks = λ f n. first.asks f n ⊎ ((a : A) × first.gives f a × (next a).asks f n);
+  refuses = λ f s l. first.refuses f s l ⊎ ((a : A) × first.gives f a × (next a).refuses f s l);
+  gives = λ f b. (a : A) × first.gives f a × (next a).gives f b;
+}

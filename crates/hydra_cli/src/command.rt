@@ -1,0 +1,81 @@
+//! What each command reads and makes.
+
+ghost use Rattle.std.specs.Prelude.{◌≡◌, IfOk, MatchOption, None, Some, map, string_bytes};
+ghost use Rattle.hydra_cli.specs.Command.{command_of, course_of, wire};
+ghost use Rattle.hydra_cli.specs.Job.{job_of, out_of};
+ghost use Rattle.hydra_cli.specs.Output.{Outputs};
+ghost use Rattle.hydra_cli.specs.Plan.{Plans, said_by};
+ghost use Rattle.hydra_cli.specs.Steps.{Follows};
+
+use crate::job::{Job, Output, WireJob};
+use crate::reading::{load_frame, load_property};
+use crate::status::Stop;
+use crate::wire::run_wire;
+use outside::Store;
+use std::alloc::{AllocError, Global};
+
+/// A command line.
+#[derive(Clone, Copy)]
+pub enum Command<'a> {
+    /// `wire PROPERTY FRAME OUT`
+    Wire(&'a str, &'a str, &'a str),
+}
+
+/// The command that the words are, if they are one.
+pub fn read_words<'a>(words: &'a [String]) -> Option<Command<'a>>
+    ensures { MatchOption result (command_of (map string_bytes words.now) ≡ None) (λ c. command_of (map string_bytes words.now) ≡ Some (said_by c)) }
+{
+    match words {
+        [word, property, frame, out] => {
+            if word.as_str() == "wire" {
+                Some(Command::Wire(property.as_str(), frame.as_str(), out.as_str()))
+            } else {
+                None
+            }
+        }
+        _ => None,
+    }
+}
+
+/// What a command writes.
+pub fn plan<S: Store>(alloc: Global, store: &mut S, command: Command<'_>) -> Result<Output, Stop>
+    ensures { Plans (course_of (said_by command.entry)) (S.state store.old) (S.state store.new) result }
+{
+    let job = read_job(alloc, store, command)?;
+    Ok(run(alloc, job)?)
+}
+
+fn read_job<S: Store>(alloc: Global, store: &mut S, command: Command<'_>) -> Result<Job, Stop>
+    ensures { Follows (course_of (said_by command.entry)) job_of (S.state store.old) (S.state store.new) result }
+{
+    match command {
+        Command::Wire(property, frame, out) => read_wire(alloc, store, property, frame, out),
+    }
+}
+
+fn read_wire<S: Store>(
+    alloc: Global,
+    store: &mut S,
+    property: &str,
+    frame: &str,
+    out: &str,
+) -> Result<Job, Stop>
+    ensures { Follows (course_of (wire property.now frame.now out.now)) job_of (S.state store.old) (S.state store.new) result }
+{
+    let property = load_property(alloc, store, property)?;
+    let frame = load_frame(alloc, store, frame)?;
+    let out = String::from_str(alloc, out)?;
+    Ok(Job::Wire(WireJob {
+        property,
+        frame,
+        out,
+    }))
+}
+
+fn run(alloc: Global, job: Job) -> Result<Output, AllocError>
+    ensures { IfOk result (λ o. Outputs (job_of job) (out_of o)) }
+{
+    match job {
+        Job::Wire(job) => run_wire(alloc, job),
+    }
+}
