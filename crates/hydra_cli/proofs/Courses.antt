@@ -53,6 +53,7 @@ module _ {A B : Type 0} (c : Course A) (k : A → Course B) (s t u : StoreState)
   stops_then st l next = record {
     reads = reads_then s t u found.reads next.reads;
     kind = next.kind;
+    form = inr (a, next.form);
     count = λ e. elim (next.count e) [
       | inl r ↦ inl (rose_after s.misses t.misses u.misses found.reads.misses r)
       | inr r ↦ inr (later r)
@@ -91,6 +92,7 @@ module _ {A B : Type 0} (c : Course A) (k : A → Course B) (s t : StoreState) w
   stops_first st l stop = record {
     reads = stop.reads;
     kind = stop.kind;
+    form = inl stop.form;
     count = stop.count;
     name = λ f told e. let h = stop.name f told e in (h.0, inl h.1, h.2, h.3);
     admitted = λ f told. elim (stop.admitted f told) [ inl p ↦ inl (inl p) | inr p ↦ inr p ];
@@ -162,6 +164,7 @@ judged_keeps gives refuses view s (Ok a) h = record {
 judged_keeps gives refuses view s (Err (Refused x)) h = record {
   reads = reads_none s;
   kind = area x.status h.kind;
+  form = h.admitted;
   count = λ e. absurd (not_read x.status h.kind e);
   name = λ f told e. absurd (not_read x.status h.kind e);
   admitted = λ f told. inl h.admitted;

@@ -81,6 +81,7 @@ refused c s t k m answer status line stop is put = subst (λ x. AnswersCommand c
   reads = stop.reads;
   line = line;
   put = put;
+  form = stop.form;
   count = stop.count;
   name = stop.name;
   admitted = stop.admitted;

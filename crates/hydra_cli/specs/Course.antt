@@ -11,6 +11,8 @@ pub record Course (J : Type 0) : Type 1 where
   -- a first refusal, with its status and its line
   pub refuses : Files → Status → List ℕ → Type 0
   pub gives : Files → J → Type 0
+  -- a status and a line with which it may stop, whatever is held
+  pub says : Status → List ℕ → Type 0
 
 -- a file of at most `limit` bytes
 abbrev pub file : List ℕ → ℕ → Area → Course (List ℕ)
@@ -19,11 +21,12 @@ file name limit area = record {
   refuses = λ f s l. ((f name ≡ None) × (s ≡ ReadFault) × (l ≡ read_line name))
       ⊎ (((b : List ℕ) × (f name ≡ Some b) × (limit < length b)) × (s ≡ area_status area) × (l ≡ long_line area name));
   gives = λ f b. (f name ≡ Some b) × (length b ≤ limit);
+  says = λ s l. ((s ≡ ReadFault) × (l ≡ read_line name)) ⊎ ((s ≡ area_status area) × (l ≡ long_line area name));
 }
 
 -- a decision on what was read
 abbrev pub decide : {J : Type 0} → (J → Type 0) → (Status → List ℕ → Type 0) → Course J
-decide gives refuses = record { asks = λ f n. ⊥; refuses = λ f s l. refuses s l; gives = λ f j. gives j }
+decide gives refuses = record { asks = λ f n. ⊥; refuses = λ f s l. refuses s l; gives = λ f j. gives j; says = refuses }
 
 -- first one course, and where it gives something the next
 unfoldable pub and_then : {A B : Type 0} → Course A → (A → Course B) → Course B
@@ -31,4 +34,5 @@ and_then {A} {B} first next = record {
   asks = λ f n. first.asks f n ⊎ ((a : A) × first.gives f a × (next a).asks f n);
   refuses = λ f s l. first.refuses f s l ⊎ ((a : A) × first.gives f a × (next a).refuses f s l);
   gives = λ f b. (a : A) × first.gives f a × (next a).gives f b;
+  says = λ s l. first.says s l ⊎ ((a : A) × (next a).says s l);
 }

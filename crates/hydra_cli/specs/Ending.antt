@@ -72,6 +72,7 @@ pub record IsRefused (c : Course Job) (s t : StoreState) (k m : SinkState) (stat
   pub reads : OnlyRead s t
   pub line : List ℕ
   pub put : HasPut line k m
+  pub form : c.says status line
   pub count : status ≡ ReadFault → Rose s.misses t.misses ⊎ Rose s.read_faults t.read_faults
   pub name : (f : Files) → s.files ≡ Some f → status ≡ ReadFault
       → (n : List ℕ) × c.asks f n × (line ≡ read_line n) × ((f n ≡ None) ⊎ Rose s.read_faults t.read_faults)

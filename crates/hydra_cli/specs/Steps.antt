@@ -42,6 +42,7 @@ IsRefusal status = IsArea status
 pub record Stops {J : Type 0} (c : Course J) (old new : StoreState) (status : Status) (line : List ℕ) : Type 0 where
   pub reads : OnlyRead old new
   pub kind : IsRefusal status
+  pub form : c.says status line
   pub count : status ≡ ReadFault → Rose old.misses new.misses ⊎ Rose old.read_faults new.read_faults
   pub name : (f : Files) → old.files ≡ Some f → status ≡ ReadFault
       → (n : List ℕ) × c.asks f n × (line ≡ read_line n) × ((f n ≡ None) ⊎ Rose old.read_faults new.read_faults)

@@ -2,7 +2,7 @@
 //!
 //! The layers above get `Name`, which contracts see as its bytes, and `Literal`.
 //!
-//! Follows: P4_16, lexical structure, this project's subset. Which bytes are a token is not said here.
+//! Follows: P4_16, lexical structure, this project's subset. Of tokens only the bytes of a name are said here.
 #![tactic(auto)]
 
 mod literal;

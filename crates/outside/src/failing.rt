@@ -1,4 +1,5 @@
-// A list of the calls that are to fail.
+//! A list of the calls that are to fail.
+
 ghost use Rattle.std.specs.Prelude.{◌≡◌, ◌↔◌, IsTrue, Contains};
 ghost use Rattle.outside.specs.Causes.{raised};
 

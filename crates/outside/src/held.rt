@@ -1,4 +1,5 @@
-// Files in memory: a map from names to bytes.
+//! Files in memory: a map from names to bytes.
+
 ghost use Rattle.std.specs.Prelude.{◌≡◌, OnOk, OnErr, MatchOption, Some, None};
 ghost use Rattle.outside.specs.Held.{held_in, HoldsAlso, IsSameHeld};
 ghost use Rattle.outside.specs.Reading.{ReadsWhole};

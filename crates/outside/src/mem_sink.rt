@@ -1,4 +1,5 @@
-// A sink in memory, whose puts fail where a list says so or the room is at its end.
+//! A sink in memory, whose puts fail where a list says so or the room is at its end.
+
 ghost use Rattle.std.specs.Prelude.{◌≡◌, ◌≤◌, ◌<◌, ◌-◌, ◌++◌, [], length, take, vec_len, vec_capacity, IsOk, IsErr, IfOk, IsSome, Contains};
 ghost use Rattle.outside.specs.Causes.{Licenses, Counts, raised};
 ghost use Rattle.outside.specs.Files.{Told};

@@ -1,4 +1,5 @@
-// A store in memory, whose calls fail where a list says so.
+//! A store in memory, whose calls fail where a list says so.
+
 ghost use Rattle.std.specs.Prelude.{◌≡◌, ◌⊎◌, ◌≤◌, ℕ, List, length, Contains, OnOk, OnErr, IfOk, IsErrOf, MatchOption, Some, None};
 ghost use Rattle.outside.specs.declared.stops.StoreStop.TheVariants.{Missing, TooLong, Failed};
 ghost use Rattle.outside.specs.Causes.{Licenses, Counts, raised};

@@ -1,4 +1,5 @@
-// The standard output, of which nothing is told.
+//! The standard output, of which nothing is told.
+
 ghost use Rattle.std.specs.Prelude.{◌≡◌, ◌≤◌, length, IsSome, IsErr};
 ghost use Rattle.outside.specs.Causes.{Licenses, Counts};
 ghost use Rattle.outside.specs.Files.{Told};

@@ -1,4 +1,5 @@
-// Bytes put into room that a vector has reserved.
+//! Bytes put into room that a vector has reserved.
+
 ghost use Rattle.std.specs.Prelude.{◌≡◌, ◌≤◌, ◌+◌, ◌++◌, length, vec_len, vec_capacity};
 
 // Appends to a vector that has the room, so that no memory is taken.

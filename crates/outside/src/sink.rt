@@ -1,4 +1,5 @@
-// A place for bytes, as the program meets it.
+//! A place for bytes, as the program meets it.
+
 ghost use Rattle.std.specs.Prelude.{◌≤◌, length, IsSome, IsErr};
 ghost use Rattle.outside.specs.Causes.{Licenses};
 ghost use Rattle.outside.specs.Files.{Told};

@@ -1,4 +1,5 @@
-// Why a store or a sink did not do what was asked.
+//! Why a store or a sink did not do what was asked.
+
 ghost use Rattle.std.specs.Prelude.{◌≡◌};
 ghost use Rattle.outside.specs.declared.stops.StoreStop.TheVariants.{NoMemory};
 

@@ -1,4 +1,5 @@
-// Files under names, as the program meets them.
+//! Files under names, as the program meets them.
+
 ghost use Rattle.std.specs.Prelude.{◌≡◌, ◌⊎◌, ◌≤◌, length, IfOk, IsErrOf};
 ghost use Rattle.outside.specs.declared.stops.StoreStop.TheVariants.{Missing, TooLong, Failed};
 ghost use Rattle.outside.specs.Causes.{Licenses};

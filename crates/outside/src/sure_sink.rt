@@ -1,4 +1,5 @@
-// A sink in memory whose puts don't fail.
+//! A sink in memory whose puts don't fail.
+
 ghost use Rattle.std.specs.Prelude.{◌≡◌, ◌≤◌, ◌<◌, [], length, vec_len, vec_capacity, IsOk, IsErr, IfOk, IsSome, Some, None};
 ghost use Rattle.outside.specs.Causes.{Licenses};
 ghost use Rattle.outside.specs.Files.{Told};
@@ -36,7 +37,7 @@ impl SureSink {
         })
     }
 
-    /// The bytes of all pieces that fitted, in order.
+    /// The bytes that it holds: those of all pieces, while each fitted.
     pub fn taken(&self) -> &[u8]
         ensures held { result.now ≡ surely_taken self.now }
         ensures told { Told (told_by self.now) (λ bytes. result.now ≡ bytes) }

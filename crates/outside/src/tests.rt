@@ -1,4 +1,5 @@
-// Each kind on a table of calls, made through the traits.
+//! Each kind on a table of calls, made through the traits.
+
 use super::*;
 use crate::transfer::{read_up_to, write_whole};
 use std::io::{Error, ErrorKind, Read, Write};
@@ -160,10 +161,13 @@ fn a_real_store_reads_what_it_wrote(rt: HostRuntime) -> Result<(), Fail> {
             ("outside.test", 4999, Err(StoreStop::TooLong)),
         ],
     );
+    writes(&rt, &mut store, &[("outside.test", Ok(()))]);
+    reads(&rt, &mut store, &[("outside.test", 9, Ok(b"new"))]);
     fs::remove_file(&rt, "outside.test")?;
     Ok(())
 }
 
+// What it prints is compared by the run of the program, whose output is stored.
 #[test]
 fn a_real_sink_prints(rt: HostRuntime) {
     let mut sink = RealSink::new(&rt);

@@ -1,4 +1,5 @@
-// Reading and writing whole files by the system's calls, which may move less than was asked.
+//! Reading and writing whole files by the system's calls, which may move less than was asked.
+
 ghost use Rattle.std.specs.Prelude.{◌≡◌, ◌≤◌, ◌+◌, ℕ, List, length, take, IfOk, IfSome, OnOk, IsErrOf};
 ghost use Rattle.std.specs.Io.KnownBytes.{Consumes, Appends};
 ghost use Rattle.outside.specs.declared.stops.StoreStop.TheVariants.{Missing, TooLong};

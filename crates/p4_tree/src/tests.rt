@@ -28,6 +28,22 @@ fn branches(alloc: Global) -> Result<Stmt, AllocError> {
     Ok(Stmt::If(1, test, one, Some(other)))
 }
 
+/// `digest(5, {!true, hdr.a.isValid()});`
+fn digest(alloc: Global) -> Result<Stmt, AllocError> {
+    let mut header = Vec::new(alloc);
+    header.push(Name::new(alloc, "hdr")?)?;
+    header.push(Name::new(alloc, "a")?)?;
+    let mut values = Vec::new(alloc);
+    values.push(Expr::Not(87, Box::new(alloc, Expr::Flag(88, true))?))?;
+    values.push(Expr::Valid(90, header))?;
+    let mut args = Vec::new(alloc);
+    args.push(Arg::One(84, number(84, 0, 5)))?;
+    args.push(Arg::Many(86, values))?;
+    let mut callee = Vec::new(alloc);
+    callee.push(Name::new(alloc, "digest")?)?;
+    Ok(Stmt::Call(82, callee, args))
+}
+
 fn state(alloc: Global) -> Result<ParserState, AllocError> {
     let mut keys = Vec::new(alloc);
     keys.push(Keyset::Masked(40, number(40, 0, 2), number(42, 0, 3)))?;
@@ -64,11 +80,14 @@ fn some_program(alloc: Global) -> Result<Program, AllocError> {
     };
     let mut apply = Vec::new(alloc);
     apply.push(branches(alloc)?)?;
+    apply.push(digest(alloc)?)?;
+    let mut locals = Vec::new(alloc);
+    locals.push(Local::Var(61, PTy::Bool, Name::new(alloc, "seen")?, None))?;
     let control = Control {
         at: 60,
         name: Name::new(alloc, "C")?,
         params: Vec::new(alloc),
-        locals: Vec::new(alloc),
+        locals,
         apply,
     };
     let register = Register {
@@ -103,5 +122,6 @@ fn a_copy_is_the_same_tree(rt: HostRuntime) -> Result<(), Fail> {
         true
     );
     assert_eq!(rt; text.contains("Return(9)"), true);
+    assert_eq!(rt; text.contains("Flag(88, true)"), true);
     Ok(())
 }

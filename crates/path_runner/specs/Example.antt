@@ -1,5 +1,7 @@
--- Small networks, programs and properties, on which the definitions are worked out.
+-- Small networks, programs and properties, on which the definitions are worked out. Sums do not wrap
+-- here.
 use Rattle.std.specs.Prelude.{ℕ, ◌+◌, List, [], ◌∷◌, ◌++◌, Bool, true, Option, Some, None, if◌then◌else◌}
+use Rattle.bit_values.specs.Bits.{Word, word}
 use Rattle.path_runner.specs.Machine.{Machine}
 use Rattle.path_runner.specs.Network.{Wiring, Link, Net}
 use Rattle.path_runner.specs.Events.{Event}
@@ -39,7 +41,7 @@ world hops frames events =
       events = events;
     }
 
--- one packet, or two, with this schedule and a hop limit of 64; and one packet with this frame and none
+-- one packet, or two, with this schedule and a hop limit of 64; and one packet with this frame, without a schedule
 abbrev pub one_packet : List (Event ℕ) → World (Unit {0}) ℕ
 one_packet events = world 64 ([] ∷ []) events
 
@@ -62,7 +64,7 @@ program ingress egress =
           record {
             after = count + 1;
             digests = [];
-            view = port ∷ [];
+            view = word 9 port ∷ [];
             queued = unless_dropped ingress frame;
           };
       leave = λ s count frame.
@@ -79,7 +81,7 @@ abbrev pub to_port_2 : Machine (Unit {0}) ℕ (List ℕ) ℕ
 to_port_2 = program true true
 
 -- report 0, of these values
-abbrev pub report_of : List ℕ → Report
+abbrev pub report_of : List Word → Report
 report_of values = record { number = 0; values = values }
 
 -- a block that does nothing
@@ -94,7 +96,7 @@ counting =
       sensors = 0;
       init = nothing;
       telemetry = λ r d. record d { tele = d.sensors + 1; sensors = d.sensors + 1 };
-      checker = λ r d. record d { reports = d.reports ++ report_of (d.tele ∷ []) ∷ [] };
+      checker = λ r d. record d { reports = d.reports ++ report_of (word 8 d.tele ∷ []) ∷ [] };
     }
 
 -- control bit<8> c; tele bit<8> before; {before = c;} {} {report(before, c);}
@@ -105,7 +107,7 @@ watching =
       sensors = tt;
       init = λ r d. record d { tele = r.contents 0 };
       telemetry = nothing;
-      checker = λ r d. record d { reports = d.reports ++ report_of (d.tele ∷ r.contents 0 ∷ []) ∷ [] };
+      checker = λ r d. record d { reports = d.reports ++ report_of (word 8 d.tele ∷ word 8 (r.contents 0) ∷ []) ∷ [] };
     }
 
 -- tele list of the hops' flags; {} {flags.push((first_hop, last_hop));} {}
@@ -129,7 +131,7 @@ rejecting =
       init = λ r d. record d { tele = d.tele + 100; sensors = d.sensors + 1 };
       telemetry = λ r d. record d { tele = d.tele + 1; sensors = d.sensors + 10 };
       checker = λ r d.
-          record d { rejected = true; reports = d.reports ++ report_of (d.tele ∷ []) ∷ [] };
+          record d { rejected = true; reports = d.reports ++ report_of (word 8 d.tele ∷ []) ∷ [] };
     }
 
 -- the network at the end of a world, without telemetry on its links
@@ -141,6 +143,6 @@ abbrev pub said : {T Z : Type 0} → Property T Z ℕ → Wiring → World (Unit
 said p net w = path_meaning p (ended true true net w).log
 
 -- report 0, of this packet and switch
-abbrev pub report_at : (packet switch : ℕ) → List ℕ → Reported
+abbrev pub report_at : (packet switch : ℕ) → List Word → Reported
 report_at packet switch values =
     record { packet = packet; switch = switch; report = report_of values }

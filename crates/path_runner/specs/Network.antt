@@ -1,6 +1,7 @@
 -- A network: its links, where its packets are, and what has happened in it so far. Read `Machine`
 -- before it and `Events` after it.
 use Rattle.std.specs.Prelude.{ℕ, ◌<◌, List, [], ◌∷◌, Bool, true, false, ◌&&◌, if◌then◌else◌, ◌==◌, is_none, Option, Some, None, All, count_by}
+use Rattle.bit_values.specs.Bits.{Word}
 use Rattle.path_runner.specs.Machine.{Digest}
 
 -- a link joins two ports, and carries frames both ways
@@ -83,7 +84,7 @@ pub record Half (C : Type 0) : Type 0 where
   pub switch : ℕ
   pub first : Bool
   pub last : Bool
-  pub view : List ℕ
+  pub view : List Word
   pub contents : ℕ → C
 
 -- a network at a moment: what each switch keeps, the contents of its control variables and the

@@ -1,6 +1,7 @@
 -- What a network does with its packets, event by event. The same words serve the forwarding program
 -- and the linked programs. Read `Events` before it and `PathMeaning` after it.
 use Rattle.std.specs.Prelude.{ℕ, ◌+◌, List, [], ◌∷◌, ◌++◌, length, map, Bool, true, false, ◌||◌, if◌then◌else◌, ◌==◌, nat_lt, nat_le, Option, Some, None}
+use Rattle.bit_values.specs.Bits.{Word}
 use Rattle.path_runner.specs.Machine.{Digest, Entered, Going, Leaving, Machine}
 use Rattle.path_runner.specs.Events.{Event, Enter, Leave, Set, WholeEvent, halves_of}
 use Rattle.path_runner.specs.Network.{Wiring, far_end, at_edge, Place, Flying, Waiting, Over, Sent, Told, Half, Net}
@@ -33,7 +34,7 @@ dropped_if_none i None = i ∷ []
 dropped_if_none i (Some a) = []
 
 -- the log's entry for the entry half of packet i, which came to switch s by this port
-abbrev pub entry_half : {C : Type 0} → Wiring → (i s port : ℕ) → List ℕ → (ℕ → C) → Half C
+abbrev pub entry_half : {C : Type 0} → Wiring → (i s port : ℕ) → List Word → (ℕ → C) → Half C
 entry_half net i s port view contents =
     record {
       is_exit = false;
@@ -46,7 +47,7 @@ entry_half net i s port view contents =
     }
 
 -- the log's entry for its exit half, which sends it by the port `to`
-abbrev pub exit_half : {C : Type 0} → Wiring → (i s port to : ℕ) → List ℕ → (ℕ → C) → Half C
+abbrev pub exit_half : {C : Type 0} → Wiring → (i s port to : ℕ) → List Word → (ℕ → C) → Half C
 exit_half net i s port to view contents =
     record {
       is_exit = true;

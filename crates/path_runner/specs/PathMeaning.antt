@@ -1,6 +1,7 @@
 -- What a property says of packets' paths: its parts, folded over the log of the forwarding
 -- program's own run. Read `NetworkRun` before it and `World` after it.
 use Rattle.std.specs.Prelude.{ℕ, ◌+◌, List, [], ◌∷◌, ◌++◌, map, Bool, false, ◌&&◌, if◌then◌else◌, Option, Some, None}
+use Rattle.bit_values.specs.Bits.{Word}
 use Rattle.path_runner.specs.Network.{Half, one_if}
 use Rattle.path_runner.specs.NetworkRun.{put}
 
@@ -9,13 +10,14 @@ pub record Reads (C : Type 0) : Type 0 where
   pub switch : ℕ
   pub first : Bool
   pub last : Bool
-  pub view : List ℕ
+  pub view : List Word
   pub contents : ℕ → C
 
--- a report: its number, which says which report of the text it is, and its values
+-- a report: its number, which says which report of the text it is, and its values, each a word of
+-- its own width
 pub record Report : Type 0 where
   pub number : ℕ
-  pub values : List ℕ
+  pub values : List Word
 
 -- what a block works on: the packet's tele values, the switch's sensors, whether the packet is
 -- rejected, and the reports so far

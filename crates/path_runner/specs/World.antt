@@ -28,24 +28,28 @@ pub record IsArrival (net : Wiring) (a : Arrival) : Type 0 where
   pub edge : at_edge net a.switch a.port ≡ true
   pub short : length a.frame ≤ longest_frame
 
--- the new contents fit their variable
+-- what is set is a variable, and the new contents fit it
 abbrev pub IsFitEvent :
-    {C : Type 0} → ((switch variable : ℕ) → C → Type 0) → Event C → Type 0
-IsFitEvent IsFitContents (Enter i) = Unit {0}
-IsFitEvent IsFitContents (Leave i) = Unit {0}
-IsFitEvent IsFitContents (Set s v c) = IsFitContents s v c
+    {C : Type 0} → (IsVariable : ℕ → Type 0) → ((switch variable : ℕ) → C → Type 0) → Event C →
+    Type 0
+IsFitEvent IsVariable IsFitContents (Enter i) = Unit {0}
+IsFitEvent IsVariable IsFitContents (Leave i) = Unit {0}
+IsFitEvent IsVariable IsFitContents (Set s v c) = IsVariable v × IsFitContents s v c
 
--- a valid world: a packet may pass a switch, entries and contents are of the shapes that the
--- programs and the property ask for, and the packets come to edge ports
+-- a valid world: a packet may pass a switch, entries and the contents of variables are of the
+-- shapes that the programs and the property ask for, and the packets come to edge ports. IsVariable
+-- says which numbers name a control variable of the property
 pub record IsValid
     {E C : Type 0} (net : Wiring) (IsFitEntries : (switch : ℕ) → E → Type 0)
-    (IsFitContents : (switch variable : ℕ) → C → Type 0) (w : World E C)
+    (IsVariable : ℕ → Type 0) (IsFitContents : (switch variable : ℕ) → C → Type 0)
+    (w : World E C)
     : Type 0 where
   pub hops : 0 < w.hops
   pub entries : (s : ℕ) → s < net.switches → IsFitEntries s (w.entries s)
-  pub contents : (s v : ℕ) → s < net.switches → IsFitContents s v (w.contents s v)
+  pub contents :
+      (s v : ℕ) → s < net.switches → IsVariable v → IsFitContents s v (w.contents s v)
   pub packets : All (IsArrival net) w.packets
-  pub events : All (IsFitEvent IsFitContents) w.events
+  pub events : All (IsFitEvent IsVariable IsFitContents) w.events
 
 -- the schedule's events, and then the closing phase, in which packets 0, 1, 2 and so on each go on
 -- to their ends

@@ -36,7 +36,7 @@ pub fn other_places_change_nothing<Entries, Kept, Queued, Contents>()
 {}
 
 /// Events keep the number of switches that a packet has passed below the limit: from any such
-/// network on, and in every world, whatever the schedule.
+/// network on, and in every world whose hop limit is not 0, whatever the schedule.
 pub fn passed_stays_below_the_limit<Entries, Kept, Queued, Contents>()
     ensures events { (m : Machine Entries Kept Queued Contents) (net : Wiring) (limits : Limits)
         (w : Net Kept Queued Contents) (es : List (Event Contents)) →
@@ -48,7 +48,7 @@ pub fn passed_stays_below_the_limit<Entries, Kept, Queued, Contents>()
 {}
 
 /// After the closing phase every packet is over: from any network whose packets have passed fewer
-/// switches than the limit, and in every world, whatever the schedule.
+/// switches than the limit, and in every world whose hop limit is not 0, whatever the schedule.
 pub fn closing_ends_every_packet<Entries, Kept, Queued, Contents>()
     ensures events { (m : Machine Entries Kept Queued Contents) (net : Wiring) (limits : Limits)
         (w : Net Kept Queued Contents) (count i : ℕ) →
@@ -59,8 +59,9 @@ pub fn closing_ends_every_packet<Entries, Kept, Queued, Contents>()
         0 < w.hops → IsOver ((net_at_end m net telemetry w).packets i) }
 {}
 
-/// In every world each packet ends once: it leaves by an edge port, or is dropped, or is lost. So
-/// the packets are as many as the frames that left and the packets that were dropped and lost.
+/// In every world whose hop limit is not 0 each packet ends once: it leaves by an edge port, or is
+/// dropped, or is lost. So the packets are as many as the frames that left and the packets that were
+/// dropped and lost.
 pub fn each_packet_ends_once<Entries, Kept, Queued, Contents>()
     ensures { (m : Machine Entries Kept Queued Contents) (net : Wiring) (telemetry : ℕ)
         (w : World Entries Contents) (i : ℕ) →

@@ -1,5 +1,6 @@
 // Worked rows: what the definitions give on small networks. Each is proved by computation.
-ghost use Rattle.std.specs.Prelude.{◌≡◌, ℕ, ◌<◌, List, [], ◌∷◌, length, map, Bool, true, false, Option, Some, None};
+ghost use Rattle.std.specs.Prelude.{◌≡◌, ℕ, ◌<◌, ◌≤◌, List, [], ◌∷◌, length, map, Bool, true, false, Option, Some, None};
+ghost use Rattle.bit_values.specs.Bits.{word};
 ghost use Rattle.path_runner.specs.Events.{Enter, Leave, Set, Hop, Update, halves_of};
 ghost use Rattle.path_runner.specs.NetworkRun.{longest_frame};
 ghost use Rattle.path_runner.specs.PathMeaning.{path_meaning};
@@ -22,20 +23,20 @@ fn ring_loses_the_packet_at_the_hop_limit()
 /// passes the second switch first.
 fn reports_without_a_schedule()
     ensures { (said counting line2 (two_packets [])).reports
-        ≡ report_at 0 1 (1 ∷ []) ∷ report_at 1 1 (2 ∷ []) ∷ [] }
+        ≡ report_at 0 1 (word 8 1 ∷ []) ∷ report_at 1 1 (word 8 2 ∷ []) ∷ [] }
 {}
 
 /// By the schedule 0, 1, 1 packet 1 passes it first.
 fn reports_by_a_schedule()
     ensures { (said counting line2 (two_packets (halves_of (Hop 0 ∷ Hop 1 ∷ Hop 1 ∷ [])))).reports
-        ≡ report_at 1 1 (1 ∷ []) ∷ report_at 0 1 (2 ∷ []) ∷ [] }
+        ≡ report_at 1 1 (word 8 1 ∷ []) ∷ report_at 0 1 (word 8 2 ∷ []) ∷ [] }
 {}
 
 /// By the schedule 1, 0 packet 1 passes the first switch first, and the closing phase begins with
 /// packet 0.
 fn frames_with_one_before_zero()
     ensures reports { (said counting line2 (two_packets (halves_of (Hop 1 ∷ Hop 0 ∷ [])))).reports
-        ≡ report_at 0 1 (1 ∷ []) ∷ report_at 1 1 (2 ∷ []) ∷ [] }
+        ≡ report_at 0 1 (word 8 1 ∷ []) ∷ report_at 1 1 (word 8 2 ∷ []) ∷ [] }
     ensures wires { map (λ x. x.sent.packet)
         (ended true true line2 (two_packets (halves_of (Hop 1 ∷ Hop 0 ∷ [])))).wires
         ≡ 1 ∷ 0 ∷ [] }
@@ -63,11 +64,11 @@ fn second_halves_change_nothing()
 /// half alone, and only at that switch.
 fn contents_set_between_the_halves()
     ensures seen { (said watching alone (one_packet (Enter 0 ∷ Set 0 0 7 ∷ Leave 0 ∷ []))).reports
-        ≡ report_at 0 0 (5 ∷ 7 ∷ []) ∷ [] }
+        ≡ report_at 0 0 (word 8 5 ∷ word 8 7 ∷ []) ∷ [] }
     ensures elsewhere { (said watching alone (one_packet (Enter 0 ∷ Set 1 0 7 ∷ Leave 0 ∷ []))).reports
-        ≡ report_at 0 0 (5 ∷ 5 ∷ []) ∷ [] }
+        ≡ report_at 0 0 (word 8 5 ∷ word 8 5 ∷ []) ∷ [] }
     ensures before { (said watching alone (one_packet (halves_of (Update 0 0 7 ∷ Hop 0 ∷ [])))).reports
-        ≡ report_at 0 0 (7 ∷ 7 ∷ []) ∷ [] }
+        ≡ report_at 0 0 (word 8 7 ∷ word 8 7 ∷ []) ∷ [] }
 {}
 
 /// The first hop begins at an edge port, the last one ends at one, and one passage may be both.
@@ -80,7 +81,7 @@ fn first_and_last_hops()
 /// Init runs at the first hop alone, telemetry at each, and the checker at the last; a rejected
 /// packet's report is reported, and the packet is counted at that switch.
 fn parts_at_three_hops()
-    ensures reports { (said rejecting line3 (one_packet [])).reports ≡ report_at 0 2 (103 ∷ []) ∷ [] }
+    ensures reports { (said rejecting line3 (one_packet [])).reports ≡ report_at 0 2 (word 8 103 ∷ []) ∷ [] }
     ensures sensors { map (said rejecting line3 (one_packet [])).sensors (0 ∷ 1 ∷ 2 ∷ []) ≡ 11 ∷ 10 ∷ 10 ∷ [] }
     ensures verdict { (said rejecting line3 (one_packet [])).verdicts 0 ≡ Some true }
     ensures counts { map (said rejecting line3 (one_packet [])).rejected_at (0 ∷ 1 ∷ 2 ∷ []) ≡ 0 ∷ 0 ∷ 1 ∷ [] }
@@ -110,7 +111,7 @@ fn frame_too_long_for_an_edge()
         longest_frame < length frame → (ended true true alone (framed frame)).lost ≡ 0 ∷ [] }
     ensures edges { (frame : List ℕ) →
         longest_frame < length frame → (ended true true alone (framed frame)).edges ≡ [] }
-    ensures reports { (frame : List ℕ) → (said rejecting alone (framed frame)).reports ≡ report_at 0 0 (101 ∷ []) ∷ [] }
+    ensures reports { (frame : List ℕ) → (said rejecting alone (framed frame)).reports ≡ report_at 0 0 (word 8 101 ∷ []) ∷ [] }
     ensures verdict { (frame : List ℕ) → (said rejecting alone (framed frame)).verdicts 0 ≡ Some true }
 {}
 
@@ -125,6 +126,23 @@ fn frame_too_long_for_a_link()
         longest_frame < length frame → (said rejecting line2 (framed frame)).verdicts 0 ≡ None }
     ensures goes { (ended true true line2 (framed (1 ∷ 2 ∷ []))).edges
         ≡ record { packet = 0; switch = 1; port = 2; frame = 1 ∷ 2 ∷ [] } ∷ [] }
+{}
+
+/// A frame of 65,535 bytes, or of fewer, leaves by an edge port and is carried on a link, as it came.
+fn longest_frame_goes_on()
+    ensures edge { (frame : List ℕ) →
+        length frame ≤ longest_frame →
+        (ended true true alone (framed frame)).edges
+        ≡ record { packet = 0; switch = 0; port = 2; frame = frame } ∷ [] }
+    ensures link { (frame : List ℕ) →
+        length frame ≤ longest_frame →
+        (ended true true line2 (framed frame)).wires
+        ≡ record { half = 1; sent = record { packet = 0; switch = 0; port = 2; frame = frame } } ∷ [] }
+    ensures behind_the_link { (frame : List ℕ) →
+        length frame ≤ longest_frame →
+        (ended true true line2 (framed frame)).edges
+        ≡ record { packet = 0; switch = 1; port = 2; frame = frame } ∷ [] }
+    ensures longest { longest_frame ≡ 65535 }
 {}
 
 /// The closing phase takes each packet to its end, in the order of their numbers.
@@ -147,5 +165,6 @@ fn worked_rows() {
     parts_of_a_packet_dropped_in_egress();
     frame_too_long_for_an_edge();
     frame_too_long_for_a_link();
+    longest_frame_goes_on();
     closing_takes_each_packet();
 }

@@ -32,13 +32,13 @@ sent_log net limits w i s n g None half = lost_log (nat_lt longest_frame (length
 sent_log net limits w i s n g (Some far) half = lost_log (nat_le limits.hops (n + 1) || nat_lt limits.link (length g.frame)) w i _ refl
 
 -- the closing phase sets nothing
-end_fits : {C : Type 0} (Fit : ℕ → ℕ → C → Type 0) (i n : ℕ) (es : List (Event C)) → AllByRecursion (IsFitEvent Fit) es → AllByRecursion (IsFitEvent Fit) (to_its_end i n ++ es)
-end_fits Fit i zero es h = (tt, h)
-end_fits Fit i (suc n) es h = (tt, (tt, end_fits Fit i n es h))
+end_fits : {C : Type 0} (Var : ℕ → Type 0) (Fit : ℕ → ℕ → C → Type 0) (i n : ℕ) (es : List (Event C)) → AllByRecursion (IsFitEvent Var Fit) es → AllByRecursion (IsFitEvent Var Fit) (to_its_end i n ++ es)
+end_fits Var Fit i zero es h = (tt, h)
+end_fits Var Fit i (suc n) es h = (tt, (tt, end_fits Var Fit i n es h))
 
-closing_fits : {C : Type 0} (Fit : ℕ → ℕ → C → Type 0) (hops i n : ℕ) → AllByRecursion (IsFitEvent Fit) (closing hops i n)
-closing_fits Fit hops i zero = tt
-closing_fits Fit hops i (suc n) = end_fits Fit i hops (closing hops (i + 1) n) (closing_fits Fit hops (i + 1) n)
+closing_fits : {C : Type 0} (Var : ℕ → Type 0) (Fit : ℕ → ℕ → C → Type 0) (hops i n : ℕ) → AllByRecursion (IsFitEvent Var Fit) (closing hops i n)
+closing_fits Var Fit hops i zero = tt
+closing_fits Var Fit hops i (suc n) = end_fits Var Fit i hops (closing hops (i + 1) n) (closing_fits Var Fit hops (i + 1) n)
 
 -- a packet of a valid world is as the world says
 at_place : {A : Type 0} (P : A → Type 0) (xs : List A) (i : ℕ) (x : A) → All P xs → slice_get xs i ≡ Some x → P x
@@ -46,7 +46,7 @@ at_place P [] i x h e = absurd (cc)
 at_place P (y ∷ xs) zero x h e = let q : y ≡ x = (cc) in subst P q (All-head P y xs h)
 at_place P (y ∷ xs) (suc i) x h e = at_place P xs i x (All-tail P y xs h) e
 
-module _ {E S Q S' Q' C T Z N : Type 0} (net : Wiring) (p : Property T Z C) (telemetry : Telemetry T) (Kept : ℕ → S → Z → (ℕ → C) → ℕ → S' → Type 0) (Held : ℕ → Bool → Q → T → Q' → Type 0) (Fit : T → Type 0) (m : Machine E S Q C) (m' : Machine E S' Q' C) (registers : Registers S S' Z N) (IsFitEntries : ℕ → E → Type 0) (IsFitContents : ℕ → ℕ → C → Type 0) (is_wiring : IsWiring net) (laws : HalvesLaws net p telemetry Kept Held Fit m m' registers IsFitEntries IsFitContents) where
+module _ {E S Q S' Q' C T Z N : Type 0} (net : Wiring) (p : Property T Z C) (telemetry : Telemetry T) (Kept : ℕ → S → Z → (ℕ → C) → ℕ → S' → Type 0) (Held : ℕ → Bool → Q → T → Q' → Type 0) (Fit : T → Type 0) (m : Machine E S Q C) (m' : Machine E S' Q' C) (registers : Registers S S' Z N) (IsFitEntries : ℕ → E → Type 0) (IsVariable : ℕ → Type 0) (IsFitContents : ℕ → ℕ → C → Type 0) (is_wiring : IsWiring net) (laws : HalvesLaws net p telemetry Kept Held Fit m m' registers IsFitEntries IsVariable IsFitContents) where
   module _ (hops : ℕ) where
     -- the limits of the two networks
     abbrev plain : Limits
@@ -107,8 +107,8 @@ module _ {E S Q S' Q' C T Z N : Type 0} (net : Wiring) (p : Property T Z C) (tel
     keep_leaves a b i now Over (Flying s' port' f' n') e r = absurd r
     keep_leaves a b i now Over (Waiting s' port' q' n') e r = absurd r
 
-    keep_set : (a : Net S Q C) (b : Net S' Q' C) (s v : ℕ) (c : C) → Holds a b → IsFitContents s v c → Holds (happens m net plain a (Set s v c)) (happens m' net linked b (Set s v c))
-    keep_set a b s v c now fits =
+    keep_set : (a : Net S Q C) (b : Net S' Q' C) (s v : ℕ) (c : C) → Holds a b → IsVariable v → IsFitContents s v c → Holds (happens m net plain a (Set s v c)) (happens m' net linked b (Set s v c))
+    keep_set a b s v c now named fits =
         let w = path_meaning p a.log in
         let before = now.agrees in
         record {
@@ -116,7 +116,7 @@ module _ {E S Q S' Q' C T Z N : Type 0} (net : Wiring) (p : Property T Z C) (tel
               record {
                 switches =
                     put_four (λ j x c' y y'. j < net.switches → Kept j x (w.sensors j) c' (w.rejected_at j) y) a.switches a.contents b.switches b.switches s (m.set s (a.switches s) v c) (put (a.contents s) v c) (m'.set s (b.switches s) v c) (m'.set s (b.switches s) v c)
-                    (λ j e h. let here : s < net.switches = subst (λ x. x < net.switches) e h in rw e (laws.sets s v (w.rejected_at s) (a.switches s) (b.switches s) (w.sensors s) (a.contents s) c here (before.switches s here) fits))
+                    (λ j e h. let here : s < net.switches = subst (λ x. x < net.switches) e h in rw e (laws.sets s v (w.rejected_at s) (a.switches s) (b.switches s) (w.sensors s) (a.contents s) c here (before.switches s here) named fits))
                     before.switches;
                 places = before.places;
                 shows =
@@ -134,18 +134,18 @@ module _ {E S Q S' Q' C T Z N : Type 0} (net : Wiring) (p : Property T Z C) (tel
               };
         }
 
-    keep_happens : (a : Net S Q C) (b : Net S' Q' C) (e : Event C) → Holds a b → IsFitEvent IsFitContents e → Holds (happens m net plain a e) (happens m' net linked b e)
+    keep_happens : (a : Net S Q C) (b : Net S' Q' C) (e : Event C) → Holds a b → IsFitEvent IsVariable IsFitContents e → Holds (happens m net plain a e) (happens m' net linked b e)
     keep_happens a b (Enter i) now fits = keep_enters a b i now (a.packets i) (b.packets i) refl (now.agrees.places i)
     keep_happens a b (Leave i) now fits = keep_leaves a b i now (a.packets i) (b.packets i) refl (now.agrees.places i)
-    keep_happens a b (Set s v c) now fits = keep_set a b s v c now fits
+    keep_happens a b (Set s v c) now fits = keep_set a b s v c now fits.0 fits.1
 
     -- a list of events keeps it
-    pub keep_run : (a : Net S Q C) (b : Net S' Q' C) (es : List (Event C)) → Holds a b → All (IsFitEvent IsFitContents) es → Holds (run_of_halves m net plain a es) (run_of_halves m' net linked b es)
+    pub keep_run : (a : Net S Q C) (b : Net S' Q' C) (es : List (Event C)) → Holds a b → All (IsFitEvent IsVariable IsFitContents) es → Holds (run_of_halves m net plain a es) (run_of_halves m' net linked b es)
     keep_run a b [] now fits = now
     keep_run a b (e ∷ es) now fits =
-        keep_run (happens m net plain a e) (happens m' net linked b e) es (keep_happens a b e now (All-head (IsFitEvent IsFitContents) e es fits)) (All-tail (IsFitEvent IsFitContents) e es fits)
+        keep_run (happens m net plain a e) (happens m' net linked b e) es (keep_happens a b e now (All-head (IsFitEvent IsVariable IsFitContents) e es fits)) (All-tail (IsFitEvent IsVariable IsFitContents) e es fits)
 
-  module _ (w : World E C) (valid : IsValid net IsFitEntries IsFitContents w) where
+  module _ (w : World E C) (valid : IsValid net IsFitEntries IsVariable IsFitContents w) where
     first_same : (o : Option Arrival) → ((x : Arrival) → o ≡ Some x → IsArrival net x) → SamePlace net p telemetry Kept Held Fit p.tele None (first_place o) (first_place o)
     first_same None h = tt
     first_same (Some x) h =
@@ -158,7 +158,7 @@ module _ {E S Q S' Q' C T Z N : Type 0} (net : Wiring) (p : Property T Z C) (tel
         record {
           agrees =
               record {
-                switches = λ s h. laws.starts s (w.entries s) (w.contents s) h (valid.entries s h) (λ v. valid.contents s v h);
+                switches = λ s h. laws.starts s (w.entries s) (w.contents s) h (valid.entries s h) (λ v named. valid.contents s v h named);
                 places = λ i. first_same (slice_get w.packets i) (λ x e. at_place (IsArrival net) w.packets i x valid.packets e);
                 shows = record { wires = refl; edges = refl; reports = refl; digests = refl; counts = record { dropped = λ i. refl; lost = refl } };
                 trail = refl;
@@ -172,11 +172,11 @@ module _ {E S Q S' Q' C T Z N : Type 0} (net : Wiring) (p : Property T Z C) (tel
     after : (n : ℕ) → Holds w.hops (run_of_halves m net (plain_limits w.hops) (first_net m w) (take n (steps w))) (run_of_halves m' net (linked_limits w.hops telemetry.size) (first_net m' w) (take n (steps w)))
     after n =
         let closes = closing w.hops 0 (length w.packets) in
-        let all_fit : All (IsFitEvent IsFitContents) (steps w) = All-append (IsFitEvent IsFitContents) w.events closes valid.events (All-from_recursion (IsFitEvent IsFitContents) closes (closing_fits IsFitContents w.hops 0 (length w.packets))) in
-        keep_run w.hops (first_net m w) (first_net m' w) (take n (steps w)) start (All-take (IsFitEvent IsFitContents) n (steps w) all_fit)
+        let all_fit : All (IsFitEvent IsVariable IsFitContents) (steps w) = All-append (IsFitEvent IsVariable IsFitContents) w.events closes valid.events (All-from_recursion (IsFitEvent IsVariable IsFitContents) closes (closing_fits IsVariable IsFitContents w.hops 0 (length w.packets))) in
+        keep_run w.hops (first_net m w) (first_net m' w) (take n (steps w)) start (All-take (IsFitEvent IsVariable IsFitContents) n (steps w) all_fit)
 
   -- the linked programs are a linkage
-  pub linkage : Linkage m m' net p telemetry registers IsFitEntries IsFitContents
+  pub linkage : Linkage m m' net p telemetry registers IsFitEntries IsVariable IsFitContents
   linkage =
       record {
         forwarding_registers = λ w valid n s h. laws.forwards s _ _ _ _ _ h ((after w valid n).agrees.switches s h);

@@ -1,6 +1,7 @@
 -- A small forwarding program, a property and programs linked by hand, on which the definitions are
--- worked out. Numbers have no width here.
+-- worked out. Sums do not wrap here.
 use Rattle.std.specs.Prelude.{◌≡◌, ℕ, zero, suc, ◌+◌, ◌%◌, ◌^◌, List, [], ◌∷◌, ◌++◌, Bool, true, false, if◌then◌else◌, ◌==◌, bit_xor, Some, None}
+use Rattle.bit_values.specs.Bits.{word}
 use Rattle.path_runner.specs.Machine.{Digest, Entered, Leaving, Machine}
 use Rattle.path_runner.specs.Network.{Wiring, at_edge, Net, one_if}
 use Rattle.path_runner.specs.Events.{Event}
@@ -16,7 +17,7 @@ is_dropped [] = false
 is_dropped (byte ∷ rest) = byte == 0
 
 abbrev pub port_digest : ℕ → Digest
-port_digest port = record { receiver = 7; values = port ∷ [] }
+port_digest port = record { receiver = 7; values = word 9 port ∷ [] }
 
 abbrev pub plain_leave : (dropped : Bool) → ℕ → List ℕ → Leaving ℕ
 plain_leave true count frame = record { after = count; digests = []; going = None }
@@ -42,19 +43,24 @@ forwarding =
       set = λ s count v c. count;
     }
 
--- control bit<8> limit; tele bit<8> n; sensor bit<8> seen = 3;
+-- what the linker by hand is given: the network, and the initial value of the property's sensor
+pub record Given : Type 0 where
+  pub network : Wiring
+  pub initial : ℕ
+
+-- control bit<8> limit; tele bit<8> n; sensor bit<8> seen = initial;
 -- {n = n + 10;} {n = n + 1; seen = seen + 1;} {report(n, seen); if (n == limit) {reject;}}
-abbrev pub limited : Property ℕ ℕ ℕ
-limited =
+abbrev pub limited : (initial : ℕ) → Property ℕ ℕ ℕ
+limited initial =
     record {
       tele = 0;
-      sensors = 3;
+      sensors = initial;
       init = λ r d. record d { tele = d.tele + 10 };
       telemetry = λ r d. record d { tele = d.tele + 1; sensors = d.sensors + 1 };
       checker = λ r d.
           record d {
             rejected = d.tele == r.contents 0;
-            reports = d.reports ++ report_of (d.tele ∷ d.sensors ∷ []) ∷ [];
+            reports = d.reports ++ report_of (word 8 d.tele ∷ word 8 d.sensors ∷ []) ∷ [];
           };
     }
 
@@ -99,7 +105,7 @@ abbrev pub checked_leave : (rejects : Bool) → Keeps → Parked → Leaving Kee
 checked_leave rejects b q =
     record {
       after = record b { seen = b.seen + 1; rejected = b.rejected + one_if rejects };
-      digests = digest_of (report_of ((q.n + 1) ∷ (b.seen + 1) ∷ [])) ∷ [];
+      digests = digest_of (report_of (word 8 (q.n + 1) ∷ word 8 (b.seen + 1) ∷ [])) ∷ [];
       going = if rejects then None else Some (record { port = 2; frame = q.frame; view = [] });
     }
 
@@ -114,34 +120,38 @@ linked_leave false false b q =
     }
 
 -- the programs linked from both, on a network
-abbrev pub linked : Wiring → Machine (Unit {0}) Keeps Parked ℕ
-linked net =
+abbrev pub linked : Wiring → (initial : ℕ) → Machine (Unit {0}) Keeps Parked ℕ
+linked net initial =
     record {
-      start = λ s e contents. record { count = 0; seen = 3; rejected = 0; limit = contents 0 };
+      start = λ s e contents. record { count = 0; seen = initial; rejected = 0; limit = contents 0 };
       enter = λ s b port frame. linked_enter (at_edge net s port) b port frame;
       leave = λ s b q. linked_leave (is_dropped q.frame) (at_edge net s 2) b q;
       set = λ s b v c. record b { limit = if 0 == v then c else b.limit };
     }
 
 -- registers 0, 1 and 2: the forwarding program's, the sensor's and that of rejected packets
-abbrev pub register_of : Keeps → ℕ → List ℕ
-register_of b zero = b.count ∷ []
-register_of b (suc zero) = bit_xor b.seen 3 ∷ []
-register_of b (suc (suc r)) = b.rejected % 2 ^ 32 ∷ []
+abbrev pub register_of : (initial : ℕ) → Keeps → ℕ → List ℕ
+register_of initial b zero = b.count ∷ []
+register_of initial b (suc zero) = bit_xor b.seen initial ∷ []
+register_of initial b (suc (suc r)) = b.rejected % 2 ^ 32 ∷ []
 
-abbrev pub registers : Registers ℕ Keeps ℕ ℕ
-registers =
+abbrev pub registers : (initial : ℕ) → Registers ℕ Keeps ℕ ℕ
+registers initial =
     record {
       plain_cells = λ count r. count ∷ [];
-      linked_cells = register_of;
+      linked_cells = register_of initial;
       forwarding = 0 ∷ [];
-      sensors = record { name = 1; cells = λ seen. seen ∷ []; initial = 3 } ∷ [];
+      sensors = record { name = 1; cells = λ seen. seen ∷ []; initial = initial } ∷ [];
       rejects = 2;
     }
 
--- all entries and contents are fit
+-- all entries are fit; the property's one control variable has number 0, and all contents are fit for
+-- it
 abbrev pub AnyEntries : (switch : ℕ) → Unit {0} → Type 0
 AnyEntries s e = Unit {0}
+
+abbrev pub IsLimit : ℕ → Type 0
+IsLimit v = v ≡ 0
 
 abbrev pub AnyContents : (switch variable : ℕ) → ℕ → Type 0
 AnyContents s v c = Unit {0}
@@ -157,19 +167,20 @@ with_limit limit frames events =
       events = events;
     }
 
--- one packet with this frame, and no schedule
+-- one packet with this frame, without a schedule
 abbrev pub framed : (limit : ℕ) → List ℕ → World (Unit {0}) ℕ
 framed limit frame = with_limit limit (frame ∷ []) []
 
--- the forwarding network at the end, the linked one, and what the property says
+-- the forwarding network at the end, the linked one, and what the property says, whose sensor is 3
+-- at the start
 abbrev pub plain_end : Wiring → World (Unit {0}) ℕ → Net ℕ (List ℕ) ℕ
 plain_end net w = net_at_end forwarding net 0 w
 
 abbrev pub linked_end : Wiring → World (Unit {0}) ℕ → Net Keeps Parked ℕ
-linked_end net w = net_at_end (linked net) net 2 w
+linked_end net w = net_at_end (linked net 3) net 2 w
 
 abbrev pub path_end : Wiring → World (Unit {0}) ℕ → Path ℕ ℕ
-path_end net w = path_meaning limited (plain_end net w).log
+path_end net w = path_meaning (limited 3) (plain_end net w).log
 
 -- what a linked switch keeps, and a queued packet there, stand for what their names say
 pub record KeptBy (s count seen : ℕ) (contents : ℕ → ℕ) (rejected : ℕ) (b : Keeps) : Type 0 where

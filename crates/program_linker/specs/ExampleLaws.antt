@@ -1,39 +1,40 @@
 -- The programs that are linked by hand keep the laws of the halves. The file stands here because an `impl`
 -- cites it.
-use Rattle.std.proofs.Common.{◌≡◌, ℕ, ◌+◌, List, [], ◌∷◌, map, Bool, true, false, ◌==◌, Option, refl, ap, sym, ◌∙◌, subst, add-zero, arith}
+use Rattle.std.proofs.Common.{◌≡◌, ℕ, ◌+◌, List, [], ◌∷◌, map, Bool, true, false, ◌==◌, Option, refl, ap, sym, ◌∙◌, subst, add-zero}
 use Rattle.std.specs.Prelude.{All, bit_xor}
-use Rattle.std.proofs.lemmas.List.Elements.{All-cons, All-nil, All-from_recursion}
+use Rattle.std.proofs.lemmas.List.Elements.{All-cons, All-nil}
+use Rattle.bit_values.specs.Bits.{word}
 use Rattle.path_runner.specs.Machine.{Entered, Leaving, Going}
-use Rattle.path_runner.specs.Network.{Wiring, at_edge, IsLinkOf, IsWiring}
+use Rattle.path_runner.specs.Network.{Wiring, at_edge}
 use Rattle.path_runner.specs.NetworkRun.{put}
 use Rattle.path_runner.specs.PathMeaning.{Doing, entry_part, exit_part}
-use Rattle.path_runner.specs.Example.{line3, report_of}
+use Rattle.path_runner.specs.Example.{report_of}
 use Rattle.program_linker.specs.Linkage.{xor_with}
 use Rattle.program_linker.specs.HalvesLaws.{carried, reads_at, EnterAgrees, GoAgrees, LeaveAgrees, HalvesLaws}
-use Rattle.program_linker.specs.Example.{is_dropped, plain_leave, forwarding, limited, two_bytes, Keeps, Parked, linked_enter, checked_leave, linked_leave, linked, registers, AnyEntries, AnyContents, KeptBy, HeldBy, AnyTele}
+use Rattle.program_linker.specs.Example.{is_dropped, plain_leave, forwarding, limited, two_bytes, Keeps, Parked, linked_enter, checked_leave, linked_leave, linked, registers, AnyEntries, IsLimit, AnyContents, KeptBy, HeldBy, AnyTele}
 
 all_one : {X : Type 0} (P : X → Type 0) (x : X) → P x → All P (x ∷ [])
 all_one P x h = All-cons P x [] h (All-nil P)
 
-module _ (net : Wiring) where
+module _ (net : Wiring) (initial : ℕ) where
   -- the laws of the halves at these relations
   abbrev Enters : ℕ → Bool → (ℕ → ℕ) → ℕ → Doing ℕ ℕ → Entered ℕ (List ℕ) → Entered Keeps Parked → Type 0
-  Enters = EnterAgrees net limited two_bytes KeptBy HeldBy AnyTele
+  Enters = EnterAgrees net (limited initial) two_bytes KeptBy HeldBy AnyTele
 
   abbrev Goes :
       ℕ → Bool → (ℕ → ℕ) → ℕ → Doing ℕ ℕ → Leaving ℕ → Going → Leaving Keeps → Type 0
-  Goes = GoAgrees net limited two_bytes KeptBy HeldBy AnyTele
+  Goes = GoAgrees net (limited initial) two_bytes KeptBy HeldBy AnyTele
 
   abbrev Leaves :
       ℕ → Bool → (ℕ → ℕ) → ℕ → ℕ → ℕ → Leaving ℕ → Leaving Keeps → Option Going → Type 0
-  Leaves = LeaveAgrees net limited two_bytes KeptBy HeldBy AnyTele
+  Leaves = LeaveAgrees net (limited initial) two_bytes KeptBy HeldBy AnyTele
 
   -- where the packet goes in the forwarding network, and the exit part there
   abbrev by_2 : List ℕ → Going
   by_2 frame = record { port = 2; frame = frame; view = [] }
 
   abbrev part : ℕ → (first last : Bool) → (ℕ → ℕ) → ℕ → ℕ → Doing ℕ ℕ
-  part s first last c t z = exit_part limited (reads_at s first last [] c) t z
+  part s first last c t z = exit_part (limited initial) (reads_at s first last [] c) t z
 
   -- one more packet has come
   one_more : (s a z k : ℕ) (c : ℕ → ℕ) (b : Keeps) → KeptBy s a z c k b → KeptBy s (a + 1) z c k (record b { count = b.count + 1 })
@@ -61,7 +62,7 @@ module _ (net : Wiring) where
   enters :
       (edge : Bool) (s port k a : ℕ) (b : Keeps) (z : ℕ) (c : ℕ → ℕ) (t : ℕ) (frame : List ℕ) →
       KeptBy s a z c k b → (edge ≡ true → t ≡ 0) →
-      Enters s edge c k (entry_part limited (reads_at s edge false [] c) t z)
+      Enters s edge c k (entry_part (limited initial) (reads_at s edge false [] c) t z)
       (forwarding.enter s a port frame)
       (linked_enter edge b port (carried two_bytes edge t frame))
   enters true s port k a b z c t frame kept start =
@@ -86,7 +87,7 @@ module _ (net : Wiring) where
         tele = t + 1;
         sensors = z + 1;
         rejected = rejects;
-        reports = report_of ((t + 1) ∷ (z + 1) ∷ []) ∷ [];
+        reports = report_of (word 8 (t + 1) ∷ word 8 (z + 1) ∷ []) ∷ [];
       })
       (plain_leave false a q) (by_2 q) (checked_leave rejects b q')
   checks true s k a b z c t first q q' kept held =
@@ -136,7 +137,7 @@ module _ (net : Wiring) where
 
   sets :
       (s v k a : ℕ) (b : Keeps) (z : ℕ) (c : ℕ → ℕ) (x : ℕ) → KeptBy s a z c k b →
-      KeptBy s a z (put c v x) k ((linked net).set s b v x)
+      KeptBy s a z (put c v x) k ((linked net initial).set s b v x)
   sets s v k a b z c x kept =
       record {
         same_count = kept.same_count;
@@ -146,7 +147,7 @@ module _ (net : Wiring) where
       }
 
   -- the laws of the halves
-  pub laws : HalvesLaws net limited two_bytes KeptBy HeldBy AnyTele forwarding (linked net) registers AnyEntries AnyContents
+  pub laws : HalvesLaws net (limited initial) two_bytes KeptBy HeldBy AnyTele forwarding (linked net initial) (registers initial) AnyEntries IsLimit AnyContents
   laws =
       record {
         enters = λ s port k a b z c t frame known low kept fit start short.
@@ -154,24 +155,16 @@ module _ (net : Wiring) where
         leaves = λ s k first a b z c t q q' known kept held.
             subst (λ f. Leaves s first c k z t (plain_leave (is_dropped q) a q) (linked_leave (is_dropped f) (at_edge net s 2) b q') (plain_leave (is_dropped q) a q).going) (sym held.same_frame)
             (leaves (is_dropped q) (at_edge net s 2) s k a b z c t first q q' refl kept held);
-        sets = λ s v k a b z c x known kept fit. sets s v k a b z c x kept;
+        sets = λ s v k a b z c x known kept named fit. sets s v k a b z c x kept;
         starts = λ s e c known fit fits.
             record { same_count = refl; same_seen = refl; same_rejected = refl; same_limit = refl };
         forwards = λ s k a b z c known kept.
-            all_one (λ x. registers.linked_cells b x ≡ registers.plain_cells a x) 0 (ap (λ n. n ∷ []) kept.same_count);
+            all_one (λ x. (registers initial).linked_cells b x ≡ (registers initial).plain_cells a x) 0 (ap (λ n. n ∷ []) kept.same_count);
         monitors = λ s k a b z c known kept.
             record {
-              sensors = all_one (λ x. registers.linked_cells b x.name ≡ map (xor_with x.initial) (x.cells z)) (record { name = 1; cells = λ seen. seen ∷ []; initial = 3 }) (ap (λ n. bit_xor n 3 ∷ []) kept.same_seen);
+              sensors = all_one (λ x. (registers initial).linked_cells b x.name ≡ map (xor_with x.initial) (x.cells z)) (record { name = 1; cells = λ seen. seen ∷ []; initial = initial }) (ap (λ n. bit_xor n initial ∷ []) kept.same_seen);
               rejects = rw kept.same_rejected;
             };
         start_fits = tt;
         sized = λ t fit. refl;
       }
-
--- the line's links join ports of its switches
-pub line3_is_wiring : IsWiring line3
-line3_is_wiring =
-    All-from_recursion (IsLinkOf line3) line3.links (
-      record { one = omega arith; one_port = omega arith; other = omega arith; other_port = omega arith },
-      (record { one = omega arith; one_port = omega arith; other = omega arith; other_port = omega arith }, tt),
-    )

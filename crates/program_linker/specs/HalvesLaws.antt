@@ -1,6 +1,7 @@
 -- What a linker has to show of the two halves of a linked passage, and of little else: from these
 -- laws the linkage follows over every schedule. Read `Linkage` before it.
 use Rattle.std.specs.Prelude.{◌≡◌, ℕ, ◌+◌, ◌<◌, ◌≤◌, List, [], ◌++◌, length, map, filter, Bool, true, false, not, Option, Some, None}
+use Rattle.bit_values.specs.Bits.{Word}
 use Rattle.path_runner.specs.Machine.{Digest, Entered, Going, Leaving, Machine}
 use Rattle.path_runner.specs.Network.{Wiring, at_edge, one_if}
 use Rattle.path_runner.specs.NetworkRun.{put, longest_frame}
@@ -37,7 +38,7 @@ SameGoing telemetry edge false tele g (Some g') =
 
 -- what a block reads at a half of a passage of switch s
 abbrev pub reads_at :
-    {C : Type 0} → (s : ℕ) → (first last : Bool) → (view : List ℕ) → (ℕ → C) → Reads C
+    {C : Type 0} → (s : ℕ) → (first last : Bool) → (view : List Word) → (ℕ → C) → Reads C
 reads_at s first last view c =
     record { switch = s; first = first; last = last; view = view; contents = c }
 
@@ -91,7 +92,7 @@ module _
     module _
         {E N : Type 0} (forwarding : Machine E S Q C) (linked : Machine E S' Q' C)
         (registers : Registers S S' Z N) (IsFitEntries : (switch : ℕ) → E → Type 0)
-        (IsFitContents : (switch variable : ℕ) → C → Type 0)
+        (IsVariable : ℕ → Type 0) (IsFitContents : (switch variable : ℕ) → C → Type 0)
       where
         -- what a linker shows: its law on a linked enter and its law on a linked leave, and that
         -- its relations are what they are taken for
@@ -117,12 +118,13 @@ module _
           -- new contents of a control variable
           pub sets :
               (s v k : ℕ) (a : S) (b : S') (z : Z) (c : ℕ → C) (x : C) →
-              s < net.switches → Kept s a z c k b → IsFitContents s v x →
+              s < net.switches → Kept s a z c k b → IsVariable v → IsFitContents s v x →
               Kept s (forwarding.set s a v x) z (put c v x) k (linked.set s b v x)
           -- the switches at the start
           pub starts :
               (s : ℕ) (e : E) (c : ℕ → C) →
-              s < net.switches → IsFitEntries s e → ((v : ℕ) → IsFitContents s v (c v)) →
+              s < net.switches → IsFitEntries s e →
+              ((v : ℕ) → IsVariable v → IsFitContents s v (c v)) →
               Kept s (forwarding.start s e c) p.sensors c 0 (linked.start s e c)
           -- what switches keep has the registers that a linkage asks for: the forwarding program's
           pub forwards :

@@ -1,6 +1,7 @@
 -- What it means that linked programs are a linkage of a forwarding program and a property on a
 -- network. Read `path_runner`'s `World` before it.
 use Rattle.std.specs.Prelude.{◌≡◌, ℕ, ◌+◌, ◌%◌, ◌^◌, ◌<◌, List, [], ◌∷◌, ◌++◌, map, filter, Bool, false, not, ◌==◌, slice_index_or, All, bit_xor}
+use Rattle.bit_values.specs.Bits.{word}
 use Rattle.path_runner.specs.Machine.{Digest, Machine}
 use Rattle.path_runner.specs.Network.{Wiring, Sent, Wired, Told, Net, times, one_if}
 use Rattle.path_runner.specs.PathMeaning.{Reads, Report, Doing, Property, Reported, Path, path_meaning, rejects}
@@ -35,9 +36,9 @@ report_receiver = 1213809746
 abbrev pub is_report : Digest → Bool
 is_report d = d.receiver == report_receiver
 
--- the digest of a report: its number, and then its values
+-- the digest of a report: its number, as a word of 16 bits, and then its values
 abbrev pub digest_of : Report → Digest
-digest_of r = record { receiver = report_receiver; values = r.number ∷ r.values }
+digest_of r = record { receiver = report_receiver; values = word 16 r.number ∷ r.values }
 
 -- the same, with the report's packet and switch
 abbrev pub told_report : Reported → Told
@@ -81,7 +82,8 @@ module _
     {E S Q S' Q' C T Z N : Type 0}
     (forwarding : Machine E S Q C) (linked : Machine E S' Q' C)
     (net : Wiring) (p : Property T Z C) (telemetry : Telemetry T) (registers : Registers S S' Z N)
-    (IsFitEntries : (switch : ℕ) → E → Type 0) (IsFitContents : (switch variable : ℕ) → C → Type 0)
+    (IsFitEntries : (switch : ℕ) → E → Type 0) (IsVariable : ℕ → Type 0)
+    (IsFitContents : (switch variable : ℕ) → C → Type 0)
   where
     -- the forwarding network after n steps, on whose links a frame has at most 65,535 bytes
     abbrev pub plain_after : World E C → ℕ → Net S Q C
@@ -98,7 +100,7 @@ module _
 
     -- in every valid world, after every number of steps
     abbrev pub Always : (World E C → ℕ → Type 0) → Type 0
-    Always P = (w : World E C) → IsValid net IsFitEntries IsFitContents w → (n : ℕ) → P w n
+    Always P = (w : World E C) → IsValid net IsFitEntries IsVariable IsFitContents w → (n : ℕ) → P w n
 
     -- the linked programs are a linkage of the forwarding program and the property on the network
     pub record Linkage : Type 0 where

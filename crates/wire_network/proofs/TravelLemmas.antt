@@ -1,9 +1,8 @@
 -- A passage of one switch, in the way of a packet.
-use Rattle.std.proofs.Common.{◌≡◌, ℕ, zero, suc, ◌<◌, List, length, Option, Some, get_or, refl, sym, ap, ap₂, ◌∙◌}
+use Rattle.std.proofs.Common.{◌≡◌, ℕ, zero, suc, ◌<◌, List, length, Option, get_or, refl, sym, ap, ap₂, ◌∙◌}
 use Rattle.std.specs.Prelude.{slice_get}
 use Rattle.std.proofs.lemmas.Option.{slice_get-get_or}
-use Rattle.wire_machine.specs.Machine.{Machine}
-use Rattle.wire_network.specs.Travel.{Net, Fate, Passage, passage, passed, behind, at_switch, over, travel, no_machine}
+use Rattle.wire_network.specs.Travel.{Net, passage, passed, behind, at_switch, over, travel, no_machine}
 use Rattle.wire_network.specs.declared.link.Link.{Link}
 
 at_here : (k : ℕ) (links : List Link) (limit : ℕ) (n : Net) (i port : ℕ) (frame : List ℕ) → travel k links limit n i port frame ≡ at_switch (over k links limit) links limit n i port frame (slice_get n.switches i)

@@ -5,4 +5,4 @@ use Rattle.program_linker.proofs.law.edges_stay_where_nothing_is_rejected.Goals 
 pub returns : goal.returns
 returns g c =
     let n = g.L.LinkedNetwork in
-    edges_stay n.forwarding n.linked n.wiring n.property n.telemetry n.registers n.IsFitEntries n.IsFitContents
+    λ x. edges_stay (n.forwarding x) (n.linked x) (n.wiring x) (n.property x) (n.telemetry x) (n.registers x) (n.IsFitEntries x) (n.IsVariable x) (n.IsFitContents x)

@@ -6,4 +6,4 @@ pub returns : goal.returns
 returns g c =
     let n = g.L.LinkedNetwork in
     let laws = g.met.L.LinkedHalves in
-    linkage n.wiring n.property n.telemetry n.Kept n.Held n.IsFitTele n.forwarding n.linked n.registers n.IsFitEntries n.IsFitContents laws.is_wiring laws.laws
+    λ x given. linkage (n.wiring x) (n.property x) (n.telemetry x) (n.Kept x) (n.Held x) (n.IsFitTele x) (n.forwarding x) (n.linked x) (n.registers x) (n.IsFitEntries x) (n.IsVariable x) (n.IsFitContents x) (laws.is_wiring x given) (laws.laws x given)

@@ -1,4 +1,4 @@
-use Rattle.std.proofs.Common.{ℕ, ◌*◌, ◌+◌}
+use Rattle.std.proofs.Common.{◌*◌, ◌+◌}
 use Rattle.wire_network.proofs.way.+travel.Given as goal
 
 abbrev pub decreases-travel : goal.decreases-travel
