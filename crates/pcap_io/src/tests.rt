@@ -174,22 +174,3 @@ fn files_of_other_tools_are_read(rt: HostRuntime) -> Result<(), Fail> {
     assert!(rt; are(&list, &[(1_709_634_030, 123_456, &request[..18])]));
     Ok(())
 }
-
-#[test]
-fn longest_record_is_of_65535_bytes(rt: HostRuntime) -> Result<(), Fail> {
-    let alloc = rt.alloc();
-    for (size, is_read) in [(65_535, true), (65_536, false)] {
-        let mut list = Vec::new(alloc);
-        list.push(Captured {
-            seconds: 1,
-            micros: 5,
-            bytes: vec![in alloc; 7; size]?,
-        })?;
-        let file = write_capture(alloc, &list)?;
-        match read_capture(alloc, &file) {
-            Ok(again) => assert!(rt; is_read && again.len() == 1),
-            Err(fault) => assert!(rt; !is_read && fault == CaptureFault::TooLong { at: 24 }),
-        }
-    }
-    Ok(())
-}
