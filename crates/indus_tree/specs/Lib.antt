@@ -4,3 +4,5 @@ pub mod View
 pub mod State
 pub mod Value
 pub mod Meaning
+pub mod Names
+pub mod Small

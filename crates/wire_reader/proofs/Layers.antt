@@ -13,7 +13,8 @@ use Rattle.wire_reader.specs.declared.token.Key.TheVariants.{Tele, BraceClose, P
 use Rattle.wire_reader.specs.declared.token.Token.{Token}
 use Rattle.wire_reader.specs.declared.token.Token.TheVariants.{Name, Number, Key}
 use Rattle.wire_reader.specs.Gives.{Fails}
-use Rattle.wire_reader.specs.Spelling.{is_declared, plain_number}
+use Rattle.indus_tree.specs.Names.{is_declared}
+use Rattle.wire_reader.specs.Spelling.{plain_number}
 use Rattle.wire_reader.specs.Reading.{Read, ◌>>=◌, at_key, decl_at, decls_at, operand_at, terms_at, sum_at, Stmt_at, until_at, layer, if_at, stmt_at}
 use Rattle.wire_reader.proofs.Stands.{then_some}
 

@@ -14,8 +14,9 @@ use Rattle.wire_reader.specs.declared.token.Token.{Token}
 use Rattle.wire_reader.specs.declared.token.Token.TheVariants.{Name, Number, Key}
 use Rattle.wire_reader.specs.Tokens.{Tokens, no_token, a_space, a_word, a_number, an_equality, a_mark, word_from}
 use Rattle.wire_reader.specs.Spelling as spelling
-use Rattle.wire_reader.specs.Spelling.{is_declared, IsNew, byte_decl, SpellsDecls, no_decl, a_decl, SpellsOperand, a_name, SpellsSum, an_operand, a_sum, SpellsStmt, an_assignment, an_if, a_reject, SpellsMany, no_more, one_more, SpellsProperty, a_property, SpellsSmall}
-use Rattle.wire_reader.specs.Small.{IsByteDecl, IsSmallSum, IsSmallStmt, IsSmallBlock, IsSmall}
+use Rattle.indus_tree.specs.Names.{is_declared}
+use Rattle.wire_reader.specs.Spelling.{IsNew, byte_decl, SpellsDecls, no_decl, a_decl, SpellsOperand, a_name, SpellsSum, an_operand, a_sum, SpellsStmt, an_assignment, an_if, a_reject, SpellsMany, no_more, one_more, SpellsProperty, a_property, SpellsSmall}
+use Rattle.indus_tree.specs.Small.{IsByteDecl, IsSmallSum, IsSmallStmt, IsSmallBlock, IsSmall}
 
 -- a name that is no longer than the text, or a number below 256
 abbrev Fits : ℕ → Token → Type 0

@@ -10,7 +10,8 @@ use Rattle.wire_reader.specs.declared.token.Key.{Key as KeyOf}
 use Rattle.wire_reader.specs.declared.token.Key.TheVariants.{Tele, Bit, If, Reject, Less, More, Semicolon, BraceOpen, BraceClose, Open, Close, Assign, Equal, Plus}
 use Rattle.wire_reader.specs.declared.token.Token.{Token}
 use Rattle.wire_reader.specs.declared.token.Token.TheVariants.{Name, Number, Key}
-use Rattle.wire_reader.specs.Spelling.{is_declared, is_keyword, is_built_in, IsNew, byte_decl, plain_number, property, SpellsDecls, no_decl, a_decl, SpellsOperand, a_name, a_number, SpellsSum, an_operand, a_sum, SpellsStmt, an_assignment, an_if, a_reject, SpellsMany, no_more, one_more, SpellsProperty, a_property}
+use Rattle.indus_tree.specs.Names.{is_declared, is_keyword, is_built_in}
+use Rattle.wire_reader.specs.Spelling.{IsNew, byte_decl, plain_number, property, SpellsDecls, no_decl, a_decl, SpellsOperand, a_name, a_number, SpellsSum, an_operand, a_sum, SpellsStmt, an_assignment, an_if, a_reject, SpellsMany, no_more, one_more, SpellsProperty, a_property}
 use Rattle.wire_reader.specs.Reading.{at_key, is_eight, is_taken, ◌>>=◌, expect_at, eight_at, target_of, target_at, new_of, new_at, decl_at, decls_at, operand_of, operand_at, terms_at, sum_at, assign_at, test_at, reject_at, Stmt_at, until_at, block_at, if_at, layer, stmt_at, property_at}
 use Rattle.wire_reader.proofs.Stands.{Stands, Stands-append, Stands-length, Stands-within, same_list, at_key-is, bind_some, some_inj}
 

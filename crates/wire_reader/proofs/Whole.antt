@@ -15,7 +15,7 @@ use Rattle.wire_reader.specs.Gives.{Gives, Fails}
 use Rattle.wire_reader.specs.Pieces.{piece_of}
 use Rattle.wire_reader.specs.Reading.{property_at}
 use Rattle.wire_reader.proofs.Fronts.{Leads, led, tokens_in, length_in, leads_on, leads_nowhere}
-use Rattle.wire_reader.specs.Small.{IsSmall}
+use Rattle.indus_tree.specs.Small.{IsSmall}
 use Rattle.wire_reader.proofs.Smallness.{is_small}
 use Rattle.wire_reader.proofs.Sound.{property_is}
 use Rattle.wire_reader.proofs.Complete.{property_is_read}

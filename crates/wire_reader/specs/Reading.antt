@@ -6,7 +6,8 @@ use Rattle.wire_reader.specs.declared.token.Key.{Key as KeyOf}
 use Rattle.wire_reader.specs.declared.token.Key.TheVariants.{Tele, Bit, If, Reject, Less, More, Semicolon, BraceOpen, BraceClose, Open, Close, Assign, Equal, Plus}
 use Rattle.wire_reader.specs.declared.token.Token.{Token}
 use Rattle.wire_reader.specs.declared.token.Token.TheVariants.{Name, Number, Key}
-use Rattle.wire_reader.specs.Spelling.{is_declared, is_keyword, is_built_in, byte_decl, plain_number, property}
+use Rattle.indus_tree.specs.Names.{is_declared, is_keyword, is_built_in}
+use Rattle.wire_reader.specs.Spelling.{byte_decl, plain_number, property}
 
 -- the number of a key
 abbrev pub code_of : KeyOf → ℕ

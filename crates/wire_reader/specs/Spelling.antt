@@ -1,8 +1,8 @@
 -- Which tokens spell a property: one case for each production, on whole lists of tokens. The place of each
 -- node is the number of its first token.
 use Rattle.std.specs.Prelude.{◌≡◌, ℕ, suc, ◌+◌, ◌<◌, Bool, true, false, ◌||◌, List, [], ◌∷◌, ◌++◌, length, None, codes}
-use Rattle.lex_text.specs.Names.{same_text}
 use Rattle.lex_text.specs.declared.literal.Literal.{Literal}
+use Rattle.indus_tree.specs.Names.{is_declared, is_keyword, is_built_in}
 use Rattle.indus_tree.specs.Tree.{Expr, num, read, binary, Stmt, Stmts, assign, choice, reject, done, next, Decl, Property}
 use Rattle.indus_tree.specs.declared.tree.DeclKind.TheVariants as kind
 use Rattle.indus_tree.specs.declared.tree.Op.TheVariants as op
@@ -12,27 +12,6 @@ use Rattle.wire_reader.specs.declared.token.Key.TheVariants.{Tele, Bit, If, Reje
 use Rattle.wire_reader.specs.declared.token.Token.{Token}
 use Rattle.wire_reader.specs.declared.token.Token.TheVariants.{Name, Number, Key}
 use Rattle.wire_reader.specs.Tokens.{Tokens}
-
--- the text is one of these
-abbrev pub is_one_of : List (List ℕ) → List ℕ → Bool
-is_one_of [] x = false
-is_one_of (w ∷ ws) x = same_text x w || is_one_of ws x
-
--- the name is declared
-abbrev pub is_declared : List Decl → List ℕ → Bool
-is_declared [] x = false
-is_declared (d ∷ ds) x = same_text d.name x || is_declared ds x
-
--- the words of the language
-abbrev pub is_keyword : List ℕ → Bool
-is_keyword =
-    is_one_of (codes "tele" ∷ codes "sensor" ∷ codes "header" ∷ codes "control" ∷ codes "set" ∷ codes "dict" ∷
-    codes "bit" ∷ codes "bool" ∷ codes "true" ∷ codes "false" ∷ codes "if" ∷ codes "else" ∷ codes "for" ∷
-    codes "in" ∷ codes "reject" ∷ codes "report" ∷ codes "length" ∷ codes "edition" ∷ [])
-
--- the names that each property has without a declaration
-abbrev pub is_built_in : List ℕ → Bool
-is_built_in = is_one_of (codes "first_hop" ∷ codes "last_hop" ∷ codes "switch_id" ∷ [])
 
 -- the name may be declared behind these declarations
 pub record IsNew (before : List Decl) (x : List ℕ) : Type 0 where

@@ -4,7 +4,7 @@ ghost use Rattle.std.specs.Prelude.{◌≡◌, ◌+◌, ◌≤◌, ◌<◌, leng
 ghost use Rattle.indus_tree.specs.View.{decl_of};
 ghost use Rattle.wire_reader.specs.Gives.{Gives};
 ghost use Rattle.wire_reader.specs.Reading.{is_taken, new_at, target_at};
-ghost use Rattle.wire_reader.specs.Spelling.{is_built_in, is_declared, is_keyword};
+ghost use Rattle.indus_tree.specs.Names.{is_built_in, is_declared, is_keyword};
 
 use crate::fault::SmallFault;
 use crate::token::Token;

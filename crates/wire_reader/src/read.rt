@@ -5,7 +5,7 @@ ghost use Rattle.indus_tree.specs.Tree.{Property as Tree};
 ghost use Rattle.indus_tree.specs.View.{property_of};
 ghost use Rattle.wire_reader.specs.Gives.{Gives};
 ghost use Rattle.wire_reader.specs.Reading.{property_at};
-ghost use Rattle.wire_reader.specs.Small.{IsSmall};
+ghost use Rattle.indus_tree.specs.Small.{IsSmall};
 ghost use Rattle.wire_reader.specs.Spelling.{SpellsSmall};
 ghost use Rattle.wire_reader.specs.declared.fault.SmallFault.TheVariants.{NotBuilt};
 

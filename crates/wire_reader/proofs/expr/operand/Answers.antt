@@ -2,7 +2,8 @@ use Rattle.std.proofs.Common.{◌≡◌, ◌+◌, length, map, true, Some, sym, 
 use Rattle.indus_tree.specs.View.{decl_of, expr_of}
 use Rattle.indus_tree.specs.declared.tree.Expr.TheVariants.{Read}
 use Rattle.wire_reader.specs.declared.token.Token.TheVariants.{Name, Number, Key}
-use Rattle.wire_reader.specs.Spelling.{is_declared, plain_number}
+use Rattle.indus_tree.specs.Names.{is_declared}
+use Rattle.wire_reader.specs.Spelling.{plain_number}
 use Rattle.wire_reader.proofs.Layers.{looked_up, operand_name, operand_number, operand_key}
 use Rattle.wire_reader.proofs.Views.{expr_of-Num, expr_of-Read}
 use Rattle.wire_reader.proofs.expr.operand.Goals as goal

@@ -1,6 +1,6 @@
 use Rattle.std.proofs.Common.{◌≡◌, map, drop}
 use Rattle.indus_tree.specs.View.{decl_of}
-use Rattle.wire_reader.specs.Spelling.{is_declared}
+use Rattle.indus_tree.specs.Names.{is_declared}
 use Rattle.wire_reader.proofs.names.declared.Given as goal
 
 abbrev pub invariant-loop-decl : goal.invariant-loop-decl

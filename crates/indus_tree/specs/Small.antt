@@ -1,4 +1,4 @@
--- What each tree of the grammar keeps to.
+-- The first small grammar: what its trees keep to.
 use Rattle.std.specs.Prelude.{◌≡◌, ◌≤◌, ◌<◌, Bool, true, false, List, [], length, map, None}
 use Rattle.std.specs.List.{All, IsDistinct}
 use Rattle.lex_text.specs.Names.{same_text}
@@ -8,7 +8,7 @@ use Rattle.indus_tree.specs.declared.tree.DeclKind.TheVariants as kind
 use Rattle.indus_tree.specs.declared.tree.Op.TheVariants as op
 use Rattle.indus_tree.specs.declared.tree.Shape.TheVariants as shape
 use Rattle.indus_tree.specs.declared.tree.Ty.TheVariants as ty
-use Rattle.wire_reader.specs.Spelling.{is_declared, is_keyword, is_built_in}
+use Rattle.indus_tree.specs.Names.{is_declared, is_keyword, is_built_in}
 
 -- a declaration of 8 bits that travel with the packet, by a name that is free
 pub record IsByteDecl (d : Decl) : Type 0 where

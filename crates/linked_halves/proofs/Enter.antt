@@ -1,0 +1,253 @@
+-- The entry half of the linked program does what the forwarding program's does, and the property's entry part.
+use Rattle.std.proofs.Common.{◌≡◌, ℕ, ◌%◌, ◌^◌, ◌<◌, List, [], ◌∷◌, ◌++◌, map, Bool, true, false, not, cond, Some, None, refl, sym, ap, ap₂, ◌∙◌, subst, arith}
+use Rattle.std.specs.Prelude.{if◌then◌else◌, nat_eq}
+use Rattle.std.specs.List.{filter, AllByRecursion}
+use Rattle.bit_values.specs.Bits.{Word, word, cast}
+use Rattle.bit_values.specs.Widths.{bit, holds}
+use Rattle.p4_tree.specs.Tree.{assign, next}
+use Rattle.p4_tree.specs.Standard.{standard_root, ingress_port, egress_spec, egress_port, parser_error}
+use Rattle.p4_tree.specs.Store.{Store, shown, zero_of, set_value, set_valid, zeroed, made}
+use Rattle.p4_tree.specs.Statements.{Go, Run, Ended, after, in_store, meaning_of, meaning_of_stmt}
+use Rattle.p4_tree.specs.Parsing.{ParserEnd}
+use Rattle.p4_tree.specs.Parts.{Parts}
+use Rattle.p4_tree.specs.Pass as pass
+use Rattle.p4_tree.specs.Pass.{Registers, Queued, error_number, store_behind, run_from, is_dropped, unless_dropped, value_kept, without_locals, to_egress, entered_from, parts_enter}
+use Rattle.indus_tree.specs.Tree.{Decl, Property}
+use Rattle.indus_tree.specs.State.{tele_start}
+use Rattle.indus_tree.specs.Meaning.{run_of}
+use Rattle.indus_tree.specs.Small.{IsSmall}
+use Rattle.path_runner.specs.Network.{Wiring}
+use Rattle.path_runner.specs.PathMeaning.{Reads, Doing, nothing_yet, entry_part}
+use Rattle.program_linker.specs.Linkage as linkage
+use Rattle.program_linker.specs.HalvesLaws.{SameQueued, EnterAgrees}
+use Rattle.wire_linker.specs.WireProgram.{number}
+use Rattle.wire_linker.specs.Monitor.{tele_header, mark_path, rejects_register, lowered_block, entry_stmts, entry_stmt}
+use Rattle.linked_halves.specs.Regions.{is_mine, is_readable}
+use Rattle.linked_halves.specs.Forwarding.{IsForwarding}
+use Rattle.linked_halves.specs.LinkedParts.{linked_parts}
+use Rattle.linked_halves.specs.Telemetry.{Tele, tele_bytes, telemetry_of, IsFitTele}
+use Rattle.linked_halves.specs.Networks.{digest_of, report_of, entered_of, hop_of, begun, ended, law_of}
+use Rattle.linked_halves.specs.Relations.{is_report, bare, Alike, IsPort, Others, Monitor, KeptBy, HeldBy}
+use Rattle.linked_halves.proofs.Apart.{readable_free, free_apart, free_above}
+use Rattle.linked_halves.proofs.Own.{set_alike, all_ran}
+use Rattle.linked_halves.proofs.Lower.{Stands, assignment, lowers}
+use Rattle.linked_halves.proofs.Fill.{is_in, one_of_is, start_fits, start_is_zero}
+use Rattle.linked_halves.proofs.EnterParse.{Begun, Taken, begun_stays, taken_stays, plain_end, linked_end, edge_parsed, link_parsed}
+pub use Rattle.linked_halves.proofs.EnterParse.{monitor_stays}
+
+-- the images that are kept are those of what is kept
+pub filter-map : {A B : Type 0} (p : B → Bool) (f : A → B) (xs : List A) → filter p (map f xs) ≡ map f (filter (λ x. p (f x)) xs)
+filter-map p f [] = refl
+filter-map p f (x ∷ xs) =
+    elim (p (f x)) as (λ b. cond b (f x ∷ filter p (map f xs)) (filter p (map f xs)) ≡ map f (cond b (x ∷ filter (λ y. p (f y)) xs) (filter (λ y. p (f y)) xs)))
+    [ true ↦ ap (λ l. f x ∷ l) (filter-map p f xs) | false ↦ filter-map p f xs ]
+
+-- of alike runs the stores are alike
+pub bare_alike : (a b : Run) → Alike a b → Alike (bare a.store) (bare b.store)
+bare_alike a b h = record { values = λ q i. h.values q i; headers = λ q o. h.headers q o; cells = λ x i. refl; digests = refl }
+
+-- what changes nothing but the monitor's part keeps runs alike
+pub others_alike : (a b c : Run) → Alike a b → Others b c → Alike a c
+others_alike a b c h o =
+    record {
+      values = λ q i. o.values q (readable_free q i) ∙ h.values q i;
+      headers = λ q i. ap (λ g. g q) o.headers ∙ h.headers q i;
+      cells = λ x i. ap (λ g. g x) o.cells ∙ h.cells x i;
+      digests = ap (filter (λ d. not (is_report d))) o.digests ∙ h.digests;
+    }
+
+-- behind the parser
+behind_alike : (x y : ParserEnd) (a b : Registers) → Alike (bare x.reading.store) (bare y.reading.store) → y.error ≡ x.error → ((n : List ℕ) → is_mine n ≡ false → b n ≡ a n) → Alike (run_from (store_behind x) a) (run_from (store_behind y) b)
+behind_alike x y a b h e cells =
+    let both = set_alike (bare x.reading.store) (bare y.reading.store) parser_error (word 2 (error_number x.error)) (word 2 (error_number y.error)) h (ap (λ e. word 2 (error_number e)) e) in
+    record { values = λ q i. both.values q i; headers = λ q o. both.headers q o; cells = cells; digests = refl }
+
+behind_begun : (ds : List Decl) (port : ℕ) (y : ParserEnd) → Begun ds port y.reading.store → Begun ds port (store_behind y)
+behind_begun ds port y h = record { plain = h.plain; standard = h.standard; invalid = h.invalid; mark = h.mark; tele = λ x e. h.tele x e; arrived = h.arrived; spec = h.spec }
+
+behind_taken : (ds : List Decl) (port : ℕ) (t : Tele) (y : ParserEnd) → Taken ds port t y.reading.store → Taken ds port t (store_behind y)
+behind_taken ds port t y h =
+    let m = h.monitor in
+    record { monitor = record { plain = m.plain; standard = m.standard; valid = m.valid; mark = m.mark; tele = λ x e. m.tele x e; fits = m.fits }; arrived = h.arrived; spec = h.spec }
+
+-- the queued stores
+egress_alike : (x y : Store) → Alike (bare x) (bare y) → Alike (bare (to_egress x)) (bare (to_egress y))
+egress_alike x y h =
+    let kept : Alike (bare (without_locals x)) (bare (without_locals y)) = record { values = λ q i. same q i; headers = λ q o. h.headers q o; cells = λ n i. refl; digests = refl } in
+    let u = word 9 (cast 9 (x.values egress_spec).value) in
+    let v = word 9 (cast 9 (y.values egress_spec).value) in
+    let one = set_alike (bare (without_locals x)) (bare (without_locals y)) egress_port u v kept (ap (λ (w : Word). word 9 (cast 9 w.value)) (h.values egress_spec refl)) in
+    set_alike (bare (set_value (without_locals x) egress_port u)) (bare (set_value (without_locals y) egress_port v)) egress_spec (word 9 0) (word 9 0) one refl
+  where
+    same : (q : List (List ℕ)) → is_readable q ≡ true → value_kept y.values q ≡ value_kept x.values q
+    same [] i = refl
+    same (n ∷ []) i = refl
+    same (n ∷ m ∷ rest) i = h.values (n ∷ m ∷ rest) i
+
+egress_monitor : (ds : List Decl) (s : Store) (t : Tele) → Monitor ds s t → Monitor ds (to_egress s) t
+egress_monitor ds s t h = record { plain = h.plain; standard = h.standard; valid = h.valid; mark = h.mark; tele = λ x e. h.tele x e; fits = h.fits }
+
+-- the store when the header is made and marked
+abbrev opened : Store → Store
+opened s = set_value (set_valid (zeroed s tele_header) tele_header true) mark_path (word 8 72)
+
+opened_alike : (a b : Run) → Alike a b → Alike a (in_store b (opened b.store))
+opened_alike a b h =
+    record {
+      values = λ q i. let o = readable_free q i in
+          ap (λ t. cond t (word 8 72) ((zeroed b.store tele_header).values q)) (free_apart mark_path q refl o)
+          ∙ ap (λ t. cond t (zero_of (b.store.values q)) (b.store.values q)) (free_above q o)
+          ∙ h.values q i;
+      headers = λ q o. ap (λ t. cond t (Some true) (b.store.headers q)) (free_apart tele_header q refl o) ∙ h.headers q o;
+      cells = λ x i. h.cells x i;
+      digests = h.digests;
+    }
+
+-- how the entry statement ends
+record Opened (ds : List Decl) (a b : Run) (e : Ended) (d : Doing Tele (Unit {0})) : Type 0 where
+  alike : Alike a e.0
+  monitor : Monitor ds e.0.store d.tele
+  reports : d.reports ≡ []
+  spec : IsPort (e.0.store.values egress_spec)
+  cells : e.0.cells ≡ b.cells
+  digests : e.0.digests ≡ b.digests
+  goes : e.1 ≡ Go
+
+module _ (f : Parts) (own : IsForwarding f) (p : Property) (small : IsSmall p) (links : List ℕ) (low : AllByRecursion (λ n. n < 512) links) (net : Wiring) where
+  opened_stands : (port : ℕ) (s : Store) → Begun p.decls port s → Stands p.decls false (opened s) (begun (nothing_yet (tele_start p.decls) tt))
+  opened_stands port s h =
+      record {
+        monitor =
+            record {
+              plain = h.plain;
+              standard = h.standard;
+              valid = refl;
+              mark = refl;
+              tele = λ x e. ap zero_of (h.tele x e) ∙ sym (start_is_zero p.decls small.decls x e);
+              fits = start_fits p.decls small.decls;
+            };
+        rejected = λ e. absurd (cc);
+        reports = refl;
+      }
+
+  -- the header is made and marked, and then init runs
+  entry_runs : (port : ℕ) (b : Run) → Begun p.decls port b.store → meaning_of (entry_stmts p) b ≡ meaning_of (lowered_block p.init) (in_store b (opened b.store))
+  entry_runs port b h =
+      let made_run = in_store b (set_valid (zeroed b.store tele_header) tele_header true) in
+      ap (λ o. meaning_of (next (assign 0 mark_path (number 8 72)) (lowered_block p.init)) (in_store b (made o true b.store tele_header))) h.invalid
+      ∙ ap (λ e. after e.1 e.0 (meaning_of (lowered_block p.init))) (assignment made_run 0 mark_path (number 8 72) (word 8 0) (word 8 72) tt (ap zero_of h.mark) refl)
+
+  -- the entry statement's test
+  entry_test : (port : ℕ) (b : Run) → b.store.headers (standard_root ∷ []) ≡ None → b.store.values ingress_port ≡ word 9 port → port < 512 → meaning_of_stmt (entry_stmt p links) b ≡ (if is_in port links then (b, Go) else meaning_of (entry_stmts p) b)
+  entry_test port b s h lt =
+      ap (λ w. if holds (bit (not (holds w))) then meaning_of (entry_stmts p) b else (b, Go)) (one_of_is ingress_port links b.store port (ap₂ shown s h) lt low)
+      ∙ out (is_in port links) (meaning_of (entry_stmts p) b) (b, Go)
+    where
+      out : (t : Bool) (x y : Ended) → (if holds (bit (not (holds (bit t)))) then x else y) ≡ (if t then y else x)
+      out true x y = refl
+      out false x y = refl
+
+  -- what init does to tele values at a hop
+  abbrev init_doing : Reads (Unit {0}) → Tele → Doing Tele (Unit {0})
+  init_doing r t = ended (nothing_yet t tt) (run_of (hop_of p.decls r) p.init (begun (nothing_yet t tt)))
+
+  entry_edge : (port : ℕ) (r : Reads (Unit {0})) (a b : Run) → Alike a b → Begun p.decls port b.store → port < 512 → is_in port links ≡ false → Opened p.decls a b (meaning_of_stmt (entry_stmt p links) b) (init_doing r (tele_start p.decls))
+  entry_edge port r a b h g lt out =
+      let c = in_store b (opened b.store) in
+      let d = begun (nothing_yet (tele_start p.decls) tt) in
+      let e = meaning_of (lowered_block p.init) c in
+      let ran = lowers (hop_of p.decls r) small.decls false p.init c d small.init (opened_stands port b.store g) in
+      let same : meaning_of_stmt (entry_stmt p links) b ≡ e = entry_test port b g.standard g.arrived lt ∙ (ap (λ t. if t then (b, Go) else meaning_of (entry_stmts p) b) out ∙ entry_runs port b g) in
+      let done : Opened p.decls a b e (init_doing r (tele_start p.decls)) =
+      record {
+        alike = others_alike a c e.0 (opened_alike a b h) ran.others;
+        monitor = ran.stands.monitor;
+        reports = ap (map report_of) ran.stands.reports;
+        spec = subst IsPort (sym (ran.others.values egress_spec refl)) g.spec;
+        cells = ran.others.cells;
+        digests = ran.others.digests;
+        goes = ran.goes;
+      } in
+      subst (λ e. Opened p.decls a b e (init_doing r (tele_start p.decls))) (sym same) done
+
+  entry_link : (port : ℕ) (t : Tele) (a b : Run) → Alike a b → Taken p.decls port t b.store → port < 512 → is_in port links ≡ true → Opened p.decls a b (meaning_of_stmt (entry_stmt p links) b) (nothing_yet t tt)
+  entry_link port t a b h g lt at =
+      let same : meaning_of_stmt (entry_stmt p links) b ≡ (b, Go) = entry_test port b g.monitor.standard g.arrived lt ∙ ap (λ t. if t then (b, Go) else meaning_of (entry_stmts p) b) at in
+      let done : Opened p.decls a b (b, Go) (nothing_yet t tt) = record { alike = h; monitor = g.monitor; reports = refl; spec = g.spec; cells = refl; digests = refl; goes = refl } in
+      subst (λ e. Opened p.decls a b e (nothing_yet t tt)) (sym same) done
+
+  -- a linked entry half does what a plain one does, and a part
+  abbrev Agrees : (s : ℕ) (first : Bool) (c : ℕ → Unit {0}) (k : ℕ) → Doing Tele (Unit {0}) → (plain linked : pass.Entered) → Type 0
+  Agrees s first c k d plain linked = EnterAgrees net (law_of p) (telemetry_of p.decls) KeptBy (HeldBy p.decls) (IsFitTele p.decls) s first c k d (entered_of plain) (entered_of linked)
+
+  -- both queue the packet, or both drop it
+  both_queued : (s : ℕ) (first : Bool) (t : Tele) (x y : Store) (rest rest' : List ℕ) → Alike (bare x) (bare y) → Monitor p.decls y t → rest' ≡ rest → SameQueued (λ q q'. HeldBy p.decls s first q t q') (unless_dropped (is_dropped x) (record { store = to_egress x; rest = rest })) (unless_dropped (is_dropped y) (record { store = to_egress y; rest = rest' }))
+  both_queued s first t x y rest rest' h m same =
+      let drops : is_dropped y ≡ is_dropped x = ap (λ (w : Word). nat_eq w.value 511) (h.values egress_spec refl) in
+      let q : Queued = record { store = to_egress x; rest = rest } in
+      let q' : Queued = record { store = to_egress y; rest = rest' } in
+      let held : HeldBy p.decls s first q t q' =
+      record {
+        alike = egress_alike x y h;
+        monitor = egress_monitor p.decls y t m;
+        rest = same;
+        going = record { width = refl; low = omega arith };
+        spec = record { width = refl; low = omega arith };
+      } in
+      let queued : (b : Bool) → SameQueued (λ q q'. HeldBy p.decls s first q t q') (unless_dropped b q) (unless_dropped b q') =
+      λ b. elim b as (λ b. SameQueued (λ q q'. HeldBy p.decls s first q t q') (unless_dropped b q) (unless_dropped b q')) [ true ↦ tt | false ↦ held ] in
+      subst (λ b. SameQueued (λ q q'. HeldBy p.decls s first q t q') (unless_dropped (is_dropped x) q) (unless_dropped b q')) (sym drops) (queued (is_dropped x))
+
+  -- behind the entry statement the program's own ingress runs
+  ingress_agrees : (s : ℕ) (first : Bool) (c : ℕ → Unit {0}) (k : ℕ) (d : Doing Tele (Unit {0})) (u v : Run) (rest rest' : List ℕ) → v.cells rejects_register ≡ word 32 (k % 2 ^ 32) ∷ [] → filter is_report v.digests ≡ [] → rest' ≡ rest → Opened p.decls u v (meaning_of_stmt (entry_stmt p links) v) d → Agrees s first c k d (entered_from f rest u) (entered_from (linked_parts f p links) rest' v)
+  ingress_agrees s first c k d u v rest rest' count silent same h =
+      let e = meaning_of_stmt (entry_stmt p links) v in
+      let x = (meaning_of f.ingress u).0 in
+      let y = (meaning_of f.ingress e.0).0 in
+      let ran = all_ran f.ingress u e.0 own.ingress h.alike in
+      let whole : (meaning_of (linked_parts f p links).ingress v).0 ≡ y = ap (λ g. (after g e.0 (meaning_of f.ingress)).0) h.goes in
+      let reports : filter is_report y.digests ≡ [] = ran.stays.reports ∙ (ap (filter is_report) h.digests ∙ silent) in
+      let done : Agrees s first c k d (pass.entered u.store rest x) (pass.entered v.store rest' y) =
+      record {
+        kept = record { own = λ n i. ran.alike.cells n i; rejects = ran.stays.cells rejects_register refl ∙ (ap (λ g. g rejects_register) h.cells ∙ count) };
+        queued = both_queued s first d.tele x.store y.store rest rest' (bare_alike x y ran.alike) (monitor_stays p.decls d.tele e.0 y h.monitor ran.stays) same;
+        digests =
+            record {
+              reports = filter-map linkage.is_report digest_of y.digests ∙ (ap (map digest_of) reports ∙ sym (ap (map linkage.digest_of) h.reports));
+              others = filter-map (λ d. not (linkage.is_report d)) digest_of y.digests ∙ ap (map digest_of) ran.alike.digests;
+            };
+      } in
+      subst (λ y. Agrees s first c k d (pass.entered u.store rest x) (pass.entered v.store rest' y)) (sym whole) done
+
+  -- a frame by an edge port: init runs
+  pub enter_edge : (s port k : ℕ) (a b : Registers) (c : ℕ → Unit {0}) (t : Tele) (frame : List ℕ) (r : Reads (Unit {0})) → KeptBy s a tt c k b → port < 512 → is_in port links ≡ false → t ≡ tele_start p.decls → r.first ≡ true → EnterAgrees net (law_of p) (telemetry_of p.decls) KeptBy (HeldBy p.decls) (IsFitTele p.decls) s true c k (entry_part (law_of p) r t tt) (entered_of (parts_enter f a port frame)) (entered_of (parts_enter (linked_parts f p links) b port frame))
+  unfolding parts_enter
+  enter_edge s port k a b c t frame r kept lt out start first =
+      let x = plain_end f own p links low port frame in
+      let y = linked_end f own p links low port frame in
+      let h = edge_parsed f own p links low port frame lt out in
+      let u = run_from (store_behind x) a in
+      let v = run_from (store_behind y) b in
+      let ran = all_ran f.verify u v own.verify (behind_alike x y a b h.alike h.error kept.own) in
+      let u' = (meaning_of f.verify u).0 in
+      let v' = (meaning_of f.verify v).0 in
+      let g = begun_stays p.decls port v v' (behind_begun p.decls port y h.fact) ran.stays in
+      let done = ingress_agrees s true c k (init_doing r (tele_start p.decls)) u' v' x.reading.rest y.reading.rest (ran.stays.cells rejects_register refl ∙ kept.rejects) ran.stays.reports h.rest (entry_edge port r u' v' ran.alike g lt out) in
+      subst (λ b'. Agrees s true c k (if b' then init_doing r t else nothing_yet t tt) (parts_enter f a port frame) (parts_enter (linked_parts f p links) b port frame)) (sym first)
+      (subst (λ t. Agrees s true c k (init_doing r t) (parts_enter f a port frame) (parts_enter (linked_parts f p links) b port frame)) (sym start) done)
+
+  -- a frame by a link: nothing is done
+  pub enter_link : (s port k : ℕ) (a b : Registers) (c : ℕ → Unit {0}) (t : Tele) (frame : List ℕ) (r : Reads (Unit {0})) → KeptBy s a tt c k b → port < 512 → is_in port links ≡ true → IsFitTele p.decls t → r.first ≡ false → EnterAgrees net (law_of p) (telemetry_of p.decls) KeptBy (HeldBy p.decls) (IsFitTele p.decls) s false c k (entry_part (law_of p) r t tt) (entered_of (parts_enter f a port frame)) (entered_of (parts_enter (linked_parts f p links) b port (tele_bytes p.decls t ++ frame)))
+  unfolding parts_enter
+  enter_link s port k a b c t frame r kept lt at fits first =
+      let x = plain_end f own p links low port frame in
+      let y = linked_end f own p links low port (tele_bytes p.decls t ++ frame) in
+      let h = link_parsed f own p links low port frame t lt at fits in
+      let u = run_from (store_behind x) a in
+      let v = run_from (store_behind y) b in
+      let ran = all_ran f.verify u v own.verify (behind_alike x y a b h.alike h.error kept.own) in
+      let u' = (meaning_of f.verify u).0 in
+      let v' = (meaning_of f.verify v).0 in
+      let g = taken_stays p.decls port t v v' (behind_taken p.decls port t y h.fact) ran.stays in
+      let done = ingress_agrees s false c k (nothing_yet t tt) u' v' x.reading.rest y.reading.rest (ran.stays.cells rejects_register refl ∙ kept.rejects) ran.stays.reports h.rest (entry_link port t u' v' ran.alike g lt at) in
+      subst (λ b'. Agrees s false c k (if b' then init_doing r t else nothing_yet t tt) (parts_enter f a port frame) (parts_enter (linked_parts f p links) b port (tele_bytes p.decls t ++ frame))) (sym first) done

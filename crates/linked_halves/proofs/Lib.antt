@@ -1,0 +1,11 @@
+pub mod Apart
+pub mod Own
+pub mod Lower
+pub mod Bits
+pub mod Fill
+pub mod Parse
+pub mod EnterParse
+pub mod Enter
+pub mod ExitRuns
+pub mod Leave
+pub mod Theorem

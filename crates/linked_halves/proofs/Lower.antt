@@ -1,0 +1,262 @@
+-- Lowered statements do what the block does, and nothing else. In P4 every sum and variable has 8 bits of its own;
+-- in the property a number has none, and 8 come from its place. So at a place of 8 bits an expression and its
+-- lowered form have the same word, by induction and with no arithmetic, and statements follow from that.
+use Rattle.std.proofs.Common.{◌≡◌, ℕ, zero, suc, ◌<◌, List, [], ◌∷◌, Bool, true, false, cond, ◌&&◌, ◌||◌, Option, Some, None, refl, sym, ap, ap₂, ◌∙◌, subst, All}
+use Rattle.std.proofs.Math.Nat.{mod-lt}
+use Rattle.std.proofs.lemmas.Nat.{pow_pos}
+use Rattle.std.proofs.lemmas.List.Elements.{All-head, All-tail}
+use Rattle.bit_values.specs.Bits.{Word, word, cast}
+use Rattle.bit_values.specs.Widths.{bit, holds, either_width, sound_width, cast_word}
+use Rattle.lex_text.specs.Names.{same_text, same_path, parent}
+use Rattle.p4_tree.specs.Tree.{Expr, flag, assign}
+use Rattle.p4_tree.specs.Store.{Store, read, shown, set_value, written}
+use Rattle.p4_tree.specs.Value.{value_of, own_width, operate}
+use Rattle.p4_tree.specs.declared.statement.Op.TheVariants as p4
+use Rattle.p4_tree.specs.Statements.{Go, Run, Ended, after, in_store, meaning_of_stmt, meaning_of, meaning_of_else}
+use Rattle.indus_tree.specs.Tree as indus
+use Rattle.indus_tree.specs.State.{Hop, Doing, lookup, held_width, shape_width, put, put_cell}
+use Rattle.indus_tree.specs.Names.{is_declared}
+use Rattle.indus_tree.specs.Small.{IsByteDecl, IsSmallSum, IsSmallTest, IsSmallStmt, IsSmallBlock}
+use Rattle.indus_tree.specs.Value as indus_value
+use Rattle.indus_tree.specs.Value.{Seen, scalar, name_word}
+use Rattle.indus_tree.specs.Meaning.{seen_by, value_for, assigned, run_of_stmt, run_of}
+use Rattle.wire_linker.specs.Monitor.{tele_header, tele_path, rejected_name, lowered, lowered_stmt, lowered_block, lowered_else}
+use Rattle.linked_halves.specs.Regions.{is_free}
+use Rattle.linked_halves.specs.Relations.{Monitor, Others}
+use Rattle.linked_halves.specs.Telemetry.{Tele, tele_word, IsByteCell}
+use Rattle.linked_halves.proofs.Apart.{free_apart}
+
+-- a store stands for a state of the property; the flag is there where the checker runs
+pub record Stands (ds : List indus.Decl) (checks : Bool) (s : Store) (d : Doing) : Type 0 where
+  pub monitor : Monitor ds s d.tele
+  pub rejected : checks ≡ true → s.values (rejected_name ∷ []) ≡ bit d.rejected
+  pub reports : d.reports ≡ []
+
+-- nothing is changed
+pub others_same : (a : Run) → Others a a
+others_same a = record { values = λ p o. refl; headers = refl; cells = refl; digests = refl }
+
+-- one change and then another
+pub others_then : (a b c : Run) → Others a b → Others b c → Others a c
+others_then a b c s t = record { values = λ p o. t.values p o ∙ s.values p o; headers = t.headers ∙ s.headers; cells = t.cells ∙ s.cells; digests = t.digests ∙ s.digests }
+
+-- a path of the monitor's is set
+pub others_set : (a : Run) (p : List (List ℕ)) (w : Word) → is_free p ≡ false → Others a (in_store a (set_value a.store p w))
+others_set a p w i =
+    record { values = λ q o. ap (λ t. cond t w (a.store.values q)) (free_apart p q i o); headers = refl; cells = refl; digests = refl }
+
+-- a place that a write reaches
+abbrev pub IsOpen : Option Bool → Type 0
+IsOpen None = Unit {0}
+IsOpen (Some true) = Unit {0}
+IsOpen (Some false) = ⊥
+
+-- the header's state is known
+pub open_by : (o o' : Option Bool) → o ≡ o' → IsOpen o' → IsOpen o
+open_by o o' e h = subst IsOpen (sym e) h
+
+-- it has the word then
+pub written_open : (o : Option Bool) (s : Store) (p : List (List ℕ)) (w : Word) → IsOpen o → written o s p w ≡ set_value s p w
+written_open None s p w h = refl
+written_open (Some true) s p w h = refl
+written_open (Some false) s p w h = absurd h
+
+-- what an assignment does, where the place's old word and the value are known
+pub assignment : (b : Run) (q : ℕ) (p : List (List ℕ)) (e : Expr) (u w : Word) → IsOpen (b.store.headers (parent p)) → b.store.values p ≡ u → value_of e u.width b.store ≡ w → meaning_of_stmt (assign q p e) b ≡ (in_store b (set_value b.store p (cast_word (sound_width u.width) w)), Go)
+assignment b q p e u w o h k =
+    ap (λ s. (in_store b s, Go)) (written_open (b.store.headers (parent p)) b.store p _ o)
+    ∙ ap (λ (v : Word). (in_store b (set_value b.store p (cast_word (sound_width v.width) (value_of e v.width b.store))), Go)) h
+    ∙ ap (λ v. (in_store b (set_value b.store p (cast_word (sound_width u.width) v)), Go)) k
+
+-- where the first declaration is a byte's, and of the others what is declared has 8 bits
+held_here : (b : Bool) (d : indus.Decl) (o : Option indus.Decl) (is_more : Bool) → IsByteDecl d → (is_more ≡ true → held_width o ≡ 8) → (b || is_more) ≡ true → held_width (cond b (Some d) o) ≡ 8
+held_here true d o is_more one more t = ap shape_width one.shape
+held_here false d o is_more one more t = more t
+
+-- a declared variable has 8 bits
+held_is : (ds : List indus.Decl) → All IsByteDecl ds → (x : List ℕ) → is_declared ds x ≡ true → held_width (lookup ds x) ≡ 8
+held_is [] all x is = absurd (cc)
+held_is (d ∷ ds) all x is = held_here (same_text d.name x) d (lookup ds x) (is_declared ds x) (All-head IsByteDecl d ds all) (held_is ds (All-tail IsByteDecl d ds all) x) is
+
+-- what a variable of one byte holds, whatever width is asked for
+cell_word : (ws : List Word) (w : ℕ) → IsByteCell ws → scalar ws w ≡ scalar ws 8
+cell_word ws w c = ap (λ us. scalar us w) c.one ∙ sym (ap (λ us. scalar us 8) c.one)
+
+-- it has 8 bits
+cell_width : (ws : List Word) (w : ℕ) → IsByteCell ws → (scalar ws w).width ≡ 8
+cell_width ws w c = ap (λ us. (scalar us w).width) c.one
+
+-- a declared variable's field reads what the variable holds
+read_tele : (ds : List indus.Decl) (s : Store) (t : Tele) (x : List ℕ) → is_declared ds x ≡ true → Monitor ds s t → read s (tele_path x) ≡ tele_word t x
+read_tele ds s t x h m = ap₂ shown m.valid (m.tele x h)
+
+-- of two widths that are 8 or none, the first that is there is 8 or none
+either_both : (v u : ℕ) → either_width v 8 ≡ 8 → either_width u 8 ≡ 8 → either_width (either_width v u) 8 ≡ 8
+either_both zero u h k = k
+either_both (suc v) u h k = h
+
+-- the values of sums and tests over a store that holds the telemetry
+module _ (h : Hop) (s : Store) (t : Tele) (m : Monitor h.decls s t) where
+  abbrev seen : Seen
+  seen = record { hop = h; tele = t }
+
+  -- a lowered sum has 8 bits
+  low_width : (e : indus.Expr) → IsSmallSum h.decls e → own_width (lowered e) s ≡ 8
+  low_width (indus.num p n) i = refl
+  low_width (indus.read p x) i = ap (λ (w : Word). w.width) (read_tele h.decls s t x i m) ∙ cell_width (t x) 8 (m.fits x i)
+  low_width (indus.binary p o a b) i =
+      subst (λ o. own_width (lowered (indus.binary p o a b)) s ≡ 8) (sym i.0)
+      (ap (λ n. either_width n (own_width (lowered b) s)) (low_width a i.1))
+
+  -- the block's own width is 8, or there is none
+  own_width_is : (e : indus.Expr) → IsSmallSum h.decls e → either_width (indus_value.own_width seen e) 8 ≡ 8
+  own_width_is (indus.num p n) i = ap (λ w. either_width w 8) i.0
+  own_width_is (indus.read p x) i = ap (λ w. either_width w 8) (cell_width (t x) (held_width (lookup h.decls x)) (m.fits x i))
+  own_width_is (indus.binary p o a b) i =
+      subst (λ o. either_width (indus_value.own_width seen (indus.binary p o a b)) 8 ≡ 8) (sym i.0)
+      (either_both (indus_value.own_width seen a) (indus_value.own_width seen b) (own_width_is a i.1) (own_width_is b i.2))
+
+  -- at a place of 8 bits both values are the same word
+  sum_same : (e : indus.Expr) → IsSmallSum h.decls e → value_of (lowered e) 8 s ≡ indus_value.value_of seen e 8
+  sum_same (indus.num p n) i = ap (λ w. word (sound_width (either_width w 8)) (cast (sound_width (either_width w 8)) n.value)) (sym i.0)
+  sum_same (indus.read p x) i = read_tele h.decls s t x i m ∙ sym (cell_word (t x) (held_width (lookup h.decls x)) (m.fits x i))
+  sum_same (indus.binary p o a b) i =
+      let low_place : either_width (either_width (own_width (lowered a) s) (own_width (lowered b) s)) 8 ≡ 8 = ap (λ n. either_width (either_width n (own_width (lowered b) s)) 8) (low_width a i.1) in
+      let own_place : either_width (either_width (indus_value.own_width seen a) (indus_value.own_width seen b)) 8 ≡ 8 =
+      either_both (indus_value.own_width seen a) (indus_value.own_width seen b) (own_width_is a i.1) (own_width_is b i.2) in
+      subst (λ o. value_of (lowered (indus.binary p o a b)) 8 s ≡ indus_value.value_of seen (indus.binary p o a b) 8) (sym i.0)
+      (ap (λ n. operate p4.Add (cast_word (sound_width n) (value_of (lowered a) n s)) (cast_word (sound_width n) (value_of (lowered b) n s))) low_place
+      ∙ ap₂ (λ u v. operate p4.Add (cast_word 8 u) (cast_word 8 v)) (sum_same a i.1) (sum_same b i.2)
+      ∙ sym (ap (λ n. operate p4.Add (cast_word (sound_width n) (indus_value.value_of seen a n)) (cast_word (sound_width n) (indus_value.value_of seen b n))) own_place))
+
+  -- a test and its lowered form have the same bit
+  test_same : (e : indus.Expr) → IsSmallTest h.decls e → value_of (lowered e) 1 s ≡ indus_value.value_of seen e 1
+  test_same (indus.num p n) i = absurd i
+  test_same (indus.read p x) i = absurd i
+  test_same (indus.binary p o (indus.num q n) b) i = absurd i
+  test_same (indus.binary p o (indus.binary q o' a c) b) i = absurd i
+  test_same (indus.binary p o (indus.read q x) b) i =
+      let low_place : either_width (read s (tele_path x)).width (own_width (lowered b) s) ≡ 8 = ap (λ n. either_width n (own_width (lowered b) s)) (low_width (indus.read q x) i.1) in
+      let own_place : either_width (name_word seen x).width (indus_value.own_width seen b) ≡ 8 =
+      ap (λ n. either_width n (indus_value.own_width seen b)) (cell_width (t x) (held_width (lookup h.decls x)) (m.fits x i.1)) in
+      subst (λ o. value_of (lowered (indus.binary p o (indus.read q x) b)) 1 s ≡ indus_value.value_of seen (indus.binary p o (indus.read q x) b) 1) (sym i.0)
+      (ap (λ n. operate p4.Equal (cast_word (sound_width n) (read s (tele_path x))) (cast_word (sound_width n) (value_of (lowered b) n s))) low_place
+      ∙ ap₂ (λ u v. operate p4.Equal (cast_word 8 u) (cast_word 8 v)) (sum_same (indus.read q x) i.1) (sum_same b i.2)
+      ∙ sym (ap (λ n. operate p4.Equal (cast_word (sound_width n) (name_word seen x)) (cast_word (sound_width n) (indus_value.value_of seen b n))) own_place))
+
+and_true : (b : Bool) → (b && true) ≡ b
+and_true true = refl
+and_true false = refl
+
+-- the fields of two names are the same where the names are
+same_front : (x y : List ℕ) → same_path (tele_path x) (tele_path y) ≡ same_text x y
+same_front x y = and_true (same_text x y)
+
+-- one variable has another word
+set_word : (a c : Bool) (w old : Word) (ws : List Word) → a ≡ c → old ≡ scalar ws 8 → cond a w old ≡ scalar (cond c (w ∷ []) ws) 8
+set_word true true w old ws e h = refl
+set_word false false w old ws e h = h
+set_word true false w old ws e h = absurd (cc)
+set_word false true w old ws e h = absurd (cc)
+
+-- which is a byte
+set_cell : (c : Bool) (n : ℕ) (ws : List Word) → n < 256 → IsByteCell ws → IsByteCell (cond c (word 8 n ∷ []) ws)
+set_cell true n ws lt h = record { one = refl; low = lt }
+set_cell false n ws lt h = h
+
+-- the flag is set, and so it is there, also where it was not before
+pub set_rejected : (ds : List indus.Decl) (before checks : Bool) (b : Run) (d : Doing) (r : Bool) → Stands ds before b.store d → Stands ds checks (set_value b.store (rejected_name ∷ []) (bit r)) (record d { rejected = r })
+set_rejected ds before checks b d r s =
+    record {
+      monitor = record { plain = s.monitor.plain; standard = s.monitor.standard; valid = s.monitor.valid; mark = s.monitor.mark; tele = λ y i. s.monitor.tele y i; fits = s.monitor.fits };
+      rejected = λ c. refl;
+      reports = s.reports;
+    }
+
+-- statements stand for what a block does, leave all that is not the monitor's, and go on
+pub record Lowered (ds : List indus.Decl) (checks : Bool) (b : Run) (e : Ended) (d : Doing) : Type 0 where
+  pub stands : Stands ds checks e.0.store d
+  pub others : Others b e.0
+  pub goes : e.1 ≡ Go
+
+module _ (ds : List indus.Decl) (checks : Bool) where
+  -- a telemetry variable is set
+  set_tele : (b : Run) (d : Doing) (x : List ℕ) (n : ℕ) → n < 256 → Stands ds checks b.store d → Stands ds checks (set_value b.store (tele_path x) (word 8 n)) (record d { tele = put d.tele x (word 8 n ∷ []) })
+  set_tele b d x n lt s =
+      record {
+        monitor =
+            record {
+              plain = s.monitor.plain;
+              standard = s.monitor.standard;
+              valid = s.monitor.valid;
+              mark = s.monitor.mark;
+              tele = λ y i. set_word (same_path (tele_path x) (tele_path y)) (same_text x y) (word 8 n) (b.store.values (tele_path y)) (d.tele y) (same_front x y) (s.monitor.tele y i);
+              fits = λ y i. set_cell (same_text x y) n (d.tele y) lt (s.monitor.fits y i);
+            };
+        rejected = s.rejected;
+        reports = s.reports;
+      }
+
+  -- nothing is done
+  low_same : (b : Run) (d : Doing) → Stands ds checks b.store d → Lowered ds checks b (b, Go) d
+  low_same b d s = record { stands = s; others = others_same b; goes = refl }
+
+  -- statements go on behind others
+  low_after : (b : Run) (e : Ended) (f : Run → Ended) (d d' : Doing) → Lowered ds checks b e d → ((r : Run) → Stands ds checks r.store d → Lowered ds checks r (f r) d') → Lowered ds checks b (after e.1 e.0 f) d'
+  low_after b e f d d' h k =
+      let two = k e.0 h.stands in
+      let all : Lowered ds checks b (f e.0) d' = record { stands = two.stands; others = others_then b e.0 (f e.0).0 h.others two.others; goes = two.goes } in
+      rw h.goes all
+
+  -- of two parts the same one is done
+  low_if : (b : Run) (t u : Bool) (e e' : Ended) (d d' : Doing) → t ≡ u → Lowered ds checks b e d → Lowered ds checks b e' d' → Lowered ds checks b (cond t e e') (cond u d d')
+  low_if b true true e e' d d' q h k = h
+  low_if b false false e e' d d' q h k = k
+  low_if b true false e e' d d' q h k = absurd (cc)
+  low_if b false true e e' d d' q h k = absurd (cc)
+
+module _ (h : Hop) (decls : All IsByteDecl h.decls) (checks : Bool) where
+  -- an assignment to a variable
+  lowers_assign : (p : ℕ) (x : List ℕ) (e : indus.Expr) (b : Run) (d : Doing) → is_declared h.decls x ≡ true → IsSmallSum h.decls e → Stands h.decls checks b.store d → Lowered h.decls checks b (meaning_of_stmt (lowered_stmt (indus.assign p x e)) b) (run_of_stmt h (indus.assign p x e) d)
+  lowers_assign p x e b d is i s =
+      let cell = s.monitor.fits x is in
+      let w = indus_value.value_of (seen_by h d) e 8 in
+      let n = cast 8 w.value in
+      let lt : n < 256 = mod-lt w.value (pow_pos 8) in
+      let c = in_store b (set_value b.store (tele_path x) (word 8 n)) in
+      let d' : Doing = record d { tele = put d.tele x (word 8 n ∷ []) } in
+      let old : b.store.values (tele_path x) ≡ word 8 (tele_word d.tele x).value = s.monitor.tele x is ∙ ap (λ ws. scalar ws 8) cell.one in
+      let low : meaning_of_stmt (assign 0 (tele_path x) (lowered e)) b ≡ (c, Go) =
+      assignment b 0 (tele_path x) (lowered e) (word 8 (tele_word d.tele x).value) w (open_by (b.store.headers tele_header) (Some true) s.monitor.valid tt) old (sum_same h b.store d.tele s.monitor e i) in
+      let value : value_for h d x e ≡ word 8 n = ap (λ k. cast_word (sound_width k) (indus_value.value_of (seen_by h d) e k)) (held_is h.decls decls x is) in
+      let own : assigned x (value_for h d x e) d ≡ d' =
+      ap (λ v. assigned x v d) value ∙ ap (λ ws. let r : Doing = record d { tele = put d.tele x (put_cell ws 0 (word 8 n)) } in r) cell.one in
+      let one : Lowered h.decls checks b (c, Go) d' = record { stands = set_tele h.decls checks b d x n lt s; others = others_set b (tele_path x) (word 8 n) refl; goes = refl } in
+      subst (λ r. Lowered h.decls checks b r (assigned x (value_for h d x e) d)) (sym low) (subst (λ r. Lowered h.decls checks b (c, Go) r) (sym own) one)
+
+  -- a rejection
+  lowers_reject : (p : ℕ) (b : Run) (d : Doing) → checks ≡ true → Stands h.decls checks b.store d → Lowered h.decls checks b (meaning_of_stmt (lowered_stmt (indus.reject p)) b) (record d { rejected = true })
+  lowers_reject p b d is s =
+      let c = in_store b (set_value b.store (rejected_name ∷ []) (bit true)) in
+      let low : meaning_of_stmt (assign 0 (rejected_name ∷ []) (flag 0 true)) b ≡ (c, Go) =
+      assignment b 0 (rejected_name ∷ []) (flag 0 true) (bit d.rejected) (bit true) (open_by (b.store.headers []) None s.monitor.plain tt) (s.rejected is) refl in
+      let one : Lowered h.decls checks b (c, Go) (record d { rejected = true }) =
+      record { stands = set_rejected h.decls checks checks b d true s; others = others_set b (rejected_name ∷ []) (bit true) refl; goes = refl } in
+      subst (λ r. Lowered h.decls checks b r (record d { rejected = true })) (sym low) one
+
+  mutual
+    -- a statement
+    lowers_one : (o : indus.Stmt) (b : Run) (d : Doing) → IsSmallStmt h.decls checks o → Stands h.decls checks b.store d → Lowered h.decls checks b (meaning_of_stmt (lowered_stmt o) b) (run_of_stmt h o d)
+    lowers_one (indus.assign p x e) b d i s = lowers_assign p x e b d i.0 i.1 s
+    lowers_one (indus.choice p e a c) b d i s =
+        let test = value_of (lowered e) 1 b.store in
+        let own_test = indus_value.value_of (seen_by h d) e 1 in
+        subst (λ c. Lowered h.decls checks b (cond (holds test) (meaning_of (lowered_block a) b) (meaning_of_else (lowered_else c) b)) (cond (holds own_test) (run_of h a d) (run_of h c d))) (sym i.2)
+        (low_if h.decls checks b (holds test) (holds own_test) (meaning_of (lowered_block a) b) (b, Go) (run_of h a d) d (ap holds (test_same h b.store d.tele s.monitor e i.0)) (lowers a b d i.1 s) (low_same h.decls checks b d s))
+    lowers_one (indus.reject p) b d i s = lowers_reject p b d i s
+
+    -- a block
+    pub lowers : (ss : indus.Stmts) (b : Run) (d : Doing) → IsSmallBlock h.decls checks ss → Stands h.decls checks b.store d → Lowered h.decls checks b (meaning_of (lowered_block ss) b) (run_of h ss d)
+    lowers indus.done b d i s = low_same h.decls checks b d s
+    lowers (indus.next o ss) b d i s =
+        low_after h.decls checks b (meaning_of_stmt (lowered_stmt o) b) (meaning_of (lowered_block ss)) (run_of_stmt h o d) (run_of h ss (run_of_stmt h o d)) (lowers_one o b d i.0 s) (λ q t. lowers ss q (run_of_stmt h o d) i.1 t)

@@ -1,0 +1,95 @@
+-- Which forwarding programs are linked: they use no name of the monitor's, `return` and `exit` are taken out of
+-- them before, and no state of their parser reaches itself. Read `Regions` before.
+use Rattle.std.specs.Prelude.{◌≡◌, ℕ, suc, List, [], ◌∷◌, length, Bool, true, false, Option, Some, None, nat_eq}
+use Rattle.std.specs.List.{AllByRecursion}
+use Rattle.p4_tree.specs.Tree.{Expr, num, flag, path, valid, negation, binary, cast, Arg, one, many, Stmt, Stmts, MaybeStmt, nothing, block, var, assign, choice, return_, exit_, call, done, next, without, otherwise, Keyset, any, only, masked, Case, Transition, nowhere, to, select, ParserState}
+use Rattle.p4_tree.specs.Statements.{Act, makes, drops, reads, writes, tells, idle, act_of}
+use Rattle.p4_tree.specs.Parsing.{Reading, turns_of}
+use Rattle.p4_tree.specs.Parts.{Parts}
+use Rattle.program_linker.specs.Linkage.{report_receiver}
+use Rattle.linked_halves.specs.Regions.{is_mine, is_free, is_readable, is_writable, is_own_header}
+
+-- an expression reads own paths
+abbrev pub IsOwnExpr : Expr → Type 0
+IsOwnExpr (num p n) = Unit {0}
+IsOwnExpr (flag p b) = Unit {0}
+IsOwnExpr (path p names) = is_readable names ≡ true
+IsOwnExpr (valid p header) = is_free header ≡ true
+IsOwnExpr (negation p a) = IsOwnExpr a
+IsOwnExpr (binary p op a b) = IsOwnExpr a × IsOwnExpr b
+IsOwnExpr (cast p ty a) = IsOwnExpr a
+
+abbrev pub IsOwnStart : Option Expr → Type 0
+IsOwnStart None = Unit {0}
+IsOwnStart (Some e) = IsOwnExpr e
+
+-- a call makes own headers valid or invalid, uses own registers, or tells digests that are no reports
+abbrev pub IsOwnAct : Act → Type 0
+IsOwnAct (makes h b) = is_own_header h ≡ true
+IsOwnAct drops = Unit {0}
+IsOwnAct (reads x t i) = (is_mine x ≡ false) × (is_readable t ≡ true) × (is_writable t ≡ true) × IsOwnExpr i
+IsOwnAct (writes x i v) = (is_mine x ≡ false) × IsOwnExpr i × IsOwnExpr v
+IsOwnAct (tells n es) = (nat_eq n report_receiver ≡ false) × AllByRecursion IsOwnExpr es
+IsOwnAct idle = Unit {0}
+
+abbrev mutual
+  -- a statement reads and writes own paths, and goes on
+  pub IsOwnStmt : Stmt → Type 0
+  IsOwnStmt (nothing p) = Unit {0}
+  IsOwnStmt (block p ss) = AreOwnStmts ss
+  IsOwnStmt (var p ty x e) = (is_mine x ≡ false) × IsOwnStart e
+  IsOwnStmt (assign p target e) = (is_readable target ≡ true) × (is_writable target ≡ true) × IsOwnExpr e
+  IsOwnStmt (choice p e a b) = IsOwnExpr e × IsOwnStmt a × IsOwnElse b
+  IsOwnStmt (return_ p) = ⊥
+  IsOwnStmt (exit_ p) = ⊥
+  IsOwnStmt (call p callee args) = IsOwnAct (act_of callee args)
+
+  pub IsOwnElse : MaybeStmt → Type 0
+  IsOwnElse without = Unit {0}
+  IsOwnElse (otherwise s) = IsOwnStmt s
+
+  pub AreOwnStmts : Stmts → Type 0
+  AreOwnStmts done = Unit {0}
+  AreOwnStmts (next s ss) = IsOwnStmt s × AreOwnStmts ss
+
+-- a statement of a parser's state extracts own headers, or assigns to own paths
+abbrev pub IsOwnExtract : List Arg → Type 0
+IsOwnExtract (one p (path q names) ∷ []) = is_own_header names ≡ true
+IsOwnExtract _ = Unit {0}
+
+abbrev pub IsOwnParse : Stmt → Type 0
+IsOwnParse (assign p target e) = (is_readable target ≡ true) × (is_writable target ≡ true) × IsOwnExpr e
+IsOwnParse (call p callee args) = IsOwnExtract args
+IsOwnParse _ = Unit {0}
+
+abbrev pub IsOwnKeyset : Keyset → Type 0
+IsOwnKeyset (any p) = Unit {0}
+IsOwnKeyset (only p e) = IsOwnExpr e
+IsOwnKeyset (masked p e m) = IsOwnExpr e × IsOwnExpr m
+
+pub record IsOwnCase (c : Case) : Type 0 where
+  pub keys : AllByRecursion IsOwnKeyset c.keys
+  pub next : is_mine c.next ≡ false
+
+abbrev pub IsOwnTransition : Transition → Type 0
+IsOwnTransition (nowhere p) = Unit {0}
+IsOwnTransition (to p x) = is_mine x ≡ false
+IsOwnTransition (select p es cs) = AllByRecursion IsOwnExpr es × AllByRecursion IsOwnCase cs
+
+pub record IsOwnState (s : ParserState) : Type 0 where
+  pub name : is_mine s.name ≡ false
+  pub body : AllByRecursion IsOwnParse s.body
+  pub next : IsOwnTransition s.next
+
+pub record IsForwarding (f : Parts) : Type 0 where
+  pub registers : AllByRecursion (λ c. is_mine c.name ≡ false) f.registers
+  pub headers : AllByRecursion (λ h. is_own_header h.path ≡ true) f.headers
+  pub metadata : AllByRecursion (λ m. is_mine m.name ≡ false) f.metadata
+  pub states : AllByRecursion IsOwnState f.states
+  pub verify : AreOwnStmts f.verify
+  pub ingress : AreOwnStmts f.ingress
+  pub egress : AreOwnStmts f.egress
+  pub compute : AreOwnStmts f.compute
+  pub emits : AllByRecursion (λ p. is_own_header p ≡ true) f.emits
+  -- one turn more than the parser takes changes nothing, since no state reaches itself
+  pub settles : (x : List ℕ) (s : Reading) → turns_of (suc (suc (length f.states))) f.headers f.states x s ≡ turns_of (suc (length f.states)) f.headers f.states x s

@@ -1,0 +1,38 @@
+-- Which names are the monitor's: those that begin with `hydra_`. What the forwarding program's own code may
+-- read and write is told by regions of paths.
+use Rattle.std.specs.Prelude.{codes, ℕ, List, [], ◌∷◌, Bool, true, false, ◌&&◌, nat_eq, not, if◌then◌else◌}
+use Rattle.lex_text.specs.Names.{same_text, same_path}
+use Rattle.p4_tree.specs.Standard.{headers_root, standard_root, packet_length}
+
+-- a text begins with another
+abbrev pub begins : List ℕ → List ℕ → Bool
+begins [] x = true
+begins (a ∷ as') [] = false
+begins (a ∷ as') (b ∷ bs) = nat_eq a b && begins as' bs
+
+-- the name is the monitor's
+abbrev pub is_mine : List ℕ → Bool
+is_mine x = begins (codes "hydra_") x
+
+-- the path is not one of the monitor's
+abbrev pub is_free : List (List ℕ) → Bool
+is_free [] = true
+is_free (x ∷ []) = not (is_mine x)
+is_free (x ∷ y ∷ rest) = not (is_mine x) && not (is_mine y)
+
+-- own code may read it. The length of the packet is another in the linked network
+abbrev pub is_readable : List (List ℕ) → Bool
+is_readable p = is_free p && not (same_path packet_length p)
+
+-- own code may write it: of the standard metadata `egress_spec` alone
+abbrev pub is_writable : List (List ℕ) → Bool
+is_writable [] = false
+is_writable (x ∷ []) = not (is_mine x)
+is_writable (x ∷ y ∷ rest) = is_free (x ∷ y ∷ []) && (if same_text standard_root x then same_text (codes "egress_spec") y else true)
+
+-- a header of the forwarding program
+abbrev pub is_own_header : List (List ℕ) → Bool
+is_own_header [] = false
+is_own_header (x ∷ []) = false
+is_own_header (x ∷ y ∷ []) = same_text headers_root x && not (is_mine y)
+is_own_header (x ∷ y ∷ z ∷ rest) = false

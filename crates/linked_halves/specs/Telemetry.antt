@@ -1,0 +1,43 @@
+-- The values of the variables that travel with a packet, as words and as bytes.
+use Rattle.std.specs.Prelude.{◌≡◌, ℕ, suc, ◌<◌, List, [], ◌∷◌, ◌++◌, length, map, true}
+use Rattle.bit_values.specs.Bits.{Word, word}
+use Rattle.bit_values.specs.BitLists.{number_bits}
+use Rattle.p4_tree.specs.Parsing.{bytes_of}
+use Rattle.indus_tree.specs.Tree.{Decl}
+use Rattle.indus_tree.specs.Names.{is_declared}
+use Rattle.indus_tree.specs.Value.{scalar}
+use Rattle.program_linker.specs.Linkage as law
+
+-- what each name holds
+abbrev pub Tele : Type 0
+Tele = List ℕ → List Word
+
+-- the word of a variable of one byte
+abbrev pub tele_word : Tele → List ℕ → Word
+tele_word t x = scalar (t x) 8
+
+-- the words of the telemetry: the mark, hexadecimal 48, and the variables in order of declaration
+abbrev pub tele_words : List Decl → Tele → List Word
+tele_words ds t = word 8 72 ∷ map (λ d. tele_word t d.name) ds
+
+-- the bits of words, in order
+abbrev pub words_bits : List Word → List ℕ
+words_bits [] = []
+words_bits (w ∷ ws) = number_bits w.width w.value ++ words_bits ws
+
+-- the bytes that stand before a frame on a link
+abbrev pub tele_bytes : List Decl → Tele → List ℕ
+tele_bytes ds t = bytes_of (words_bits (tele_words ds t))
+
+-- the telemetry, as the network law takes it
+abbrev pub telemetry_of : List Decl → law.Telemetry Tele
+telemetry_of ds = record { bytes = tele_bytes ds; size = suc (length ds) }
+
+-- a variable holds one number of a byte
+pub record IsByteCell (ws : List Word) : Type 0 where
+  pub one : ws ≡ word 8 (scalar ws 8).value ∷ []
+  pub low : (scalar ws 8).value < 256
+
+-- each declared variable does
+abbrev pub IsFitTele : List Decl → Tele → Type 0
+IsFitTele ds t = (x : List ℕ) → is_declared ds x ≡ true → IsByteCell (t x)

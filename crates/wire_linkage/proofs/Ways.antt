@@ -1,0 +1,238 @@
+-- The way of one packet is the run of the network law.
+use Rattle.std.proofs.Common.{◌≡◌, ℕ, zero, suc, ◌+◌, ◌<◌, ◌≤◌, List, [], ◌∷◌, ◌++◌, map, length, take, Bool, true, false, not, cond, ◌&&◌, ◌||◌, Option, Some, None, refl, sym, ap, ap₂, ◌∙◌, subst, arith, append-nil, append_assoc}
+use Rattle.std.specs.Prelude.{if◌then◌else◌, nat_eq, nat_lt, nat_le, slice_get, slice_set, ◌==◌}
+use Rattle.std.proofs.lemmas.List.{map-append}
+use Rattle.std.proofs.lemmas.Bool.Decides.{nat_tests}
+use Rattle.std.proofs.lemmas.List.Elements.{All-cons, All-nil}
+use Rattle.p4_tree.specs.Parts.{Parts, parts_of}
+use Rattle.p4_tree.specs.Statements.{Digest}
+use Rattle.p4_tree.specs.Pass as pass
+use Rattle.p4_tree.specs.Pass.{Registers, Queued, parts_enter, parts_leave, start_cells}
+use Rattle.indus_tree.specs.Tree.{Property}
+use Rattle.path_runner.specs.Machine as law_machine
+use Rattle.path_runner.specs.Network as law
+use Rattle.path_runner.specs.Network.{IsWiring, IsLinkOf, far_end_among, Flying, Waiting, Over}
+use Rattle.path_runner.specs.Events.{Event, Enter, Leave, to_its_end}
+use Rattle.path_runner.specs.NetworkRun.{Limits, longest_frame, put, told_by, queued_or_over, dropped_if_none, entry_half, exit_half, enters, leaves, run_of_halves, lost_if}
+use Rattle.path_runner.specs.NetworkRun as law_run
+use Rattle.path_runner.specs.World.{first_net, net_at_end}
+use Rattle.path_runner.proofs.Numbers.{nat_eq_self}
+use Rattle.path_runner.proofs.Links.{FarEnd, far_end_is}
+use Rattle.wire_machine.specs.Machine.{Machine, goes_to}
+use Rattle.wire_network.specs.Travel.{Net, Fate, left, dropped, lost, left_from, passage, passed, is_end, far_end, at_edge, Way, on_link, behind, at_switch, no_way, travel}
+use Rattle.wire_network.specs.declared.link.Link.{Link}
+use Rattle.linked_halves.specs.Telemetry.{telemetry_of}
+use Rattle.linked_halves.specs.Networks.{digest_of, machine_of, going_of}
+use Rattle.wire_linkage.specs.Line.{line3, program_at, linked_line, one_packet, run_of_frame}
+use Rattle.wire_linkage.specs.Ways.{line3_links, machines, net_before, told_of, edges_of, dropped_of, lost_of, ShowsWay}
+
+eq_comm : (a b : ℕ) → nat_eq a b ≡ nat_eq b a
+eq_comm zero zero = refl
+eq_comm zero (suc b) = refl
+eq_comm (suc a) zero = refl
+eq_comm (suc a) (suc b) = eq_comm a b
+
+more_is : (a b : ℕ) → nat_lt a b ≡ not (nat_le b a)
+more_is zero zero = refl
+more_is zero (suc b) = refl
+more_is (suc a) zero = refl
+more_is (suc a) (suc b) = more_is a b
+
+-- the links join ports of the three switches
+pub line3_is : IsWiring line3
+line3_is =
+    All-cons (IsLinkOf line3) _ _ (record { one = omega arith; one_port = omega arith; other = omega arith; other_port = omega arith })
+    (All-cons (IsLinkOf line3) _ _ (record { one = omega arith; one_port = omega arith; other = omega arith; other_port = omega arith }) (All-nil (IsLinkOf line3)))
+
+-- the far end of a port
+link_of : Link → law.Link
+link_of l = record { one = l.switch; one_port = l.port; other = l.far_switch; other_port = l.far_port }
+
+far_among : (ls : List Link) (s port : ℕ) → far_end_among (map link_of ls) s port ≡ far_end ls s port
+far_among [] s port = refl
+far_among (l ∷ ls) s port =
+    let one : (s == l.switch && port == l.port) ≡ is_end l.switch l.port s port = ap₂ (λ a b. a && b) (eq_comm s l.switch) (eq_comm port l.port) in
+    let other : (s == l.far_switch && port == l.far_port) ≡ is_end l.far_switch l.far_port s port = ap₂ (λ a b. a && b) (eq_comm s l.far_switch) (eq_comm port l.far_port) in
+    ap₂ (λ a b. cond a (Some (l.far_switch, l.far_port)) (cond b (Some (l.switch, l.port)) (far_end_among (map link_of ls) s port))) one other
+    ∙ ap (λ o. cond (is_end l.switch l.port s port) (Some (l.far_switch, l.far_port)) (cond (is_end l.far_switch l.far_port s port) (Some (l.switch, l.port)) o)) (far_among ls s port)
+
+far_same : (s port : ℕ) → law.far_end line3 s port ≡ far_end line3_links s port
+far_same s port = far_among line3_links s port
+
+-- digests
+told_all : (s : ℕ) (ds : List Digest) → map told_of (map (λ d. (s, d)) ds) ≡ told_by 0 s (map digest_of ds)
+told_all s [] = refl
+told_all s (d ∷ ds) = ap (λ l. told_of (s, d) ∷ l) (told_all s ds)
+
+told_more : (s : ℕ) (before : List (ℕ × Digest)) (ds : List Digest) → map told_of (before ++ map (λ d. (s, d)) ds) ≡ map told_of before ++ told_by 0 s (map digest_of ds)
+told_more s before ds = map-append told_of before (map (λ d. (s, d)) ds) ∙ ap (λ l. map told_of before ++ l) (told_all s ds)
+
+told_twice : (s : ℕ) (before : List (ℕ × Digest)) (ds es : List Digest) → (map told_of before ++ told_by 0 s (map digest_of ds)) ++ told_by 0 s (map digest_of es) ≡ map told_of (before ++ map (λ d. (s, d)) (ds ++ es))
+told_twice s before ds es =
+    ap (λ l. l ++ told_by 0 s (map digest_of es)) (sym (told_more s before ds))
+    ∙ sym (told_more s (before ++ map (λ d. (s, d)) ds) es)
+    ∙ ap (map told_of) (append_assoc before (map (λ d. (s, d)) ds) (map (λ d. (s, d)) es) ∙ ap (λ l. before ++ l) (sym (map-append (λ d. (s, d)) ds es)))
+
+module _ (parts : ℕ → Parts) where
+  -- the switch at a place
+  machine_is : (f : ℕ → Registers) (s : ℕ) → s < 3 → slice_get (machines parts f) s ≡ Some (record { parts = parts s; registers = f s })
+  machine_is f zero h = refl
+  machine_is f (suc zero) h = refl
+  machine_is f (suc (suc zero)) h = refl
+  machine_is f (suc (suc (suc s))) h = absurd (omega arith)
+
+  one_put : (f : ℕ → Registers) (s : ℕ) (a : Registers) → s < 3 → slice_set (machines parts f) s (record { parts = parts s; registers = a }) ≡ machines parts (put f s a)
+  one_put f zero a h = refl
+  one_put f (suc zero) a h = refl
+  one_put f (suc (suc zero)) a h = refl
+  one_put f (suc (suc (suc s))) a h = absurd (omega arith)
+
+  two_put : (f : ℕ → Registers) (s : ℕ) (a b : Registers) → s < 3 → slice_set (machines parts f) s (record { parts = parts s; registers = b }) ≡ machines parts (put (put f s a) s b)
+  two_put f zero a b h = refl
+  two_put f (suc zero) a b h = refl
+  two_put f (suc (suc zero)) a b h = refl
+  two_put f (suc (suc (suc s))) a b h = absurd (omega arith)
+
+  put_at : (f : ℕ → Registers) (s : ℕ) (a : Registers) → put f s a s ≡ a
+  put_at f s a = ap (λ t. cond t a (f s)) (nat_eq_self s)
+
+  module _ (hops limit : ℕ) where
+    abbrev limits : Limits
+    limits = record { hops = hops; link = limit }
+
+    abbrev W : Type 0
+    W = law.Net Registers Queued (Unit {0})
+
+    abbrev run : W → List (Event (Unit {0})) → W
+    run = run_of_halves (machine_of parts) line3 limits
+
+    -- the packet is at its end
+    over_stays : (k : ℕ) (w : W) → w.packets 0 ≡ Over → run w (to_its_end 0 k) ≡ w
+    over_stays zero w e = ap (leaves (machine_of parts) line3 limits w 0) e
+    over_stays (suc k) w e =
+        ap (λ u. run (enters (machine_of parts) line3 limits u 0 (u.packets 0)) (to_its_end 0 k)) (ap (leaves (machine_of parts) line3 limits w 0) e)
+        ∙ ap (λ u. run u (to_its_end 0 k)) (ap (enters (machine_of parts) line3 limits w 0) e)
+        ∙ over_stays k w e
+
+    -- what follows a passage, of which so many may come yet
+    abbrev behind_it : ℕ → List (Event (Unit {0}))
+    behind_it zero = []
+    behind_it (suc k) = Enter 0 ∷ to_its_end 0 k
+
+    over_rests : (k : ℕ) (w : W) → w.packets 0 ≡ Over → run w (behind_it k) ≡ w
+    over_rests zero w e = refl
+    over_rests (suc k) w e = ap (λ u. run u (to_its_end 0 k)) (ap (enters (machine_of parts) line3 limits w 0) e) ∙ over_stays k w e
+
+    next_events : (k : ℕ) (w : W) → run w (to_its_end 0 k) ≡ run (leaves (machine_of parts) line3 limits w 0 (w.packets 0)) (behind_it k)
+    next_events zero w = refl
+    next_events (suc k) w = refl
+
+    -- packet 0 comes to a switch, and nothing has left yet
+    record Comes (w : W) (n : Net) (s port : ℕ) (frame : List ℕ) (passed_so_far : ℕ) : Type 0 where
+      place : w.packets 0 ≡ Flying s port frame passed_so_far
+      known : s < 3
+      switches : n.switches ≡ machines parts w.switches
+      told : w.told ≡ map told_of n.told
+      edges : w.edges ≡ []
+      dropped_none : w.dropped ≡ []
+      lost_none : w.lost ≡ []
+
+    abbrev Follows : (k : ℕ) → Way → Type 0
+    Follows k more = (w : W) (n : Net) (s port : ℕ) (frame : List ℕ) (m : ℕ) → Comes w n s port frame m → m + suc k ≡ hops → ShowsWay parts (run w (Enter 0 ∷ to_its_end 0 k)) (more n s port frame)
+
+    -- what comes behind a link
+    abbrev Onward : (k : ℕ) → Way → Type 0
+    Onward zero more = more ≡ no_way
+    Onward (suc k) more = Follows k more
+
+    module _ (k : ℕ) (more : Way) (onward : Onward k more) (w : W) (n : Net) (s port : ℕ) (frame : List ℕ) (m : ℕ) (comes : Comes w n s port frame m) (passes : m + suc k ≡ hops) where
+      -- after the entry half
+      abbrev in_queue : Registers → List Digest → Option Queued → W
+      in_queue cells ds o =
+          record w {
+            switches = put w.switches s cells;
+            packets = put w.packets 0 (queued_or_over s port m o);
+            log = w.log ++ entry_half line3 0 s port [] (w.contents s) ∷ [];
+            told = w.told ++ told_by 0 s (map digest_of ds);
+            dropped = w.dropped ++ dropped_if_none 0 o;
+          }
+
+      -- after the exit half, before the packet goes on
+      abbrev passed_by : Registers → List Digest → Registers → List Digest → Queued → W
+      passed_by cells ds after es q =
+          record (in_queue cells ds (Some q)) {
+            switches = put (put w.switches s cells) s after;
+            told = (w.told ++ told_by 0 s (map digest_of ds)) ++ told_by 0 s (map digest_of es);
+          }
+
+      abbrev net_by : Registers → List Digest → Net
+      net_by after ds = record { switches = slice_set n.switches s (record { parts = parts s; registers = after }); told = n.told ++ map (λ d. (s, d)) ds }
+
+      none_more : w.dropped ++ [] ≡ []
+      none_more = append-nil w.dropped ∙ comes.dropped_none
+
+      -- what the switches and the digests are after the exit half
+      switches_by : (cells after : Registers) → slice_set n.switches s (record { parts = parts s; registers = after }) ≡ machines parts (put (put w.switches s cells) s after)
+      switches_by cells after = ap (λ l. slice_set l s (record { parts = parts s; registers = after })) comes.switches ∙ two_put w.switches s cells after comes.known
+
+      told_is : (ds es : List Digest) → (w.told ++ told_by 0 s (map digest_of ds)) ++ told_by 0 s (map digest_of es) ≡ map told_of (n.told ++ map (λ d. (s, d)) (ds ++ es))
+      told_is ds es = ap (λ l. (l ++ told_by 0 s (map digest_of ds)) ++ told_by 0 s (map digest_of es)) comes.told ∙ told_twice s n.told ds es
+
+      module _ (cells : Registers) (ds : List Digest) (q : Queued) (after : Registers) (es : List Digest) where
+        abbrev here : W
+        here = passed_by cells ds after es q
+
+        abbrev there : Net
+        there = net_by after (ds ++ es)
+
+        -- the packet is at its end, in a network that is like this one but for its lists
+        ends_by : (u : W) (fate : Fate) → u.packets 0 ≡ Over → u.switches ≡ here.switches → u.told ≡ here.told → u.edges ≡ edges_of fate → u.dropped ≡ dropped_of fate → u.lost ≡ lost_of fate → ShowsWay parts (run u (behind_it k)) (there, fate)
+        ends_by u fate over same_switches same_told e d l =
+            subst (λ v. ShowsWay parts v (there, fate)) (sym (over_rests k u over))
+            (record { switches = switches_by cells after ∙ ap (machines parts) (sym same_switches); told = same_told ∙ told_is ds es; edges = e; dropped = d; lost = l })
+
+        dropped_there : ShowsWay parts (run (law_run.dropped here 0) (behind_it k)) (there, dropped)
+        dropped_there = ends_by (law_run.dropped here 0) dropped refl refl refl comes.edges (ap (λ l. (l ++ []) ++ 0 ∷ []) comes.dropped_none) comes.lost_none
+
+        abbrev logged : pass.Going → W
+        logged g = record here { log = here.log ++ exit_half line3 0 s port g.port [] (here.contents s) ∷ [] }
+
+        lost_there : (g : pass.Going) (u : W) → ShowsWay parts (run (lost_if true (logged g) 0 u) (behind_it k)) (there, lost)
+        lost_there g u = ends_by (lost_if true (logged g) 0 u) lost refl refl refl comes.edges none_more (ap (λ l. l ++ 0 ∷ []) comes.lost_none)
+
+        -- by an edge port
+        abbrev leaving : pass.Going → W
+        leaving g = record (logged g) { packets = put (logged g).packets 0 Over; edges = (logged g).edges ++ record { packet = 0; switch = s; port = g.port; frame = g.frame } ∷ [] }
+
+        by_edge : (g : pass.Going) (b c : Bool) → b ≡ not c → ShowsWay parts (run (lost_if b (logged g) 0 (leaving g)) (behind_it k)) (there, cond c (left s g.port g.frame) lost)
+        by_edge g true false e = lost_there g (leaving g)
+        by_edge g false true e = ends_by (leaving g) (left s g.port g.frame) refl refl refl (ap (λ l. l ++ record { packet = 0; switch = s; port = g.port; frame = g.frame } ∷ []) comes.edges) none_more comes.lost_none
+        by_edge g true true e = absurd (cc)
+        by_edge g false false e = absurd (cc)
+
+        -- over a link
+        abbrev on_wire : pass.Going → ℕ × ℕ → W
+        on_wire g far = record (logged g) { packets = put (logged g).packets 0 (Flying far.0 far.1 g.frame (m + 1)); wires = (logged g).wires ++ record { half = length here.log; sent = record { packet = 0; switch = s; port = g.port; frame = g.frame } } ∷ [] }
+
+        arrives : (g : pass.Going) (far : ℕ × ℕ) → far.0 < 3 → Comes (on_wire g far) there far.0 far.1 g.frame (m + 1)
+        arrives g far known =
+            record {
+              place = refl;
+              known = known;
+              switches = switches_by cells after;
+              told = told_is ds es;
+              edges = comes.edges;
+              dropped_none = none_more;
+              lost_none = comes.lost_none;
+            }
+
+        no_more : (c : Bool) → cond c (there, lost) (there, lost) ≡ (there, lost)
+        no_more true = refl
+        no_more false = refl
+
+        by_link : (g : pass.Going) (far : ℕ × ℕ) → far.0 < 3 → (j : ℕ) → j ≡ k → (b c : Bool) → b ≡ not c → Onward j more → ShowsWay parts (run (lost_if (nat_le hops (m + 1) || b) (logged g) 0 (on_wire g far)) (behind_it k)) (cond c (more there far.0 far.1 g.frame) (there, lost))
+        by_link g far known zero is b c e stop = ?
+        by_link g far known (suc j) is true false e go = ?
+        by_link g far known (suc j) is false true e go = ?
+        by_link g far known (suc j) is true true e go = absurd (cc)
+        by_link g far known (suc j) is false false e go = absurd (cc)
