@@ -1,1 +1,3 @@
 pub mod Ways
+pub mod Instance
+pub mod Theorem

@@ -26,26 +26,35 @@ use Rattle.linked_halves.specs.Networks.{digest_of, machine_of, going_of}
 use Rattle.wire_linkage.specs.Line.{line3, program_at, linked_line, one_packet, run_of_frame}
 use Rattle.wire_linkage.specs.Ways.{line3_links, machines, net_before, told_of, edges_of, dropped_of, lost_of, ShowsWay}
 
+eq_by : (a b : ℕ) (c d : Bool) → nat_eq a b ≡ c → nat_eq b a ≡ d → c ≡ d
+eq_by a b true true h k = refl
+eq_by a b false false h k = refl
+eq_by a b true false h k = grind (arith, nat_tests, h, k)
+eq_by a b false true h k = grind (arith, nat_tests, h, k)
+
 eq_comm : (a b : ℕ) → nat_eq a b ≡ nat_eq b a
-eq_comm zero zero = refl
-eq_comm zero (suc b) = refl
-eq_comm (suc a) zero = refl
-eq_comm (suc a) (suc b) = eq_comm a b
+eq_comm a b = eq_by a b (nat_eq a b) (nat_eq b a) refl refl
+
+more_by : (a b : ℕ) (c d : Bool) → nat_lt a b ≡ c → nat_le b a ≡ d → c ≡ not d
+more_by a b true true h k = grind (arith, nat_tests, h, k)
+more_by a b true false h k = refl
+more_by a b false true h k = refl
+more_by a b false false h k = grind (arith, nat_tests, h, k)
 
 more_is : (a b : ℕ) → nat_lt a b ≡ not (nat_le b a)
-more_is zero zero = refl
-more_is zero (suc b) = refl
-more_is (suc a) zero = refl
-more_is (suc a) (suc b) = more_is a b
+more_is a b = more_by a b (nat_lt a b) (nat_le b a) refl refl
 
 -- the links join ports of the three switches
 pub line3_is : IsWiring line3
 line3_is =
-    All-cons (IsLinkOf line3) _ _ (record { one = omega arith; one_port = omega arith; other = omega arith; other_port = omega arith })
-    (All-cons (IsLinkOf line3) _ _ (record { one = omega arith; one_port = omega arith; other = omega arith; other_port = omega arith }) (All-nil (IsLinkOf line3)))
+    let one : law.Link = record { one = 0; one_port = 2; other = 1; other_port = 1 } in
+    let two : law.Link = record { one = 1; one_port = 2; other = 2; other_port = 1 } in
+    let first : IsLinkOf line3 one = record { one = omega arith; one_port = omega arith; other = omega arith; other_port = omega arith } in
+    let second : IsLinkOf line3 two = record { one = omega arith; one_port = omega arith; other = omega arith; other_port = omega arith } in
+    All-cons (IsLinkOf line3) one (two ∷ []) first (All-cons (IsLinkOf line3) two [] second (All-nil (IsLinkOf line3)))
 
 -- the far end of a port
-link_of : Link → law.Link
+abbrev link_of : Link → law.Link
 link_of l = record { one = l.switch; one_port = l.port; other = l.far_switch; other_port = l.far_port }
 
 far_among : (ls : List Link) (s port : ℕ) → far_end_among (map link_of ls) s port ≡ far_end ls s port
@@ -226,13 +235,88 @@ module _ (parts : ℕ → Parts) where
               lost_none = comes.lost_none;
             }
 
-        no_more : (c : Bool) → cond c (there, lost) (there, lost) ≡ (there, lost)
+        abbrev lost_way : Net × Fate
+        lost_way = (there, lost)
+
+        no_more : (c : Bool) → cond c lost_way lost_way ≡ lost_way
         no_more true = refl
         no_more false = refl
 
         by_link : (g : pass.Going) (far : ℕ × ℕ) → far.0 < 3 → (j : ℕ) → j ≡ k → (b c : Bool) → b ≡ not c → Onward j more → ShowsWay parts (run (lost_if (nat_le hops (m + 1) || b) (logged g) 0 (on_wire g far)) (behind_it k)) (cond c (more there far.0 far.1 g.frame) (there, lost))
-        by_link g far known zero is b c e stop = ?
-        by_link g far known (suc j) is true false e go = ?
-        by_link g far known (suc j) is false true e go = ?
+        by_link g far known zero is b c e stop =
+            let last : (nat_le hops (m + 1) || b) ≡ true = ap (λ x. x || b) (let q : nat_le hops (m + 1) ≡ true = grind (arith, nat_tests, passes, is) in q) in
+            let none : cond c (more there far.0 far.1 g.frame) lost_way ≡ lost_way = ap (λ (f : Way). cond c (f there far.0 far.1 g.frame) lost_way) stop ∙ no_more c in
+            let P : Bool → Net × Fate → Type 0 = λ x r. ShowsWay parts (run (lost_if x (logged g) 0 (on_wire g far)) (behind_it k)) r in
+            subst (λ r. P (nat_le hops (m + 1) || b) r) (sym none) (subst (λ x. P x (there, lost)) (sym last) (lost_there g (on_wire g far)))
+        by_link g far known (suc j) is true false e go =
+            let low : (nat_le hops (m + 1) || true) ≡ true = ap (λ x. x || true) (let q : nat_le hops (m + 1) ≡ false = grind (arith, nat_tests, passes, is) in q) in
+            subst (λ x. ShowsWay parts (run (lost_if x (logged g) 0 (on_wire g far)) (behind_it k)) (there, lost)) (sym low) (lost_there g (on_wire g far))
+        by_link g far known (suc j) is false true e go =
+            let low : (nat_le hops (m + 1) || false) ≡ false = ap (λ x. x || false) (let q : nat_le hops (m + 1) ≡ false = grind (arith, nat_tests, passes, is) in q) in
+            let more_hops : m + 1 + suc j ≡ hops = omega (arith, passes, is) in
+            let shows : ShowsWay parts (run (on_wire g far) (behind_it (suc j))) (more there far.0 far.1 g.frame) = go (on_wire g far) there far.0 far.1 g.frame (m + 1) (arrives g far known) more_hops in
+            let here_shows : ShowsWay parts (run (on_wire g far) (behind_it k)) (more there far.0 far.1 g.frame) = subst (λ i. ShowsWay parts (run (on_wire g far) (behind_it i)) (more there far.0 far.1 g.frame)) is shows in
+            subst (λ x. ShowsWay parts (run (lost_if x (logged g) 0 (on_wire g far)) (behind_it k)) (more there far.0 far.1 g.frame)) (sym low) here_shows
         by_link g far known (suc j) is true true e go = absurd (cc)
         by_link g far known (suc j) is false false e go = absurd (cc)
+
+        -- by the port where it goes
+        abbrev law_going : pass.Going → law_machine.Going
+        law_going g = record { port = g.port; frame = g.frame; view = [] }
+
+        by_far : (g : pass.Going) (o : Option (ℕ × ℕ)) → law.far_end line3 s g.port ≡ o → ShowsWay parts (run (law_run.sent line3 limits (logged g) 0 s m (law_going g) o (length here.log)) (behind_it k)) (on_link more limit there s g.port g.frame o)
+        by_far g None e = by_edge g (nat_lt longest_frame (length g.frame)) (nat_le (length g.frame) 65535) (more_is 65535 (length g.frame))
+        by_far g (Some far) e =
+            by_link g far (far_end_is line3 line3_is s g.port far e).known k refl (nat_lt limit (length g.frame)) (nat_le (length g.frame) limit) (more_is limit (length g.frame)) onward
+
+        leaves_by : (o : Option pass.Going) → ShowsWay parts (run (law_run.went line3 limits here 0 s port m (going_of o)) (behind_it k)) (behind more line3_links limit there s (goes_to o))
+        leaves_by None = dropped_there
+        leaves_by (Some g) =
+            subst (λ far. ShowsWay parts (run (law_run.sent line3 limits (logged g) 0 s m (law_going g) (law.far_end line3 s g.port) (length here.log)) (behind_it k)) (on_link more limit there s g.port g.frame far)) (far_same s g.port)
+            (by_far g (law.far_end line3 s g.port) refl)
+
+      abbrev machine : Machine
+      machine = record { parts = parts s; registers = w.switches s }
+
+      -- where the packet is queued, or dropped
+      queued_by : (cells : Registers) (ds : List Digest) (o : Option Queued) → ShowsWay parts (run (leaves (machine_of parts) line3 limits (in_queue cells ds o) 0 ((in_queue cells ds o).packets 0)) (behind_it k)) (behind more line3_links limit (passed n s (left_from machine cells ds o)) s (left_from machine cells ds o).out)
+      queued_by cells ds None =
+          subst (λ v. ShowsWay parts v (net_by cells ds, dropped)) (sym (over_rests k (in_queue cells ds None) refl))
+          (record {
+            switches = ap (λ l. slice_set l s (record { parts = parts s; registers = cells })) comes.switches ∙ one_put w.switches s cells comes.known;
+            told = ap (λ l. l ++ told_by 0 s (map digest_of ds)) comes.told ∙ sym (told_more s n.told ds);
+            edges = comes.edges;
+            dropped = ap (λ l. l ++ 0 ∷ []) comes.dropped_none;
+            lost = comes.lost_none;
+          })
+      queued_by cells ds (Some q) =
+          let half = parts_leave (parts s) cells q in
+          subst (λ cs. ShowsWay parts (run (law_run.left line3 limits (in_queue cells ds (Some q)) 0 s port m ((machine_of parts).leave s cs q)) (behind_it k)) (behind more line3_links limit (passed n s (left_from machine cells ds (Some q))) s (left_from machine cells ds (Some q)).out)) (sym (put_at w.switches s cells))
+          (leaves_by cells ds q half.registers half.digests half.going)
+
+      step : ShowsWay parts (run w (Enter 0 ∷ to_its_end 0 k)) (at_switch more line3_links limit n s port frame (slice_get n.switches s))
+      step =
+          let half = parts_enter (parts s) (w.switches s) port frame in
+          let enters_is : run w (Enter 0 ∷ to_its_end 0 k) ≡ run (in_queue half.registers half.digests half.queued) (to_its_end 0 k) = ap (λ x. run (enters (machine_of parts) line3 limits w 0 x) (to_its_end 0 k)) comes.place in
+          let known_machine : slice_get n.switches s ≡ Some machine = ap (λ l. slice_get l s) comes.switches ∙ machine_is w.switches s comes.known in
+          subst (λ v. ShowsWay parts v (at_switch more line3_links limit n s port frame (slice_get n.switches s))) (sym (enters_is ∙ next_events k (in_queue half.registers half.digests half.queued)))
+          (subst (λ o. ShowsWay parts (run (leaves (machine_of parts) line3 limits (in_queue half.registers half.digests half.queued) 0 ((in_queue half.registers half.digests half.queued).packets 0)) (behind_it k)) (at_switch more line3_links limit n s port frame o)) (sym known_machine)
+          (queued_by half.registers half.digests half.queued))
+
+    follows : (k : ℕ) → Follows k (travel k line3_links limit)
+    follows zero w n s port frame m comes passes = step zero no_way refl w n s port frame m comes passes
+    follows (suc k) w n s port frame m comes passes = step (suc k) (travel k line3_links limit) (follows k) w n s port frame m comes passes
+
+  -- the first step leaves the packet where it is
+  from_start : (k limit : ℕ) (w : law.Net Registers Queued (Unit {0})) (n : Net) (s port : ℕ) (frame : List ℕ) → Comes (suc k) limit w n s port frame 0
+      → ShowsWay parts (run_of_halves (machine_of parts) line3 (limits (suc k) limit) w (to_its_end 0 (suc k) ++ [])) (travel k line3_links limit n s port frame)
+  from_start k limit w n s port frame comes =
+      subst (λ es. ShowsWay parts (run_of_halves (machine_of parts) line3 (limits (suc k) limit) w es) (travel k line3_links limit n s port frame)) (sym (append-nil (to_its_end 0 (suc k))))
+      (subst (λ v. ShowsWay parts (run_of_halves (machine_of parts) line3 (limits (suc k) limit) v (Enter 0 ∷ to_its_end 0 k)) (travel k line3_links limit n s port frame)) (sym (ap (leaves (machine_of parts) line3 (limits (suc k) limit) w 0) comes.place))
+      (follows (suc k) limit k w n s port frame 0 comes (let all : 0 + suc k ≡ suc k = omega arith in all)))
+
+pub way_is_run : (p : Property) (frame : List ℕ) → ShowsWay (λ s. parts_of (program_at p s)) (run_of_frame p frame) (travel 63 line3_links (longest_frame + (telemetry_of p.decls).size) (net_before p) 0 1 frame)
+unfolding run_of_frame
+way_is_run p frame =
+    from_start (λ s. parts_of (program_at p s)) 63 (longest_frame + (telemetry_of p.decls).size) (first_net (linked_line p) (one_packet frame)) (net_before p) 0 1 frame
+    (record { place = refl; known = omega arith; switches = refl; told = refl; edges = refl; dropped_none = refl; lost_none = refl })

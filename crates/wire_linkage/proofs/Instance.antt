@@ -1,0 +1,192 @@
+-- The linked wire programs have the linked parts of the wire program, which uses no name of the monitor's.
+use Rattle.std.proofs.Common.{◌≡◌, codes, ℕ, suc, List, [], ◌∷◌, ◌++◌, map, length, Bool, true, false, ◌||◌, cond, refl, ap, ap₂, sym, ◌∙◌, subst}
+use Rattle.std.specs.Prelude.{if◌then◌else◌}
+use Rattle.std.specs.List.{AllByRecursion}
+use Rattle.lex_text.specs.Names.{same_text}
+use Rattle.p4_tree.specs.Tree.{Expr, num, path, flag, binary, negation, Stmt, assign, choice, block, Stmts, MaybeStmt, otherwise, Case, ParserState, and_then, next, done, without}
+use Rattle.p4_tree.specs.Parsing.{Field, Header, Reading, Turned, ends, leads, parser_end, NoError, on_turned, turns_of}
+use Rattle.p4_tree.specs.Parts.{Cells, Roots, Parts, path_under, expr_under, stmt_under, stmts_under, else_under, case_under, state_under, field_of, parts_of}
+use Rattle.p4_tree.specs.declared.statement.Op.TheVariants as p4
+use Rattle.indus_tree.specs.Tree as indus
+use Rattle.indus_tree.specs.Names as names
+use Rattle.wire_linker.specs.WireProgram.{number, send_by, wire_ingress, wire_program}
+use Rattle.wire_linker.specs.Monitor.{tele_header, tele_name, rejected_name, count_name, rejects_register, lowered_op, lowered, lowered_stmt, lowered_block, lowered_else, is_one_of, entry_stmts, entry_stmt, end_stmts, check_stmts, check_stmt, exit_stmts, exit_stmt}
+use Rattle.wire_linker.specs.Linked as program
+use Rattle.wire_linker.specs.Linked.{link_cases, linked_wire}
+use Rattle.linked_halves.specs.Regions.{is_mine}
+use Rattle.linked_halves.specs.Forwarding.{IsForwarding}
+use Rattle.linked_halves.specs.LinkedParts as parts
+use Rattle.linked_halves.specs.LinkedParts.{rejects_cells, telemetry, linked_parts}
+use Rattle.wire_linkage.specs.Declared.{names_in, names_in_stmt, names_in_else, names_of}
+
+-- what the parameters of the wire program are called
+abbrev roots : Roots
+roots = record { headers = codes "hdr"; metadata = codes "meta"; standard = codes "standard_metadata" }
+
+-- the monitor's code has the fixed roots
+lowered_under : (e : indus.Expr) → expr_under roots (lowered e) ≡ lowered e
+lowered_under (indus.num p n) = refl
+lowered_under (indus.read p x) = refl
+lowered_under (indus.binary p o a b) = ap₂ (binary 0 (lowered_op o)) (lowered_under a) (lowered_under b)
+
+mutual
+  stmt_same : (s : indus.Stmt) → stmt_under roots (lowered_stmt s) ≡ lowered_stmt s
+  stmt_same (indus.assign p x e) = ap (assign 0 (Rattle.wire_linker.specs.Monitor.tele_path x)) (lowered_under e)
+  stmt_same (indus.choice p e a b) =
+      ap (λ t. choice 0 t (block 0 (stmts_under roots (lowered_block a))) (else_under roots (lowered_else b))) (lowered_under e)
+      ∙ ap₂ (λ x y. choice 0 (lowered e) (block 0 x) y) (block_same a) (else_same b)
+  stmt_same (indus.reject p) = refl
+
+  block_same : (ss : indus.Stmts) → stmts_under roots (lowered_block ss) ≡ lowered_block ss
+  block_same indus.done = refl
+  block_same (indus.next s ss) = ap₂ next (stmt_same s) (block_same ss)
+
+  else_same : (ss : indus.Stmts) → else_under roots (lowered_else ss) ≡ lowered_else ss
+  else_same indus.done = refl
+  else_same (indus.next s ss) = ap₂ (λ x y. otherwise (block 0 (next x y))) (stmt_same s) (block_same ss)
+
+one_of_same : (p : List (List ℕ)) → path_under roots p ≡ p → (links : List ℕ) → expr_under roots (is_one_of p links) ≡ is_one_of p links
+one_of_same p e [] = refl
+one_of_same p e (n ∷ ns) = ap₂ (λ q r. binary 0 p4.Either (binary 0 p4.Equal (path 0 q) (number 0 n)) r) e (one_of_same p e ns)
+
+joined_under : (a b : Stmts) → stmts_under roots (and_then a b) ≡ and_then (stmts_under roots a) (stmts_under roots b)
+joined_under done b = refl
+joined_under (next s ss) b = ap (next (stmt_under roots s)) (joined_under ss b)
+
+joined_same : (a : indus.Stmts) (b : Stmts) → stmts_under roots b ≡ b → stmts_under roots (and_then (lowered_block a) b) ≡ and_then (lowered_block a) b
+joined_same a b e = joined_under (lowered_block a) b ∙ ap₂ and_then (block_same a) e
+
+entry_same : (p : indus.Property) (links : List ℕ) → stmt_under roots (entry_stmt p links) ≡ entry_stmt p links
+entry_same p links =
+    ap₂ (λ t b. choice 0 (negation 0 t) (block 0 (next (Rattle.wire_linker.specs.Monitor.on_header (codes "setValid")) (next (assign 0 Rattle.wire_linker.specs.Monitor.mark_path (number 8 72)) b))) without)
+    (one_of_same Rattle.p4_tree.specs.Standard.ingress_port refl links) (block_same p.init)
+
+check_same : (p : indus.Property) (links : List ℕ) → stmt_under roots (check_stmt p links) ≡ check_stmt p links
+check_same p links =
+    ap₂ (λ t b. choice 0 (negation 0 t) (block 0 (next (Rattle.p4_tree.specs.Tree.var 0 Rattle.p4_tree.specs.declared.statement.PTy.TheVariants.Bool rejected_name (Rattle.std.specs.Prelude.Some (flag 0 false))) b)) without)
+    (one_of_same Rattle.p4_tree.specs.Standard.egress_port refl links) (joined_same p.check end_stmts refl)
+
+exit_same : (p : indus.Property) (links : List ℕ) → stmt_under roots (exit_stmt p links) ≡ exit_stmt p links
+exit_same p links =
+    ap (λ b. choice 0 (binary 0 p4.Differ (path 0 Rattle.p4_tree.specs.Standard.egress_spec) (number 0 511)) (block 0 b) without)
+    (joined_same p.tele (next (check_stmt p links) done) (ap (λ s. next s done) (check_same p links)))
+
+cases_same : (links : List ℕ) → map (case_under roots) (link_cases links) ≡ link_cases links
+cases_same [] = refl
+cases_same (n ∷ ns) = ap (λ cs. program.link_case n ∷ cs) (cases_same ns)
+
+fields_same : (ds : List indus.Decl) → map field_of (map program.tele_field ds) ≡ map parts.tele_field ds
+fields_same [] = refl
+fields_same (d ∷ ds) = ap (λ fs. parts.tele_field d ∷ fs) (fields_same ds)
+
+-- a linked program's parts, from those that differ
+abbrev built : List Field → List Case → Stmt → Stmt → Parts
+built fields cases entry exit =
+    record {
+      registers = rejects_cells ∷ [];
+      headers = record { path = tele_header; fields = record { name = codes "hydra_mark"; width = 8 } ∷ fields } ∷ [];
+      metadata = [];
+      states =
+          record { place = 0; name = codes "start"; body = []; next = Rattle.p4_tree.specs.Tree.select 0 (path 0 Rattle.p4_tree.specs.Standard.ingress_port ∷ []) cases }
+          ∷ program.taken_state
+          ∷ Rattle.wire_linker.specs.WireProgram.passing_state (codes "hydra_start") (codes "accept")
+          ∷ [];
+      verify = done;
+      ingress = next entry wire_ingress;
+      egress = next exit done;
+      compute = done;
+      emits = tele_header ∷ [];
+    }
+
+pub linked_wire_parts : (p : indus.Property) (links : List ℕ) → parts_of (linked_wire p links) ≡ linked_parts (parts_of wire_program) p links
+linked_wire_parts p links =
+    let e0 = stmt_under roots (entry_stmt p links) in
+    let e1 = stmt_under roots (exit_stmt p links) in
+    let cs = map (case_under roots) (link_cases links) in
+    ap (λ fs. built fs cs e0 e1) (fields_same p.decls)
+    ∙ ap (λ c. built (map parts.tele_field p.decls) c e0 e1) (cases_same links)
+    ∙ ap₂ (λ a b. built (map parts.tele_field p.decls) (link_cases links) a b) (entry_same p links) (exit_same p links)
+
+-- the wire program uses no name of the monitor's
+abbrev wire_states : List ParserState
+wire_states = (parts_of wire_program).states
+
+two_ways : (s : Reading) (b c : Bool) → (let r : Turned = if b then ends (parser_end s NoError) else (if c then leads (codes "accept") s else ends (parser_end s NoError)) in on_turned r (turns_of 2 [] wire_states) ≡ on_turned r (turns_of 1 [] wire_states))
+two_ways s true c = refl
+two_ways s false true = refl
+two_ways s false false = refl
+
+settled : (x : List ℕ) (s : Reading) → turns_of (suc (suc (length wire_states))) [] wire_states x s ≡ turns_of (suc (length wire_states)) [] wire_states x s
+settled x s = two_ways s (same_text x (codes "accept") || same_text x (codes "reject")) (same_text (codes "start") x)
+
+pub wire_forwards : IsForwarding (parts_of wire_program)
+wire_forwards =
+    record {
+      registers = tt;
+      headers = tt;
+      metadata = tt;
+      states = (record { name = refl; body = tt; next = refl }, tt);
+      verify = tt;
+      ingress = (((refl, tt), ((refl, refl, tt), tt), ((refl, refl, tt), tt)), tt);
+      egress = tt;
+      compute = tt;
+      emits = tt;
+      settles = settled;
+    }
+
+-- the names that a linked program declares
+mutual
+  stmt_names : (s : indus.Stmt) → names_in_stmt (lowered_stmt s) ≡ []
+  stmt_names (indus.assign p x e) = refl
+  stmt_names (indus.choice p e a b) = ap₂ (λ (x y : List (List ℕ)). x ++ y) (block_names a) (else_names b)
+  stmt_names (indus.reject p) = refl
+
+  block_names : (ss : indus.Stmts) → names_in (lowered_block ss) ≡ []
+  block_names indus.done = refl
+  block_names (indus.next s ss) = ap₂ (λ (x y : List (List ℕ)). x ++ y) (stmt_names s) (block_names ss)
+
+  else_names : (ss : indus.Stmts) → names_in_else (lowered_else ss) ≡ []
+  else_names indus.done = refl
+  else_names (indus.next s ss) = ap₂ (λ (x y : List (List ℕ)). x ++ y) (stmt_names s) (block_names ss)
+
+joined_names : (a : indus.Stmts) (b : Stmts) → names_in (and_then (lowered_block a) b) ≡ names_in b
+joined_names indus.done b = refl
+joined_names (indus.next s ss) b = ap₂ (λ (x y : List (List ℕ)). x ++ y) (stmt_names s) (joined_names ss b)
+
+abbrev IsKnown : List ℕ → Type 0
+IsKnown x = (names.is_one_of (names_of wire_program) x || is_mine x) ≡ true
+
+field_names : (ds : List indus.Decl) (rest : List (List ℕ)) → AllByRecursion IsKnown rest → AllByRecursion IsKnown (map (λ f. f.1) (map program.tele_field ds) ++ rest)
+field_names [] rest h = h
+field_names (d ∷ ds) rest h = (refl, field_names ds rest h)
+
+-- those that are no fields of the telemetry, where the ingress and the egress declare these
+abbrev other_names : (ingress egress : List (List ℕ)) → List (List ℕ)
+other_names ingress egress =
+    rejects_register
+    ∷ codes "metadata"
+    ∷ codes "headers" ∷ codes "hydra_tele"
+    ∷ codes "WireParser" ∷ codes "packet" ∷ codes "hdr" ∷ codes "meta" ∷ codes "standard_metadata"
+    ∷ codes "start" ∷ codes "hydra_taken" ∷ codes "hydra_start"
+    ∷ codes "WireVerify" ∷ codes "hdr" ∷ codes "meta"
+    ∷ codes "WireIngress" ∷ codes "hdr" ∷ codes "meta" ∷ codes "standard_metadata"
+    ∷ (ingress ++ (codes "WireEgress" ∷ codes "hdr" ∷ codes "meta" ∷ codes "standard_metadata"
+    ∷ (egress ++ (codes "WireCompute" ∷ codes "hdr" ∷ codes "meta" ∷ codes "WireDeparser" ∷ codes "packet" ∷ codes "hdr" ∷ []))))
+
+ingress_names : (p : indus.Property) (links : List ℕ) → names_in (next (entry_stmt p links) wire_ingress) ≡ []
+ingress_names p links = ap (λ (x : List (List ℕ)). (x ++ []) ++ []) (block_names p.init)
+
+egress_names : (p : indus.Property) (links : List ℕ) → names_in (next (exit_stmt p links) done) ≡ rejected_name ∷ count_name ∷ []
+egress_names p links =
+    ap (λ (x : List (List ℕ)). (x ++ []) ++ []) (joined_names p.tele (next (check_stmt p links) done))
+    ∙ ap (λ (x : List (List ℕ)). ((((rejected_name ∷ x) ++ []) ++ []) ++ []) ++ []) (joined_names p.check end_stmts)
+
+others_known : AllByRecursion IsKnown (other_names [] (rejected_name ∷ count_name ∷ []))
+others_known = (refl, (refl, (refl, (refl, (refl, (refl, (refl, (refl, (refl, (refl, (refl, (refl, (refl, (refl, (refl, (refl, (refl, (refl, (refl, (refl, (refl, (refl, (refl, (refl, (refl, (refl, (refl, (refl, (refl, (refl, (refl, tt)))))))))))))))))))))))))))))))
+
+pub linked_names : (p : indus.Property) (links : List ℕ) → AllByRecursion IsKnown (names_of (linked_wire p links))
+linked_names p links =
+    let fields : List (List ℕ) = map (λ f. f.1) (map program.tele_field p.decls) in
+    let is : names_of (linked_wire p links) ≡ codes "hydra_tele_t" ∷ codes "hydra_mark" ∷ (fields ++ other_names [] (rejected_name ∷ count_name ∷ [])) =
+        ap₂ (λ i e. codes "hydra_tele_t" ∷ codes "hydra_mark" ∷ (fields ++ other_names i e)) (ingress_names p links) (egress_names p links) in
+    subst (AllByRecursion IsKnown) (sym is) (refl, (refl, field_names p.decls (other_names [] (rejected_name ∷ count_name ∷ [])) others_known))
