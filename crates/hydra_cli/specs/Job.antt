@@ -3,6 +3,7 @@ use Rattle.std.specs.Prelude.{ℕ, List, map, string_bytes}
 use Rattle.std.specs.declared.string.String.{String}
 use Rattle.std.specs.declared.vec.Vec.{Vec}
 use Rattle.std.specs.declared.alloc.Global.{Global}
+use Rattle.indus_tree.specs.Small.{IsSmall}
 use Rattle.indus_tree.specs.Tree.{Property}
 use Rattle.indus_tree.specs.View.{property_of}
 use Rattle.hydra_cli.specs.declared.job.Job as code
@@ -16,6 +17,10 @@ pub data Job : Type 0 where
 -- the job that a value of the program stands for
 abbrev pub job_of : code.Job → Job
 job_of (variants.Wire w) = wire (property_of w.property) w.frame.items (string_bytes w.out)
+
+-- what is known of a job that was read: its property is of the first small grammar
+abbrev pub IsRead : Job → Type 0
+IsRead (wire p f o) = IsSmall p
 
 -- files in the order in which they are written, and the bytes for the sink
 pub record Out : Type 0 where

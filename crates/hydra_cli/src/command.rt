@@ -2,7 +2,7 @@
 
 ghost use Rattle.std.specs.Prelude.{◌≡◌, IfOk, MatchOption, None, Some, map, string_bytes};
 ghost use Rattle.hydra_cli.specs.Command.{command_of, course_of, wire};
-ghost use Rattle.hydra_cli.specs.Job.{job_of, out_of};
+ghost use Rattle.hydra_cli.specs.Job.{IsRead, job_of, out_of};
 ghost use Rattle.hydra_cli.specs.Output.{Outputs};
 ghost use Rattle.hydra_cli.specs.Plan.{Plans, said_by};
 ghost use Rattle.hydra_cli.specs.Steps.{Follows};
@@ -46,7 +46,8 @@ pub fn plan<S: Store>(alloc: Global, store: &mut S, command: Command<'_>) -> Res
 }
 
 fn read_job<S: Store>(alloc: Global, store: &mut S, command: Command<'_>) -> Result<Job, Stop>
-    ensures { Follows (course_of (said_by command.entry)) job_of (S.state store.old) (S.state store.new) result }
+    ensures follows { Follows (course_of (said_by command.entry)) job_of (S.state store.old) (S.state store.new) result }
+    ensures read { IfOk result (λ j. IsRead (job_of j)) }
 {
     match command {
         Command::Wire(property, frame, out) => read_wire(alloc, store, property, frame, out),
@@ -60,7 +61,8 @@ fn read_wire<S: Store>(
     frame: &str,
     out: &str,
 ) -> Result<Job, Stop>
-    ensures { Follows (course_of (wire property.now frame.now out.now)) job_of (S.state store.old) (S.state store.new) result }
+    ensures follows { Follows (course_of (wire property.now frame.now out.now)) job_of (S.state store.old) (S.state store.new) result }
+    ensures read { IfOk result (λ j. IsRead (job_of j)) }
 {
     let property = load_property(alloc, store, property)?;
     let frame = load_frame(alloc, store, frame)?;
@@ -73,6 +75,7 @@ fn read_wire<S: Store>(
 }
 
 fn run(alloc: Global, job: Job) -> Result<Output, AllocError>
+    requires read { IsRead (job_of job) }
     ensures { IfOk result (λ o. Outputs (job_of job) (out_of o)) }
 {
     match job {

@@ -1,6 +1,7 @@
 //! Files read in order, each with its refusals.
 
 ghost use Rattle.std.specs.Prelude.{◌≡◌, ◌≤◌, length, IfOk, string_bytes};
+ghost use Rattle.indus_tree.specs.Small.{IsSmall};
 ghost use Rattle.indus_tree.specs.View.{property_of};
 ghost use Rattle.hydra_cli.specs.Command.{IsNotBuilt, IsSpelled, frame, property};
 ghost use Rattle.hydra_cli.specs.Course.{file};
@@ -53,7 +54,8 @@ fn long_text(alloc: Global, area: Area, name: &str) -> Result<String, AllocError
 
 /// A property's file, whose text has to be of the small grammar.
 pub fn load_property<S: Store>(alloc: Global, store: &mut S, name: &str) -> Result<Property, Stop>
-    ensures { Follows (property name.now) property_of (S.state store.old) (S.state store.new) result }
+    ensures follows { Follows (property name.now) property_of (S.state store.old) (S.state store.new) result }
+    ensures small { IfOk result (λ p. IsSmall (property_of p)) }
 {
     let text = read_file(alloc, store, name, PROPERTY_LIMIT, Area::Property)?;
     read_property(alloc, name, &text)
@@ -61,7 +63,8 @@ pub fn load_property<S: Store>(alloc: Global, store: &mut S, name: &str) -> Resu
 
 fn read_property(alloc: Global, name: &str, text: &Vec<u8>) -> Result<Property, Stop>
     requires { length text.now.items ≤ 4096 }
-    ensures { Judged (IsSpelled text.now.items) (IsNotBuilt name.now text.now.items) property_of result }
+    ensures judged { Judged (IsSpelled text.now.items) (IsNotBuilt name.now text.now.items) property_of result }
+    ensures small { IfOk result (λ p. IsSmall (property_of p)) }
 {
     match read_small(alloc, text) {
         Ok(property) => Ok(property),

@@ -1,15 +1,18 @@
 //! The wire program's run: three switches in a line, and one frame.
 
 ghost use Rattle.std.specs.Prelude.{◌≡◌, ◌++◌, ◌∷◌, ◌<◌, ◌≤◌, ◌-◌, ◌*◌, ◌^◌, IfOk, OnOk, codes, count_by, length, map, nat_eq, string_bytes, sum_by, []};
+ghost use Rattle.indus_tree.specs.Small.{IsSmall};
 ghost use Rattle.indus_tree.specs.View.{property_of};
 ghost use Rattle.p4_tree.specs.View.{program_of};
 ghost use Rattle.wire_machine.specs.Machine.{machine_of};
 ghost use Rattle.wire_network.specs.Fates.{fate_of, net_of, told_of};
 ghost use Rattle.wire_network.specs.Travel.{travel};
 ghost use Rattle.hydra_cli.specs.Job.{file_of, files_of, out_of};
-ghost use Rattle.hydra_cli.specs.Line.{IsLinkedLine, summary_of_counts};
-ghost use Rattle.hydra_cli.specs.Network.{line3_links, link_limit, machine_for};
-ghost use Rattle.hydra_cli.specs.Output.{IsWireOutput, frame_files, program_file, rejected_at, report_receiver, summary_of_run};
+ghost use Rattle.program_linker.specs.Linkage.{report_receiver};
+ghost use Rattle.wire_linkage.specs.Ways.{line3_links};
+ghost use Rattle.hydra_cli.specs.Line.{IsLinkedLine, fate_files, rejected_by as rejected_of, summary_of_counts, summary_of_way};
+ghost use Rattle.hydra_cli.specs.Network.{link_limit, machine_for};
+ghost use Rattle.hydra_cli.specs.Output.{IsWireOutput, program_file};
 
 use crate::job::{Output, WireJob};
 use indus_tree::Property;
@@ -62,6 +65,7 @@ pub struct Counts {
 
 /// Links the property into the wire program on the three switches, and carries the frame.
 pub fn run_wire(alloc: Global, job: WireJob) -> Result<Output, AllocError>
+    requires small { IsSmall (property_of job.property) }
     ensures { IfOk result (λ o. IsWireOutput (property_of job.property) job.frame.items (string_bytes job.out) (out_of o)) }
 {
     let WireJob {
@@ -173,7 +177,7 @@ fn link_limit_of(property: &Property) -> u32
 
 /// Rejected are those that the switches' registers count, and dropped all others that were dropped.
 fn count(fate: &Fate, switches: &[Switch], told: &[Told]) -> Counts
-    ensures { summary_of_counts result ≡ summary_of_run (record { 0 = net_of (map machine_of switches.now) told.now; 1 = fate_of fate.now }) }
+    ensures { summary_of_counts result ≡ summary_of_way (record { 0 = net_of (map machine_of switches.now) told.now; 1 = fate_of fate.now }) }
 {
     let rejected = rejected(switches);
     let (sent, ended, lost) = match fate {
@@ -202,7 +206,7 @@ fn unless_rejected(ended: u128, rejected: u128) -> u128
 
 /// How many packets the switches' registers count.
 fn rejected(switches: &[Switch]) -> u128
-    ensures sum { result ≡ sum_by rejected_at (map machine_of switches.now) }
+    ensures sum { result ≡ sum_by rejected_of (map machine_of switches.now) }
     ensures low { result ≤ length switches.now * 2 ^ 32 }
 {
     match switches {
@@ -212,7 +216,7 @@ fn rejected(switches: &[Switch]) -> u128
 }
 
 fn rejected_by(switch: &Switch) -> u128
-    ensures value { result ≡ rejected_at (machine_of switch.now) }
+    ensures value { result ≡ rejected_of (machine_of switch.now) }
     ensures low { result < 2 ^ 32 }
 {
     match switch.cell("hydra_rejects", 0) {
@@ -241,7 +245,7 @@ fn push_frame(
     out: &String,
     fate: Fate,
 ) -> Result<(), AllocError>
-    ensures { OnOk result (files_of files.new.items ≡ files_of files.old.items ++ frame_files (string_bytes out.now) (fate_of fate)) }
+    ensures { OnOk result (files_of files.new.items ≡ files_of files.old.items ++ fate_files (string_bytes out.now) (fate_of fate)) }
 {
     if let Fate::Left { frame, .. } = fate {
         let name = format!(in alloc; "{out}.frame")?;

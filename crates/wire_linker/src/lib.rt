@@ -4,8 +4,8 @@
 //! grammar the linked program of a switch. Telemetry is a header in front of the frame on links.
 //! How a frame arrived is known from its ingress port alone.
 //!
-//! Follows: P4_16 and v1model, this project's subset. That linked programs are a linkage is not said
-//! here.
+//! Follows: P4_16 and v1model, this project's subset. That linked programs are a linkage is said
+//! in `wire_linkage`.
 #![tactic(auto)]
 
 mod linked;

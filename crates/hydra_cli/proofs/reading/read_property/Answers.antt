@@ -2,8 +2,8 @@
 use Rattle.std.proofs.Common.{refl}
 use Rattle.hydra_cli.proofs.reading.read_property.Goals as goal
 
-pub returns-in-Ok : goal.returns-in-Ok
-returns-in-Ok c =
+pub returns-in-Ok-clause-judged : goal.returns-in-Ok-clause-judged
+returns-in-Ok-clause-judged c =
     let spelled = rw c.deref.ensures.value at c.in-Ok.ensures.found in
     record {
       given = spelled;
@@ -11,8 +11,8 @@ returns-in-Ok c =
       free = λ s l refused. refused.2 _ spelled;
     }
 
-pub returns-in_ok-not_built_text-in-Err-NotBuilt : goal.returns-in_ok-not_built_text-in-Err-NotBuilt
-returns-in_ok-not_built_text-in-Err-NotBuilt c =
+pub returns-in_ok-not_built_text-in-Err-NotBuilt-clause-judged : goal.returns-in_ok-not_built_text-in-Err-NotBuilt-clause-judged
+returns-in_ok-not_built_text-in-Err-NotBuilt-clause-judged c =
     let none = (rw c.deref.ensures.value at c.in-Err-NotBuilt.ensures.not_built) c.in-Err-NotBuilt.field-0-is in
     record {
       kind = tt;
