@@ -1,9 +1,9 @@
 -- What blocks do, and a property's two parts at a hop.
-use Rattle.std.specs.Prelude.{ℕ, List, [], Bool, true, false, if◌then◌else◌, Option, Some, None}
+use Rattle.std.specs.Prelude.{ℕ, List, [], true, false, if◌then◌else◌}
 use Rattle.bit_values.specs.Bits.{Word}
 use Rattle.bit_values.specs.Widths.{holds, sound_width, cast_word}
 use Rattle.indus_tree.specs.Tree.{Expr, Stmt, Stmts, assign, choice, reject, done, next, Property}
-use Rattle.indus_tree.specs.State.{Hop, Report, Doing, lookup, held_width, put, put_cell}
+use Rattle.indus_tree.specs.State.{Hop, Doing, lookup, held_width, put, put_cell}
 use Rattle.indus_tree.specs.Value.{Seen, value_of}
 
 -- what an expression of a statement sees

@@ -2,7 +2,7 @@
 use Rattle.std.specs.Prelude.{ℕ, List, [], ◌∷◌, length, slice_set, Bool, nat_lt, if◌then◌else◌, Option, Some, None}
 use Rattle.bit_values.specs.Bits.{Word, word}
 use Rattle.bit_values.specs.Widths.{sound_width}
-use Rattle.lex_text.specs.Names.{Text, same_text}
+use Rattle.lex_text.specs.Names.{same_text}
 use Rattle.indus_tree.specs.Tree.{Decl}
 use Rattle.indus_tree.specs.declared.tree.Shape.{Shape}
 use Rattle.indus_tree.specs.declared.tree.Shape.TheVariants.{One}

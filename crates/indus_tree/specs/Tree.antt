@@ -1,5 +1,5 @@
 -- Trees of properties without pointers. The first part of each node is the number of its first token.
-use Rattle.std.specs.Prelude.{◌≡◌, ℕ, List, [], ◌∷◌, ◌++◌, map, Bool, Option, Some, None}
+use Rattle.std.specs.Prelude.{◌≡◌, ℕ, List, [], ◌∷◌, map, Bool, Option}
 use Rattle.std.specs.Option.{option_map}
 use Rattle.lex_text.specs.declared.literal.Literal.{Literal}
 use Rattle.indus_tree.specs.declared.tree.DeclKind.{DeclKind}

@@ -1,6 +1,6 @@
 -- The value of an expression. An expression takes numbers of any width: each operand is cast to the width
 -- that its place gives, which changes nothing in a well-typed property.
-use Rattle.std.specs.Prelude.{ℕ, List, [], ◌∷◌, Bool, ◌&&◌, ◌||◌, if◌then◌else◌, not, nat_eq, nat_lt, nat_le, Option, bit_and, bit_or, bit_xor}
+use Rattle.std.specs.Prelude.{ℕ, List, [], ◌∷◌, ◌&&◌, ◌||◌, not, nat_eq, nat_lt, nat_le, bit_and, bit_or, bit_xor}
 use Rattle.bit_values.specs.Bits.{Word, word, add, sub, mul, shl, shr, cast}
 use Rattle.bit_values.specs.Widths.{bit, holds, either_width, sound_width, cast_word}
 use Rattle.indus_tree.specs.Tree.{Expr, num, read, binary}

@@ -1,5 +1,5 @@
 -- The trees that the values of the program stand for.
-use Rattle.std.specs.Prelude.{ℕ, List, map}
+use Rattle.std.specs.Prelude.{List, map}
 use Rattle.std.specs.Option.{option_map}
 use Rattle.indus_tree.specs.Tree.{Expr, num, read, binary, Stmt, Stmts, assign, choice, reject, block_from, Decl, Property}
 use Rattle.indus_tree.specs.declared.tree.Expr as code_expr

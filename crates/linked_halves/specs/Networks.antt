@@ -10,7 +10,7 @@ use Rattle.indus_tree.specs.State as indus
 use Rattle.indus_tree.specs.State.{Hop, tele_start}
 use Rattle.indus_tree.specs.Meaning.{run_of}
 use Rattle.path_runner.specs.Machine.{Digest, Entered, Going, Leaving, Machine}
-use Rattle.path_runner.specs.Network.{Wiring, Link}
+use Rattle.path_runner.specs.Network.{Link}
 use Rattle.path_runner.specs.PathMeaning as law
 use Rattle.program_linker.specs.Linkage as linkage
 use Rattle.wire_linker.specs.Monitor.{rejects_register}

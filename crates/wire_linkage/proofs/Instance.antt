@@ -1,11 +1,11 @@
 -- The linked wire programs have the linked parts of the wire program, which uses no name of the monitor's.
-use Rattle.std.proofs.Common.{◌≡◌, codes, ℕ, suc, List, [], ◌∷◌, ◌++◌, map, length, Bool, true, false, ◌||◌, cond, refl, ap, ap₂, sym, ◌∙◌, subst}
+use Rattle.std.proofs.Common.{◌≡◌, codes, ℕ, suc, List, [], ◌∷◌, ◌++◌, map, length, Bool, true, false, ◌||◌, refl, ap, ap₂, sym, ◌∙◌, subst}
 use Rattle.std.specs.Prelude.{if◌then◌else◌}
 use Rattle.std.specs.List.{AllByRecursion}
 use Rattle.lex_text.specs.Names.{same_text}
 use Rattle.p4_tree.specs.Tree.{Expr, num, path, flag, binary, negation, Stmt, assign, choice, block, Stmts, MaybeStmt, otherwise, Case, ParserState, and_then, next, done, without}
-use Rattle.p4_tree.specs.Parsing.{Field, Header, Reading, Turned, ends, leads, parser_end, NoError, on_turned, turns_of}
-use Rattle.p4_tree.specs.Parts.{Cells, Roots, Parts, path_under, expr_under, stmt_under, stmts_under, else_under, case_under, state_under, field_of, parts_of}
+use Rattle.p4_tree.specs.Parsing.{Field, Reading, Turned, ends, leads, parser_end, NoError, on_turned, turns_of}
+use Rattle.p4_tree.specs.Parts.{Roots, Parts, path_under, expr_under, stmt_under, stmts_under, else_under, case_under, field_of, parts_of}
 use Rattle.p4_tree.specs.declared.statement.Op.TheVariants as p4
 use Rattle.indus_tree.specs.Tree as indus
 use Rattle.indus_tree.specs.Names as names
@@ -188,5 +188,5 @@ pub linked_names : (p : indus.Property) (links : List ℕ) → AllByRecursion Is
 linked_names p links =
     let fields : List (List ℕ) = map (λ f. f.1) (map program.tele_field p.decls) in
     let is : names_of (linked_wire p links) ≡ codes "hydra_tele_t" ∷ codes "hydra_mark" ∷ (fields ++ other_names [] (rejected_name ∷ count_name ∷ [])) =
-        ap₂ (λ i e. codes "hydra_tele_t" ∷ codes "hydra_mark" ∷ (fields ++ other_names i e)) (ingress_names p links) (egress_names p links) in
+    ap₂ (λ i e. codes "hydra_tele_t" ∷ codes "hydra_mark" ∷ (fields ++ other_names i e)) (ingress_names p links) (egress_names p links) in
     subst (AllByRecursion IsKnown) (sym is) (refl, (refl, field_names p.decls (other_names [] (rejected_name ∷ count_name ∷ [])) others_known))

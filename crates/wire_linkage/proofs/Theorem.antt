@@ -1,5 +1,5 @@
 -- The linked wire programs are a linkage.
-use Rattle.std.proofs.Common.{◌≡◌, ℕ, ◌≤◌, sym, ap, ◌∙◌, subst, arith, refl}
+use Rattle.std.proofs.Common.{◌≡◌, sym, ap, subst, arith}
 use Rattle.p4_tree.specs.Parts.{parts_of}
 use Rattle.p4_tree.specs.Pass.{Registers, Queued}
 use Rattle.indus_tree.specs.Tree.{Property}
@@ -7,12 +7,11 @@ use Rattle.indus_tree.specs.Small.{IsSmall}
 use Rattle.path_runner.specs.Machine.{Machine}
 use Rattle.program_linker.specs.Linkage.{Linkage}
 use Rattle.wire_linker.specs.WireProgram.{wire_program}
-use Rattle.linked_halves.specs.LinkedParts.{linked_parts}
 use Rattle.linked_halves.specs.Telemetry.{telemetry_of}
 use Rattle.linked_halves.specs.Networks.{machine_of, law_of, registers_of, ports_at}
 use Rattle.linked_halves.specs.Given.{Given, IsGiven, linked_machine, AnyEntries, NoVariable, NoContents}
 use Rattle.linked_halves.proofs.Theorem.{linked}
-use Rattle.wire_linkage.specs.Line.{line3, program_at, plain_line, linked_line}
+use Rattle.wire_linkage.specs.Line.{line3, plain_line, linked_line}
 use Rattle.wire_linkage.specs.Linkage.{IsWireLinkage}
 use Rattle.wire_linkage.proofs.Instance.{linked_wire_parts, wire_forwards, linked_names}
 use Rattle.wire_linkage.proofs.Ways.{line3_is}

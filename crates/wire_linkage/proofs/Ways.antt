@@ -1,6 +1,6 @@
 -- The way of one packet is the run of the network law.
-use Rattle.std.proofs.Common.{◌≡◌, ℕ, zero, suc, ◌+◌, ◌<◌, ◌≤◌, List, [], ◌∷◌, ◌++◌, map, length, take, Bool, true, false, not, cond, ◌&&◌, ◌||◌, Option, Some, None, refl, sym, ap, ap₂, ◌∙◌, subst, arith, append-nil, append_assoc}
-use Rattle.std.specs.Prelude.{if◌then◌else◌, nat_eq, nat_lt, nat_le, slice_get, slice_set, ◌==◌}
+use Rattle.std.proofs.Common.{◌≡◌, ℕ, zero, suc, ◌+◌, ◌<◌, List, [], ◌∷◌, ◌++◌, map, length, Bool, true, false, not, cond, ◌&&◌, ◌||◌, Option, Some, None, refl, sym, ap, ap₂, ◌∙◌, subst, arith, append-nil, append_assoc}
+use Rattle.std.specs.Prelude.{nat_eq, nat_lt, nat_le, slice_get, slice_set, ◌==◌}
 use Rattle.std.proofs.lemmas.List.{map-append}
 use Rattle.std.proofs.lemmas.Bool.Decides.{nat_tests}
 use Rattle.std.proofs.lemmas.List.Elements.{All-cons, All-nil}
@@ -12,14 +12,14 @@ use Rattle.indus_tree.specs.Tree.{Property}
 use Rattle.path_runner.specs.Machine as law_machine
 use Rattle.path_runner.specs.Network as law
 use Rattle.path_runner.specs.Network.{IsWiring, IsLinkOf, far_end_among, Flying, Waiting, Over}
-use Rattle.path_runner.specs.Events.{Event, Enter, Leave, to_its_end}
+use Rattle.path_runner.specs.Events.{Event, Enter, to_its_end}
 use Rattle.path_runner.specs.NetworkRun.{Limits, longest_frame, put, told_by, queued_or_over, dropped_if_none, entry_half, exit_half, enters, leaves, run_of_halves, lost_if}
 use Rattle.path_runner.specs.NetworkRun as law_run
-use Rattle.path_runner.specs.World.{first_net, net_at_end}
+use Rattle.path_runner.specs.World.{first_net}
 use Rattle.path_runner.proofs.Numbers.{nat_eq_self}
-use Rattle.path_runner.proofs.Links.{FarEnd, far_end_is}
+use Rattle.path_runner.proofs.Links.{far_end_is}
 use Rattle.wire_machine.specs.Machine.{Machine, goes_to}
-use Rattle.wire_network.specs.Travel.{Net, Fate, left, dropped, lost, left_from, passage, passed, is_end, far_end, at_edge, Way, on_link, behind, at_switch, no_way, travel}
+use Rattle.wire_network.specs.Travel.{Net, Fate, left, dropped, lost, left_from, passed, is_end, far_end, Way, on_link, behind, at_switch, no_way, travel}
 use Rattle.wire_network.specs.declared.link.Link.{Link}
 use Rattle.linked_halves.specs.Telemetry.{telemetry_of}
 use Rattle.linked_halves.specs.Networks.{digest_of, machine_of, going_of}

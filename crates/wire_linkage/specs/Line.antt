@@ -1,7 +1,7 @@
 -- The wire program's network, its programs, and the run of one packet through it.
 use Rattle.std.specs.Prelude.{ℕ, List, [], ◌∷◌}
 use Rattle.p4_tree.specs.Tree.{Program}
-use Rattle.p4_tree.specs.Parts.{Parts, parts_of}
+use Rattle.p4_tree.specs.Parts.{parts_of}
 use Rattle.p4_tree.specs.Pass.{Registers, Queued}
 use Rattle.indus_tree.specs.Tree.{Property}
 use Rattle.path_runner.specs.Machine.{Machine}

@@ -1,5 +1,5 @@
 -- What is said of the linked wire programs of a property.
-use Rattle.std.specs.Prelude.{◌≡◌, ℕ, List, ◌∷◌, true, ◌||◌}
+use Rattle.std.specs.Prelude.{◌≡◌, ℕ, ◌∷◌, true, ◌||◌}
 use Rattle.std.specs.List.{AllByRecursion}
 use Rattle.p4_tree.specs.Parts.{parts_of}
 use Rattle.indus_tree.specs.Tree.{Property}

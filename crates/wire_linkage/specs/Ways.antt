@@ -9,7 +9,7 @@ use Rattle.wire_machine.specs.Machine.{Machine}
 use Rattle.wire_network.specs.Travel.{Net, Fate, left, dropped, lost}
 use Rattle.wire_network.specs.declared.link.Link.{Link}
 use Rattle.linked_halves.specs.Networks.{digest_of}
-use Rattle.wire_linkage.specs.Line.{line3, program_at}
+use Rattle.wire_linkage.specs.Line.{program_at}
 
 -- the links of `line3`, as the program holds them
 abbrev pub line3_links : List Link

@@ -1,6 +1,6 @@
 -- Which tokens spell a property: one case for each production, on whole lists of tokens. The place of each
 -- node is the number of its first token.
-use Rattle.std.specs.Prelude.{◌≡◌, ℕ, suc, ◌+◌, ◌<◌, Bool, true, false, ◌||◌, List, [], ◌∷◌, ◌++◌, length, None, codes}
+use Rattle.std.specs.Prelude.{◌≡◌, ℕ, suc, ◌+◌, ◌<◌, Bool, true, false, List, [], ◌∷◌, ◌++◌, length, None}
 use Rattle.lex_text.specs.declared.literal.Literal.{Literal}
 use Rattle.indus_tree.specs.Names.{is_declared, is_keyword, is_built_in}
 use Rattle.indus_tree.specs.Tree.{Expr, num, read, binary, Stmt, Stmts, assign, choice, reject, done, next, Decl, Property}
