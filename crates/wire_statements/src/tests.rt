@@ -50,7 +50,11 @@ fn start(alloc: Global) -> Result<Run, AllocError> {
     fields.set_field(alloc, &header, &Name::new(alloc, "kind")?, byte(7))?;
     fields.set(alloc, &path(alloc, &["m", "seen"])?, byte(0))?;
     fields.set(alloc, &path(alloc, &["m", "other"])?, byte(0))?;
-    fields.set(alloc, &standard_path(alloc, "egress_spec")?, Bits::new(9, 0))?;
+    fields.set(
+        alloc,
+        &standard_path(alloc, "egress_spec")?,
+        Bits::new(9, 0),
+    )?;
     let mut cells = Vec::new(alloc);
     cells.push(byte(0))?;
     cells.push(byte(0))?;
@@ -120,11 +124,17 @@ fn statements_run(rt: HostRuntime) -> Result<(), Fail> {
     assert_eq!(rt; run.fields.read(&path(alloc, &["m", "other"])?), byte(1));
     let spec = standard_path(alloc, "egress_spec")?;
     assert_eq!(rt; run.fields.read(&spec), Bits::new(9, 511));
-    assert_eq!(rt; cells_of(&run.registers, "count"), [byte(0), byte(4)].as_slice());
+    assert_eq!(rt;
+        cells_of(&run.registers, "count"),
+        [byte(0), byte(4)].as_slice()
+    );
     assert_eq!(rt; cells_of(&run.registers, "other").len(), 0);
     assert_eq!(rt; run.digests.len(), 1);
     assert_eq!(rt; run.digests[0].receiver, 7);
-    assert_eq!(rt; run.digests[0].values.as_slice(), [byte(8), byte(4)].as_slice());
+    assert_eq!(rt;
+        run.digests[0].values.as_slice(),
+        [byte(8), byte(4)].as_slice()
+    );
     Ok(())
 }
 
@@ -149,7 +159,10 @@ fn fields_are_read_and_written(rt: HostRuntime) -> Result<(), Fail> {
     assert_eq!(rt; (width(value), value.value), (8, 10));
     let mut list = Vec::new(alloc);
     list.push(sum)?;
-    assert_eq!(rt; values_of(alloc, &list, &fields)?.as_slice(), [byte(10)].as_slice());
+    assert_eq!(rt;
+        values_of(alloc, &list, &fields)?.as_slice(),
+        [byte(10)].as_slice()
+    );
     fields.forget_variables();
     assert_eq!(rt; fields.read(&path(alloc, &["x"])?).value, 0);
     Ok(())
