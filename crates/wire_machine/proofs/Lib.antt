@@ -1,6 +1,3 @@
-pub mod FieldsLemmas
-pub mod ValueLemmas
-pub mod RegistersLemmas
 pub mod ParseLemmas
 pub mod WriteLemmas
 pub mod SwitchLemmas

@@ -4,7 +4,7 @@ use Rattle.bit_values.specs.Bits.{Word, word}
 use Rattle.lex_text.specs.Names.{same_text}
 use Rattle.p4_tree.specs.Parts.{Cells}
 use Rattle.p4_tree.specs.Pass.{zero_cells, start_cells}
-use Rattle.wire_machine.specs.Runs.{Rows, cells_in}
+use Rattle.wire_statements.specs.Runs.{Rows, cells_in}
 use Rattle.wire_machine.specs.Rows.{row_of, row_at_start}
 
 zero_more : (w n : ℕ) → zero_cells w n ++ word w 0 ∷ [] ≡ zero_cells w (suc n)

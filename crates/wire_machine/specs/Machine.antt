@@ -4,9 +4,9 @@ use Rattle.std.specs.Option.{option_map}
 use Rattle.p4_tree.specs.Parts.{Parts}
 use Rattle.p4_tree.specs.Pass.{Registers, Queued, Going}
 use Rattle.wire_parts.specs.PartsIn.{parts_in}
-use Rattle.wire_machine.specs.Fields.{store_of}
+use Rattle.wire_statements.specs.Fields.{store_of}
 use Rattle.wire_machine.specs.Rests.{rest_in}
-use Rattle.wire_machine.specs.Runs.{cells_in}
+use Rattle.wire_statements.specs.Runs.{cells_in}
 use Rattle.wire_machine.specs.declared.queued.Queued as code_queued
 use Rattle.wire_machine.specs.declared.switch.Switch as code_switch
 use Rattle.wire_machine.specs.declared.passed.Passed as code_passed

@@ -4,8 +4,8 @@ use Rattle.std.proofs.Common.{Bor}
 use Rattle.bit_values.specs.Bytes.{bits_of}
 use Rattle.p4_tree.specs.Parsing as parsing
 use Rattle.p4_tree.specs.Parsing.{Reading, Parsed, goes_on, stops, ParserEnd, parser_end, Turned, ends, leads}
-use Rattle.wire_machine.specs.Fields.{store_of}
-use Rattle.wire_machine.specs.declared.fields.Fields.{Fields}
+use Rattle.wire_statements.specs.Fields.{store_of}
+use Rattle.wire_statements.specs.declared.fields.Fields.{Fields}
 use Rattle.wire_machine.specs.declared.parse.ParserError as code_error
 use Rattle.wire_machine.specs.declared.parse.ParserError.TheVariants as error
 use Rattle.wire_machine.specs.declared.parse.Step as code_step

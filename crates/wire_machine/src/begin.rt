@@ -5,17 +5,22 @@ ghost use Rattle.bit_values.specs.Bits.{word, cast};
 ghost use Rattle.p4_tree.specs.Standard.{standard_root, metadata_root, egress_spec};
 ghost use Rattle.p4_tree.specs.Store.{blank, set_value};
 ghost use Rattle.p4_tree.specs.Pass.{zero_fields, no_headers, with_standard, store_before, is_dropped, to_egress, store_behind};
-ghost use Rattle.wire_machine.specs.Fields.{store_of};
+ghost use Rattle.wire_statements.specs.Fields.{store_of};
 ghost use Rattle.wire_parts.specs.Headers.{field_in, header_in};
 ghost use Rattle.wire_parts.specs.PartsIn.{parts_in};
 
-use crate::calls::standard_path;
-use crate::eval::number;
-use crate::fields::Fields;
 use bit_values::Bits;
 use lex_text::Name;
 use std::alloc::{AllocError, Global};
 use wire_parts::{Field, Header, Parts, path_of_one, sound_width};
+use wire_statements::{Fields, standard_path};
+
+/// A number without its width.
+fn number(value: Bits) -> u128
+    ensures { result ≡ value.value }
+{
+    value.value
+}
 
 /// Sets a field of the standard metadata.
 pub fn set_standard(alloc: Global, field: &str, v: Bits, s: &mut Fields) -> Result<(), AllocError>

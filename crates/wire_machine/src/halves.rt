@@ -6,22 +6,20 @@ ghost use Rattle.bit_values.specs.Bytes.{bits_of};
 ghost use Rattle.p4_tree.specs.Statements.{meaning_of};
 ghost use Rattle.p4_tree.specs.Pass.{store_behind, run_from, error_number};
 ghost use Rattle.wire_parts.specs.PartsIn.{parts_in};
-ghost use Rattle.wire_machine.specs.Fields.{store_of};
+ghost use Rattle.wire_statements.specs.Fields.{store_of};
 ghost use Rattle.wire_machine.specs.Places.{error_of};
-ghost use Rattle.wire_machine.specs.Runs.{run_of, cells_in, digest_of};
+ghost use Rattle.wire_statements.specs.Runs.{run_of, cells_in, digest_of};
 ghost use Rattle.wire_machine.specs.Halves.{parser_ends, ingress_run, egress_run, computed};
 
 use crate::begin::{set_number, store_before};
-use crate::fields::Fields;
 use crate::parse::ParserError;
-use crate::run::{Digest, Run};
-use crate::statements::run_stmts;
 use crate::states::run_states;
 use bit_values::Bits;
 use lex_text::Name;
 use std::alloc::{AllocError, Global};
 use std::mem;
 use wire_parts::Parts;
+use wire_statements::{Digest, Fields, Run, run_stmts};
 
 fn error_number(e: ParserError) -> u128
     ensures value { result ≡ error_number (error_of e) }

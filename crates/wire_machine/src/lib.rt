@@ -2,7 +2,8 @@
 //!
 //! The layers above get `Switch`: a program's parts and the cells of its registers, with the two
 //! halves of a pass, `enter` and `leave`. Contracts see a switch as a `Machine` of `specs/`, and
-//! what each half does as `parts_enter` and `parts_leave` of the trees' meaning.
+//! what each half does as `parts_enter` and `parts_leave` of the trees' meaning. What statements do,
+//! and the type of a digest, stand in `wire_statements`.
 //!
 //! Follows: P4_16 Language Specification and v1model, this project's subset.
 //!
@@ -11,18 +12,12 @@
 #![tactic(auto)]
 
 mod begin;
-mod calls;
-mod eval;
-mod fields;
 mod halves;
 mod parse;
 mod passed;
 mod queued;
-mod registers;
 mod rest;
-mod run;
 mod select;
-mod statements;
 mod states;
 mod switch;
 #[cfg(test)]
@@ -32,5 +27,4 @@ mod writer;
 
 pub use passed::Passed;
 pub use queued::Queued;
-pub use run::Digest;
 pub use switch::Switch;

@@ -3,18 +3,16 @@
 ghost use Rattle.std.specs.Prelude.{◌≡◌, ◌≤◌, ◌*◌, ◌+◌, length, nat_le, IfOk, OnOk, map};
 ghost use Rattle.p4_tree.specs.View.{arg_of, stmt_of};
 ghost use Rattle.p4_tree.specs.Parsing.{width_sum, field_taken, fields_taken, extracted, extracted_at, call_parsed, stmt_parsed, body_parsed};
-ghost use Rattle.wire_machine.specs.Fields.{store_of};
+ghost use Rattle.wire_statements.specs.Fields.{store_of};
 ghost use Rattle.wire_parts.specs.Headers.{field_in, header_in};
 ghost use Rattle.wire_machine.specs.Places.{reading_of, parsed_of, StepsWithin};
 
-use crate::calls::assign;
-use crate::eval::{value_of, width};
-use crate::fields::Fields;
 use bit_values::take_bits;
 use lex_text::Name;
 use p4_tree::{Arg, Expr, Stmt};
 use std::alloc::{AllocError, Global};
 use wire_parts::{Field, Header, same_path};
+use wire_statements::{Fields, assign, value_of, width};
 
 /// How a parser ends.
 #[derive(Clone, Copy, Debug, PartialEq, Eq)]

@@ -4,18 +4,18 @@ ghost use Rattle.std.specs.Prelude.{◌≡◌, ◌≤◌, ◌*◌, ◌++◌, len
 ghost use Rattle.bit_values.specs.Bytes.{bits_of};
 ghost use Rattle.p4_tree.specs.Parsing.{bytes_of, deparse_of};
 ghost use Rattle.p4_tree.specs.Pass.{is_dropped, to_egress, unless_dropped};
-ghost use Rattle.wire_machine.specs.Fields.{store_of};
+ghost use Rattle.wire_statements.specs.Fields.{store_of};
 ghost use Rattle.wire_machine.specs.Rests.{rest_in};
 ghost use Rattle.wire_machine.specs.Machine.{queued_of};
 ghost use Rattle.std.specs.Option.{option_map};
 ghost use Rattle.wire_parts.specs.PartsIn.{parts_in};
 
 use crate::begin::{is_dropped, to_egress};
-use crate::fields::Fields;
 use crate::rest::Rest;
 use crate::writer::BitWriter;
 use std::alloc::{AllocError, Global};
 use wire_parts::Parts;
+use wire_statements::Fields;
 
 /// A packet that waits for egress: its store, and the bits that the parser did not consume.
 #[derive(Drop)]

@@ -4,16 +4,15 @@ ghost use Rattle.std.specs.Prelude.{◌≡◌, IfOk, map};
 ghost use Rattle.p4_tree.specs.View.{expr_of, keyset_of, case_of, transition_of};
 ghost use Rattle.p4_tree.specs.Value.{value_of};
 ghost use Rattle.p4_tree.specs.Parsing.{chosen, fits, fits_each, fits_all, first_fit, state_after};
-ghost use Rattle.wire_machine.specs.Fields.{store_of};
+ghost use Rattle.wire_statements.specs.Fields.{store_of};
 ghost use Rattle.wire_machine.specs.Places.{name_of, led_of};
 
-use crate::eval::{value_of, values_of, width};
-use crate::fields::Fields;
 use crate::parse::ParserError;
 use bit_values::Bits;
 use lex_text::Name;
 use p4_tree::{Expr, Keyset, Transition};
 use std::alloc::{AllocError, Global};
+use wire_statements::{Fields, value_of, values_of, width};
 
 fn fits(k: &Keyset, key: Bits, s: &Fields) -> bool
     ensures { result ≡ fits (keyset_of k.now) key (store_of s.now) }

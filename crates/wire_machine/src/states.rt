@@ -6,13 +6,13 @@ ghost use Rattle.p4_tree.specs.Parsing.{in_state, one_turn, turns_of, parser_end
 ghost use Rattle.wire_parts.specs.Headers.{header_in};
 ghost use Rattle.wire_machine.specs.Places.{error_of, reading_of, turned_of, TurnsWithin};
 
-use crate::fields::Fields;
 use crate::parse::{ParserError, Step, parse_body};
 use crate::select::{Led, state_after};
 use lex_text::Name;
 use p4_tree::ParserState;
 use std::alloc::{AllocError, Global};
 use wire_parts::{Header, same_text};
+use wire_statements::Fields;
 
 /// How a state ends: the parser ends, or another state follows.
 pub enum Turn<'a> {

@@ -8,19 +8,18 @@ ghost use Rattle.wire_parts.specs.PartsIn.{cells_decl};
 ghost use Rattle.bit_values.specs.Bits.{cast};
 ghost use Rattle.wire_machine.specs.Machine.{goes_to, machine_of, passed_of, queued_of};
 ghost use Rattle.std.specs.Option.{option_map};
-ghost use Rattle.wire_machine.specs.Runs.{cells_in, digest_of};
+ghost use Rattle.wire_statements.specs.Runs.{cells_in, digest_of};
 
 use crate::begin::{is_dropped, standard_value};
 use crate::halves::{computed, egress, ingress, parse};
 use crate::passed::Passed;
 use crate::queued::{Queued, queue, taken, write_frame};
-use crate::registers::cells_of;
-use crate::run::Digest;
 use bit_values::Bits;
 use lex_text::Name;
 use p4_tree::Program;
 use std::alloc::{AllocError, Global};
 use wire_parts::{Cells, Parts, parts_of, sound_width};
+use wire_statements::{Digest, cells_of};
 
 /// A switch that runs a program: its parts, and the cells of its registers.
 #[derive(Drop)]

@@ -1,7 +1,7 @@
 //! A small program, by hand: a header is extracted, a field incremented, a register counted, a
 //! digest sent, and a packet dropped by its kind.
 
-use crate::{Digest, Passed, Switch};
+use crate::{Passed, Switch};
 use bit_values::Bits;
 use lex_text::{Literal, Name};
 use p4_tree::{
@@ -10,6 +10,7 @@ use p4_tree::{
 };
 use std::alloc::{AllocError, Global};
 use std::test::Fail;
+use wire_statements::Digest;
 
 fn path(alloc: Global, names: &[&str]) -> Result<Vec<Name>, AllocError> {
     let mut path = Vec::new(alloc);

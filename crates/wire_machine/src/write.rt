@@ -6,19 +6,18 @@ ghost use Rattle.bit_values.specs.Bits.{word};
 ghost use Rattle.bit_values.specs.BitLists.{number_bits};
 ghost use Rattle.bit_values.specs.Bytes.{bits_of};
 ghost use Rattle.p4_tree.specs.Parsing.{bytes_of, fields_bits, header_bits, deparse_of};
-ghost use Rattle.wire_machine.specs.Fields.{store_of};
+ghost use Rattle.wire_statements.specs.Fields.{store_of};
 ghost use Rattle.wire_parts.specs.Headers.{field_in, header_in};
 ghost use Rattle.wire_machine.specs.Pieces.{part_width, part_bits};
 ghost use Rattle.wire_machine.specs.Written.{bits_in};
 ghost use Rattle.wire_parts.specs.Paths.{path_in};
 
-use crate::eval::width;
-use crate::fields::Fields;
 use crate::writer::BitWriter;
 use bit_values::Bits;
 use lex_text::Name;
 use std::alloc::{AllocError, Global};
 use wire_parts::{Field, Header, same_path};
+use wire_statements::{Fields, width};
 
 /// The bits of a part, and one bit more.
 fn joined(part: Option<Bits>, bit: Bits) -> Bits

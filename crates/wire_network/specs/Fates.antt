@@ -3,7 +3,7 @@ use Rattle.std.specs.Prelude.{ℕ, List, map, Option, Some, None}
 use Rattle.std.specs.Global.{Vec}
 use Rattle.p4_tree.specs.Statements.{Digest}
 use Rattle.wire_machine.specs.Machine.{Machine}
-use Rattle.wire_machine.specs.Runs.{digest_of}
+use Rattle.wire_statements.specs.Runs.{digest_of}
 use Rattle.wire_network.specs.Travel as travel
 use Rattle.wire_network.specs.declared.link.Told as code_told
 use Rattle.wire_network.specs.declared.link.Fate as code_fate

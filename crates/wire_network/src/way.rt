@@ -3,13 +3,14 @@
 ghost use Rattle.std.specs.Prelude.{◌≡◌, ◌<◌, ◌≤◌, ◌++◌, ◌-◌, [], length, map, get_or, ℕ, IfOk, OnOk, IfSome};
 ghost use Rattle.std.specs.Option.{option_map};
 ghost use Rattle.wire_machine.specs.Machine.{machine_of, queued_of};
-ghost use Rattle.wire_machine.specs.Runs.{digest_of};
+ghost use Rattle.wire_statements.specs.Runs.{digest_of};
 ghost use Rattle.wire_network.specs.Travel.{AreJoined, at_edge, behind, far_end, left_from, no_machine, over, passage, passed, travel};
 ghost use Rattle.wire_network.specs.Fates.{fate_of, frame_in, net_of, told_of};
 
 use crate::link::{Arrival, Fate, Link, Told};
 use std::alloc::{AllocError, Global};
-use wire_machine::{Digest, Passed, Queued, Switch};
+use wire_machine::{Passed, Queued, Switch};
+use wire_statements::Digest;
 
 /// The other end of the cable at a port, or `None` at an edge.
 fn far_end(links: &[Link], switch: u16, port: u16) -> Option<(u16, u16)>

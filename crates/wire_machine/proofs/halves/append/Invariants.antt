@@ -1,5 +1,5 @@
 use Rattle.std.proofs.Common.{◌≡◌, ◌++◌, map}
-use Rattle.wire_machine.specs.Runs.{digest_of}
+use Rattle.wire_statements.specs.Runs.{digest_of}
 use Rattle.wire_machine.proofs.halves.append.Given as goal
 
 abbrev pub invariant-loop-digest : goal.invariant-loop-digest

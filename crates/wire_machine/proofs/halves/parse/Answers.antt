@@ -8,7 +8,7 @@ use Rattle.p4_tree.specs.Parsing.{ParserEnd, parser_end}
 use Rattle.p4_tree.specs.Pass.{store_behind}
 use Rattle.wire_parts.specs.Headers.{header_in}
 use Rattle.wire_parts.specs.PartsIn.{parts_in}
-use Rattle.wire_machine.specs.Fields.{store_of}
+use Rattle.wire_statements.specs.Fields.{store_of}
 use Rattle.wire_machine.specs.Halves.{parser_ends}
 use Rattle.wire_machine.specs.Places.{error_of, reading_of}
 use Rattle.wire_machine.proofs.HalvesLemmas.{parsed_end}

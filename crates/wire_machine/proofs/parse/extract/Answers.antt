@@ -4,7 +4,7 @@ use Rattle.bit_values.specs.Bytes.{bits_of}
 use Rattle.p4_tree.specs.Store.{Store, set_valid}
 use Rattle.p4_tree.specs.Parsing.{Reading, width_sum, goes_on, with_valid, fields_taken}
 use Rattle.wire_parts.specs.Headers.{field_in, header_in}
-use Rattle.wire_machine.specs.Fields.{store_of}
+use Rattle.wire_statements.specs.Fields.{store_of}
 use Rattle.wire_machine.specs.Places.{reading_of}
 use Rattle.wire_machine.proofs.ParseLemmas.{left_over, too_short, long_enough, at_place}
 use Rattle.wire_machine.proofs.parse.extract.Goals as goal

@@ -1,6 +1,6 @@
 use Rattle.std.proofs.Common.{◌++◌, ◌∷◌, [], ap, ◌∙◌}
 use Rattle.p4_tree.specs.Store.{set_value}
-use Rattle.wire_machine.specs.Fields.{store_of}
+use Rattle.wire_statements.specs.Fields.{store_of}
 use Rattle.wire_parts.specs.Headers.{field_in}
 use Rattle.wire_machine.proofs.ParseLemmas.{taken}
 use Rattle.wire_machine.proofs.parse.take_field.Goals as goal

@@ -2,7 +2,7 @@ use Rattle.std.proofs.Common.{ℕ, List, Some, drop, ap, ap₂, sym, ◌∙◌}
 use Rattle.bit_values.specs.Bytes.{bits_of}
 use Rattle.p4_tree.specs.Store.{Store}
 use Rattle.p4_tree.specs.Pass.{Queued, to_egress, unless_dropped}
-use Rattle.wire_machine.specs.Fields.{store_of}
+use Rattle.wire_statements.specs.Fields.{store_of}
 use Rattle.wire_machine.proofs.queued.queue.Goals as goal
 
 pub returns : goal.returns

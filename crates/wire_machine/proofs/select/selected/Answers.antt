@@ -1,7 +1,7 @@
 use Rattle.std.proofs.Common.{ap, ◌∙◌, map}
 use Rattle.p4_tree.specs.View.{case_of}
 use Rattle.p4_tree.specs.Parsing.{chosen, first_fit}
-use Rattle.wire_machine.specs.Fields.{store_of}
+use Rattle.wire_statements.specs.Fields.{store_of}
 use Rattle.wire_machine.proofs.select.selected.Goals as goal
 
 pub returns : goal.returns

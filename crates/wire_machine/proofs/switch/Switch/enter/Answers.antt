@@ -2,9 +2,9 @@ use Rattle.std.proofs.Common.{drop, map}
 use Rattle.std.specs.Option.{option_map}
 use Rattle.bit_values.specs.Bytes.{bits_of}
 use Rattle.wire_parts.specs.PartsIn.{parts_in}
-use Rattle.wire_machine.specs.Fields.{store_of}
+use Rattle.wire_statements.specs.Fields.{store_of}
 use Rattle.wire_machine.specs.Machine.{queued_of}
-use Rattle.wire_machine.specs.Runs.{cells_in, digest_of}
+use Rattle.wire_statements.specs.Runs.{cells_in, digest_of}
 use Rattle.wire_machine.proofs.PassLemmas.{entered_cells, entered_digests, entered_queued}
 use Rattle.wire_machine.proofs.switch.Switch.enter.Goals as goal
 

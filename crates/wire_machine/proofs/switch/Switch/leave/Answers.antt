@@ -1,10 +1,10 @@
 use Rattle.std.proofs.Common.{map, ap, sym, ◌∙◌}
 use Rattle.bit_values.specs.Bits.{Word, cast}
 use Rattle.wire_parts.specs.PartsIn.{parts_in}
-use Rattle.wire_machine.specs.Fields.{store_of}
+use Rattle.wire_statements.specs.Fields.{store_of}
 use Rattle.wire_machine.specs.Machine.{queued_of}
 use Rattle.wire_machine.specs.Rests.{rest_in}
-use Rattle.wire_machine.specs.Runs.{cells_in, digest_of}
+use Rattle.wire_statements.specs.Runs.{cells_in, digest_of}
 use Rattle.wire_machine.proofs.PassLemmas.{left_cells, left_digests, left_dropped, left_out}
 use Rattle.wire_machine.proofs.switch.Switch.leave.Goals as goal
 

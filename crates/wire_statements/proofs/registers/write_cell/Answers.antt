@@ -1,0 +1,19 @@
+use Rattle.std.proofs.Common.{◌≡◌, ℕ, List, ap, ◌∙◌, arith}
+use Rattle.std.specs.Global.{Vec}
+use Rattle.bit_values.specs.Bits.{Word}
+use Rattle.p4_tree.specs.Statements.{cell_set}
+use Rattle.wire_statements.specs.Runs.{place_in}
+use Rattle.wire_statements.proofs.RegistersLemmas.{cells_written, none_written}
+use Rattle.wire_statements.proofs.registers.write_cell.Goals as goal
+
+pub returns-then-at-len : goal.returns-then-at-len
+returns-then-at-len c =
+    let at : c.place_of-at.result ≡ place_in c.args.registers.now.items c.args.name.now = c.place_of-at.ensures ∙ ap (λ l. place_in l c.args.name.now) c.deref.ensures.value in
+    cells_written c.args.registers.now.items c.args.name.now c.index_mut.result.now (c.index_mut.result.now.0, c.set_cell.new.cells) c.place_of-at.result c.args.index c.args.v at (omega arith)
+    (ap (λ (e : List ℕ × Vec Word). e.0) c.index_mut.ensures.value)
+    (c.set_cell.ensures ∙ ap (λ (e : List ℕ × Vec Word). cell_set e.1.items c.args.index c.args.v) c.index_mut.ensures.value)
+
+pub returns-else-at-len : goal.returns-else-at-len
+returns-else-at-len c =
+    let at : c.place_of-at.result ≡ place_in c.args.registers.now.items c.args.name.now = c.place_of-at.ensures ∙ ap (λ l. place_in l c.args.name.now) c.deref.ensures.value in
+    none_written c.args.registers.now.items c.args.name.now c.args.index c.args.v (omega arith)

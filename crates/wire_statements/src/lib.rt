@@ -1,0 +1,28 @@
+//! What the statements of a control do, on maps by name.
+//!
+//! The layer above gets `Fields`, the words in sight by path, with `Run`, which adds the cells of
+//! registers and the digests so far; `run_stmts`, which runs statements; and the pieces that a parser
+//! shares with controls: `value_of`, `values_of` and `assign`. Contracts see these as the `Store` and
+//! the `Run` of the trees' meaning, by the words `store_of` and `run_of` of `specs/`.
+//!
+//! Follows: P4_16 Language Specification and v1model, this project's subset.
+//!
+//! Statements may be any tree, also an ill-typed one. Nothing is promised of speed: a path is found
+//! by a walk over all paths. After want of memory what was worked on may have changed in part.
+#![tactic(auto)]
+
+mod calls;
+mod eval;
+mod fields;
+mod registers;
+mod run;
+mod statements;
+#[cfg(test)]
+mod tests;
+
+pub use calls::{assign, standard_path};
+pub use eval::{value_of, values_of, width};
+pub use fields::Fields;
+pub use registers::cells_of;
+pub use run::{Digest, Flow, Run};
+pub use statements::run_stmts;
