@@ -1,7 +1,12 @@
 -- What callers rest on: the trees, the views to them, and the meaning.
 pub mod Tree
+pub mod Places
+pub mod Height
 pub mod View
 pub mod State
+pub mod Start
+pub mod Operators
+pub mod Reads
 pub mod Value
 pub mod Meaning
 pub mod Names
