@@ -1,9 +1,9 @@
 -- Paths of different regions are different paths.
-use Rattle.std.proofs.Common.{◌≡◌, codes, ℕ, List, [], ◌∷◌, ◌++◌, Bool, true, false, not, ◌&&◌, refl, sym, ap, ◌∙◌, subst, Decides}
+use Rattle.std.proofs.Common.{◌≡◌, ℕ, List, [], ◌∷◌, ◌++◌, Bool, true, false, not, ◌&&◌, refl, ap, ◌∙◌, subst, Decides}
 use Rattle.std.proofs.lemmas.Slice.Eq.{slice_eq-Decides, bytes_eq-Decides}
 use Rattle.lex_text.specs.Names.{same_text, same_path, parent}
 use Rattle.p4_tree.specs.Standard.{headers_root, standard_root, metadata_root, egress_spec, packet_length}
-use Rattle.wire_linker.specs.Monitor.{tele_header, tele_path}
+use Rattle.wire_linker.specs.Monitor.{tele_header}
 use Rattle.linked_halves.specs.Regions.{is_mine, is_free, is_readable, is_writable, is_own_header}
 
 pub path_decides : (p q : List (List ℕ)) → Decides (same_path p q) (p ≡ q)

@@ -1,22 +1,18 @@
 -- The laws of the two halves, and the linkage that follows from them.
-use Rattle.std.proofs.Common.{◌≡◌, codes, ℕ, suc, ◌+◌, ◌%◌, ◌^◌, ◌<◌, ◌≤◌, List, [], ◌∷◌, ◌++◌, map, length, Bool, true, false, not, ◌&&◌, ◌||◌, ◌==◌, cond, Option, Some, None, refl, ap, sym, ◌∙◌, subst, arith}
+use Rattle.std.proofs.Common.{◌≡◌, ℕ, ◌<◌, ◌≤◌, List, [], ◌∷◌, ◌++◌, map, Bool, true, false, not, ◌&&◌, ◌||◌, ◌==◌, cond, Option, Some, None, refl, ap, ◌∙◌, arith}
 use Rattle.std.specs.List.{AllByRecursion}
 use Rattle.std.specs.Prelude.{if◌then◌else◌, is_none, is_some, nat_eq, All}
 use Rattle.std.proofs.lemmas.List.Elements.{All-head, All-tail, All-cons, All-nil}
-use Rattle.bit_values.specs.Bits.{Word, word}
-use Rattle.lex_text.specs.Names.{same_text}
-use Rattle.p4_tree.specs.Parts.{Cells, Parts}
-use Rattle.p4_tree.specs.Pass.{Registers, Queued, parts_enter, zero_cells, start_cells}
-use Rattle.indus_tree.specs.Tree.{Property}
-use Rattle.indus_tree.specs.State.{tele_start}
-use Rattle.path_runner.specs.Network.{Link, Wiring, far_end_among, at_edge, IsLinkOf, IsWiring}
+use Rattle.bit_values.specs.Bits.{Word}
+use Rattle.p4_tree.specs.Parts.{Cells}
+use Rattle.p4_tree.specs.Pass.{Registers, parts_enter, zero_cells, start_cells}
+use Rattle.indus_tree.specs.Start.{tele_start}
+use Rattle.path_runner.specs.Network.{Link, Wiring, far_end_among, at_edge, IsLinkOf}
 use Rattle.path_runner.specs.PathMeaning.{entry_part}
-use Rattle.program_linker.specs.Linkage.{SameRegisters, MonitorRegisters}
-use Rattle.program_linker.specs.HalvesLaws.{carried, reads_at, EnterAgrees, HalvesLaws}
+use Rattle.program_linker.specs.HalvesLaws.{carried, reads_at, EnterAgrees}
 use Rattle.program_linker.proofs.Runs.{linkage}
 use Rattle.wire_linker.specs.Monitor.{rejects_register}
 use Rattle.linked_halves.specs.Regions.{is_mine}
-use Rattle.linked_halves.specs.Forwarding.{IsForwarding}
 use Rattle.linked_halves.specs.LinkedParts.{rejects_cells, linked_parts}
 use Rattle.linked_halves.specs.Telemetry.{Tele, telemetry_of, IsFitTele}
 use Rattle.linked_halves.specs.Networks.{entered_of, law_of, cells_of, registers_of, ports_at}

@@ -1,8 +1,8 @@
 -- Which forwarding programs are linked: they use no name of the monitor's, `return` and `exit` are taken out of
 -- them before, and no state of their parser reaches itself. Read `Regions` before.
-use Rattle.std.specs.Prelude.{◌≡◌, ℕ, suc, List, [], ◌∷◌, length, Bool, true, false, Option, Some, None, nat_eq}
+use Rattle.std.specs.Prelude.{◌≡◌, ℕ, suc, List, [], ◌∷◌, length, true, false, Option, Some, None, nat_eq}
 use Rattle.std.specs.List.{AllByRecursion}
-use Rattle.p4_tree.specs.Tree.{Expr, num, flag, path, valid, negation, binary, cast, Arg, one, many, Stmt, Stmts, MaybeStmt, nothing, block, var, assign, choice, return_, exit_, call, done, next, without, otherwise, Keyset, any, only, masked, Case, Transition, nowhere, to, select, ParserState}
+use Rattle.p4_tree.specs.Tree.{Expr, num, flag, path, valid, negation, binary, cast, Arg, one, Stmt, Stmts, MaybeStmt, nothing, block, var, assign, choice, return_, exit_, call, done, next, without, otherwise, Keyset, any, only, masked, Case, Transition, nowhere, to, select, ParserState}
 use Rattle.p4_tree.specs.Statements.{Act, makes, drops, reads, writes, tells, idle, act_of}
 use Rattle.p4_tree.specs.Parsing.{Reading, turns_of}
 use Rattle.p4_tree.specs.Parts.{Parts}

@@ -1,5 +1,5 @@
 -- The parts of a linked program, for any forwarding program and the ports of a switch that have links.
-use Rattle.std.specs.Prelude.{codes, ℕ, List, [], ◌∷◌, map, if◌then◌else◌}
+use Rattle.std.specs.Prelude.{codes, ℕ, List, ◌∷◌, map, if◌then◌else◌}
 use Rattle.lex_text.specs.Names.{same_text}
 use Rattle.p4_tree.specs.Tree.{done, next, Case, Transition, nowhere, to, select, ParserState, and_then}
 use Rattle.p4_tree.specs.Parsing.{Field, Header}

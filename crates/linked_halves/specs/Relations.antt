@@ -1,5 +1,5 @@
 -- What of the linked network stands for what of the forwarding network: runs, registers and queued packets.
-use Rattle.std.specs.Prelude.{◌≡◌, ℕ, ◌%◌, ◌^◌, ◌<◌, List, [], ◌∷◌, Bool, true, false, not, Option, Some, None, nat_eq}
+use Rattle.std.specs.Prelude.{◌≡◌, ℕ, ◌%◌, ◌^◌, ◌<◌, List, [], ◌∷◌, Bool, true, false, not, Some, None, nat_eq}
 use Rattle.std.specs.List.{filter}
 use Rattle.bit_values.specs.Bits.{Word, word}
 use Rattle.p4_tree.specs.Standard.{standard_root, egress_spec, egress_port}
