@@ -9,5 +9,8 @@ pub mod Operators
 pub mod Reads
 pub mod Value
 pub mod Meaning
+pub mod Hops
 pub mod Names
 pub mod Small
+-- Small properties, on which the meaning is worked out in tests.
+pub mod Examples
