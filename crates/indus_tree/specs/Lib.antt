@@ -1,8 +1,16 @@
 -- What callers rest on: the trees, the views to them, and the meaning.
 pub mod Tree
+pub mod Places
+pub mod Height
 pub mod View
 pub mod State
+pub mod Start
+pub mod Operators
+pub mod Reads
 pub mod Value
 pub mod Meaning
+pub mod Hops
 pub mod Names
 pub mod Small
+-- Small properties, on which the meaning is worked out in tests.
+pub mod Examples

@@ -1,41 +1,92 @@
--- What blocks do, and a property's two parts at a hop.
-use Rattle.std.specs.Prelude.{ℕ, List, [], true, false, if◌then◌else◌}
+-- What blocks do, and a property's two parts at a hop. Read `Value` before it.
+use Rattle.std.specs.Prelude.{ℕ, zero, suc, min, List, [], ◌∷◌, ◌++◌, length, map, slice_get, true, false, if◌then◌else◌, Option, Some, None}
 use Rattle.bit_values.specs.Bits.{Word}
-use Rattle.bit_values.specs.Widths.{holds, sound_width, cast_word}
-use Rattle.indus_tree.specs.Tree.{Expr, Stmt, Stmts, assign, choice, reject, done, next, Property}
-use Rattle.indus_tree.specs.State.{Hop, Doing, lookup, held_width, put, put_cell}
-use Rattle.indus_tree.specs.Value.{Seen, value_of}
+use Rattle.bit_values.specs.Widths.{holds, either_width, sound_width, cast_word}
+use Rattle.indus_tree.specs.Tree.{Expr, Stmt, Stmts, assign, cell, push, choice, loop, reject, report, done, next, Property}
+use Rattle.indus_tree.specs.State.{Hop, Doing, lookup, held_width, nothing_of, set_cell, push_item}
+use Rattle.indus_tree.specs.Reads.{Items, Seen, or_word}
+use Rattle.indus_tree.specs.Value.{own_width, value_of, values_of}
 
 -- what an expression of a statement sees
-abbrev pub seen_by : Hop → Doing → Seen
-seen_by h d = record { hop = h; tele = d.tele }
+abbrev pub seen_by : Hop → Items → Doing → Seen
+seen_by h i d = record { hop = h; items = i; tele = d.tele; sensors = d.sensors }
 
 -- the value that a variable takes, in its own width
-abbrev pub value_for : Hop → Doing → List ℕ → Expr → Word
-value_for h d x e = cast_word (sound_width (held_width (lookup h.decls x))) (value_of (seen_by h d) e (held_width (lookup h.decls x)))
+abbrev pub value_for : Hop → Items → Doing → List ℕ → Expr → Word
+value_for h i d x e = cast_word (sound_width (held_width (lookup h.decls x))) (value_of (seen_by h i d) e (held_width (lookup h.decls x)))
 
--- a scalar takes a value
-abbrev pub assigned : List ℕ → Word → Doing → Doing
-assigned x w d = record d { tele = put d.tele x (put_cell (d.tele x) 0 w) }
+-- the index of a cell, in which a bare number has 128 bits
+abbrev pub index_for : Hop → Items → Doing → Expr → ℕ
+index_for h i d e = (value_of (seen_by h i d) e (either_width (own_width (seen_by h i d) e) 128)).value
+
+-- one report more
+abbrev pub reported : ℕ → List Word → Doing → Doing
+reported n ws d = record d { reports = d.reports ++ (record { number = n; values = ws }) ∷ [] }
+
+-- ---- loops
+
+-- as many turns as the shortest list has items
+abbrev pub shortest : List (List Word) → ℕ
+shortest [] = 0
+shortest (l ∷ []) = length l
+shortest (l ∷ m ∷ ls) = min (length l) (shortest (m ∷ ls))
+
+-- the items of turn k, one of each list
+abbrev pub turn_items : List (List Word) → (k : ℕ) → List Word
+turn_items [] k = []
+turn_items (l ∷ ls) k = or_word (slice_get l k) (nothing_of 1) ∷ turn_items ls k
+
+-- the items of the first n turns
+abbrev pub first_turns : (n : ℕ) → List (List Word) → List (List Word)
+first_turns zero ls = []
+first_turns (suc n) ls = first_turns n ls ++ turn_items ls n ∷ []
+
+-- the items of each turn
+abbrev pub turns_of : List (List Word) → List (List Word)
+turns_of ls = first_turns (shortest ls) ls
+
+-- names for a turn's items
+abbrev pub named : List (List ℕ) → List Word → Items
+named [] ws = []
+named (x ∷ xs) [] = []
+named (x ∷ xs) (w ∷ ws) = (x, w) ∷ named xs ws
+
+-- a turn for each list of items, in order
+abbrev pub run_turns : (List Word → Doing → Doing) → List (List Word) → Doing → Doing
+run_turns turn [] d = d
+run_turns turn (ws ∷ more) d = run_turns turn more (turn ws d)
+
+-- ---- blocks
 
 module _ (h : Hop) where
   abbrev mutual
-    -- what a statement does
-    pub run_of_stmt : Stmt → Doing → Doing
-    run_of_stmt (assign p x e) d = assigned x (value_for h d x e) d
-    run_of_stmt (choice p e a b) d = if holds (value_of (seen_by h d) e 1) then run_of a d else run_of b d
-    run_of_stmt (reject p) d = record d { rejected = true }
+    -- what a statement does, inside loops with these items
+    pub stmt_run : Items → Stmt → Doing → Doing
+    stmt_run i (assign p x e) d = set_cell (lookup h.decls x) x 0 (value_for h i d x e) d
+    stmt_run i (cell p x n e) d = set_cell (lookup h.decls x) x (index_for h i d n) (value_for h i d x e) d
+    stmt_run i (push p x e) d = push_item (lookup h.decls x) x (value_for h i d x e) d
+    stmt_run i (choice p e a b) d = if holds (value_of (seen_by h i d) e 1) then block_run i a d else block_run i b d
+    -- the lists are those at the loop's start
+    stmt_run i (loop p xs ls a) d = run_turns (λ ws. block_run (i ++ named xs ws) a) (turns_of (map d.tele ls)) d
+    stmt_run i (reject p) d = record d { rejected = true }
+    stmt_run i (report p n es) d = reported n (values_of (seen_by h i d) es) d
 
     -- what a block does: its statements in order
-    pub run_of : Stmts → Doing → Doing
-    run_of done d = d
-    run_of (next s ss) d = run_of ss (run_of_stmt s d)
+    pub block_run : Items → Stmts → Doing → Doing
+    block_run i done d = d
+    block_run i (next s ss) d = block_run i ss (stmt_run i s d)
+
+  -- what a block does outside loops
+  abbrev pub run_of : Stmts → Doing → Doing
+  run_of ss d = block_run [] ss d
 
 -- nothing rejected and nothing reported yet
-abbrev pub fresh : (List ℕ → List Word) → Doing
-fresh tele = record { tele = tele; rejected = false; reports = [] }
+abbrev pub fresh : (tele sensors : List ℕ → List Word) → Doing
+fresh tele sensors = record { tele = tele; sensors = sensors; rejected = false; reports = [] }
 
--- the entry part: init where this is the packet's first hop, and nothing elsewhere
+-- ---- a property at a hop
+
+-- the entry part, on the entry view: init where this is the packet's first hop, and nothing elsewhere
 abbrev pub entry_part : Property → Hop → Doing → Doing
 entry_part p h d = if h.first then run_of h p.init d else d
 
@@ -43,6 +94,11 @@ entry_part p h d = if h.first then run_of h p.init d else d
 abbrev pub checked : Property → Hop → Doing → Doing
 checked p h d = run_of h p.check (record d { rejected = false })
 
--- the exit part: telemetry, and then at the last hop the checker
+-- the exit part, on the exit view: telemetry, and then at the last hop the checker
 abbrev pub exit_part : Property → Hop → Doing → Doing
 exit_part p h d = if h.last then checked p h (run_of h p.tele d) else run_of h p.tele d
+
+-- both parts; there is no exit view where forwarding drops the packet, and no exit part
+abbrev pub hop_run : Property → (entry : Hop) → (exit : Option Hop) → Doing → Doing
+hop_run p h None d = entry_part p h d
+hop_run p h (Some g) d = exit_part p g (entry_part p h d)

@@ -3,17 +3,16 @@ use Rattle.std.specs.Prelude.{◌≡◌, ◌≤◌, ◌<◌, Bool, true, false, 
 use Rattle.std.specs.List.{All, IsDistinct}
 use Rattle.lex_text.specs.Names.{same_text}
 use Rattle.lex_text.specs.NameToken.{is_name}
-use Rattle.indus_tree.specs.Tree.{Expr, num, read, binary, Stmt, Stmts, assign, choice, reject, done, next, Decl, Property}
+use Rattle.indus_tree.specs.Tree.{one, Expr, num, read, binary, Stmt, Stmts, assign, choice, reject, done, next, Decl, Property}
 use Rattle.indus_tree.specs.declared.tree.DeclKind.TheVariants as kind
 use Rattle.indus_tree.specs.declared.tree.Op.TheVariants as op
-use Rattle.indus_tree.specs.declared.tree.Shape.TheVariants as shape
 use Rattle.indus_tree.specs.declared.tree.Ty.TheVariants as ty
 use Rattle.indus_tree.specs.Names.{is_declared, is_keyword, is_built_in}
 
 -- a declaration of 8 bits that travel with the packet, by a name that is free
 pub record IsByteDecl (d : Decl) : Type 0 where
   pub kind : d.kind ≡ kind.Tele
-  pub shape : d.shape ≡ shape.One (ty.Bit 8)
+  pub shape : d.shape ≡ one (ty.Bit 8)
   pub start : d.start ≡ None
   pub path : d.path ≡ []
   pub valid : d.valid ≡ false
@@ -27,6 +26,7 @@ abbrev pub IsSmallSum : List Decl → Expr → Type 0
 IsSmallSum ds (num p n) = (n.width ≡ 0) × (n.value < 256)
 IsSmallSum ds (read p x) = is_declared ds x ≡ true
 IsSmallSum ds (binary p o a b) = (o ≡ op.Add) × IsSmallSum ds a × IsSmallSum ds b
+IsSmallSum ds _ = ⊥
 
 -- a declared name is compared with a sum
 abbrev pub IsSmallTest : List Decl → Expr → Type 0
@@ -39,6 +39,7 @@ abbrev mutual
   IsSmallStmt ds checks (assign p x e) = (is_declared ds x ≡ true) × IsSmallSum ds e
   IsSmallStmt ds checks (choice p e a b) = IsSmallTest ds e × IsSmallBlock ds checks a × (b ≡ done)
   IsSmallStmt ds checks (reject p) = checks ≡ true
+  IsSmallStmt ds checks _ = ⊥
 
   pub IsSmallBlock : List Decl → Bool → Stmts → Type 0
   IsSmallBlock ds checks done = Unit {0}

@@ -1,23 +1,52 @@
 -- Trees of properties without pointers. The first part of each node is the number of its first token.
-use Rattle.std.specs.Prelude.{◌≡◌, ℕ, List, [], ◌∷◌, map, Bool, Option}
-use Rattle.std.specs.Option.{option_map}
+use Rattle.std.specs.Prelude.{ℕ, List, [], ◌∷◌, Bool, Option}
 use Rattle.lex_text.specs.declared.literal.Literal.{Literal}
 use Rattle.indus_tree.specs.declared.tree.DeclKind.{DeclKind}
 use Rattle.indus_tree.specs.declared.tree.Op.{Op}
-use Rattle.indus_tree.specs.declared.tree.Shape.{Shape}
+use Rattle.indus_tree.specs.declared.tree.Ty.{Ty}
 
--- an expression
-pub data Expr : Type 0 where
-  num : (place : ℕ) (literal : Literal) → Expr
-  read : (place : ℕ) (name : List ℕ) → Expr
-  binary : (place : ℕ) (op : Op) (left right : Expr) → Expr
+-- what a variable holds: one value, a list or an array of so many, a set of keys, a dict from keys to values. The
+-- key of a set or a dict has one part or more
+pub data Shape : Type 0 where
+  one : (type : Ty) → Shape
+  list : (type : Ty) (size : ℕ) → Shape
+  set : (key : List Ty) → Shape
+  dict : (key : List Ty) (value : Ty) → Shape
+
+mutual
+  -- an expression
+  pub data Expr : Type 0 where
+    num : (place : ℕ) (literal : Literal) → Expr
+    flag : (place : ℕ) (value : Bool) → Expr
+    read : (place : ℕ) (name : List ℕ) → Expr
+    count : (place : ℕ) (name : List ℕ) → Expr
+    index : (place : ℕ) (name : List ℕ) (key : Exprs) → Expr
+    member : (place : ℕ) (key : Exprs) (name : List ℕ) → Expr
+    negation : (place : ℕ) (operand : Expr) → Expr
+    inversion : (place : ℕ) (operand : Expr) → Expr
+    binary : (place : ℕ) (op : Op) (left right : Expr) → Expr
+    cast : (place : ℕ) (width : ℕ) (operand : Expr) → Expr
+
+  -- a list of expressions
+  pub data Exprs : Type 0 where
+    none : Exprs
+    more : (first : Expr) (rest : Exprs) → Exprs
+
+-- a list of expressions, in the form of the tree
+abbrev pub exprs_from : List Expr → Exprs
+exprs_from [] = none
+exprs_from (e ∷ es) = more e (exprs_from es)
 
 mutual
   -- a statement
   pub data Stmt : Type 0 where
     assign : (place : ℕ) (name : List ℕ) (value : Expr) → Stmt
+    cell : (place : ℕ) (name : List ℕ) (index value : Expr) → Stmt
+    push : (place : ℕ) (name : List ℕ) (value : Expr) → Stmt
     choice : (place : ℕ) (test : Expr) (where_it_holds elsewhere : Stmts) → Stmt
+    loop : (place : ℕ) (names lists : List (List ℕ)) (body : Stmts) → Stmt
     reject : (place : ℕ) → Stmt
+    report : (place : ℕ) (number : ℕ) (values : Exprs) → Stmt
 
   -- a block
   pub data Stmts : Type 0 where
@@ -47,32 +76,3 @@ pub record Property : Type 0 where
   pub init : Stmts
   pub tele : Stmts
   pub check : Stmts
-
--- an expression with all places 0
-abbrev pub plain : Expr → Expr
-plain (num p n) = num 0 n
-plain (read p x) = read 0 x
-plain (binary p op a b) = binary 0 op (plain a) (plain b)
-
--- a statement and a block with all places 0
-abbrev mutual
-  pub plain_stmt : Stmt → Stmt
-  plain_stmt (assign p x e) = assign 0 x (plain e)
-  plain_stmt (choice p e a b) = choice 0 (plain e) (plain_block a) (plain_block b)
-  plain_stmt (reject p) = reject 0
-
-  pub plain_block : Stmts → Stmts
-  plain_block done = done
-  plain_block (next s ss) = next (plain_stmt s) (plain_block ss)
-
--- a declaration with all places 0
-abbrev pub plain_decl : Decl → Decl
-plain_decl d = record d { place = 0; start = option_map plain d.start }
-
--- a property with all places 0
-abbrev pub plain_property : Property → Property
-plain_property p = record p { place = 0; decls = map plain_decl p.decls; init = plain_block p.init; tele = plain_block p.tele; check = plain_block p.check }
-
--- the same property but for its places
-abbrev pub IsSameProperty : Property → Property → Type 0
-IsSameProperty p q = plain_property p ≡ plain_property q

@@ -1,103 +1,54 @@
 -- The value of an expression. An expression takes numbers of any width: each operand is cast to the width
--- that its place gives, which changes nothing in a well-typed property.
-use Rattle.std.specs.Prelude.{ℕ, List, [], ◌∷◌, ◌&&◌, ◌||◌, not, nat_eq, nat_lt, nat_le, bit_and, bit_or, bit_xor}
-use Rattle.bit_values.specs.Bits.{Word, word, add, sub, mul, shl, shr, cast}
+-- that its place gives, which changes nothing in a well-typed property. Read `Operators` and `Reads` before it and
+-- `Meaning` after it.
+use Rattle.std.specs.Prelude.{ℕ, List, [], ◌∷◌, length, not}
+use Rattle.bit_values.specs.Bits.{Word, word, invert, cast as cast_number}
 use Rattle.bit_values.specs.Widths.{bit, holds, either_width, sound_width, cast_word}
-use Rattle.indus_tree.specs.Tree.{Expr, num, read, binary}
-use Rattle.indus_tree.specs.State.{Hop, lookup, held_width}
-use Rattle.indus_tree.specs.declared.tree.Op.{Op}
-use Rattle.indus_tree.specs.declared.tree.Op.TheVariants.{Mul, Add, Sub, Shl, Shr, BitAnd, BitXor, BitOr, Less, LessEq, More, MoreEq, Equal, Differ, Both, Either}
-
--- what an expression sees
-pub record Seen : Type 0 where
-  pub hop : Hop
-  pub tele : List ℕ → List Word
-
--- a scalar's word, and 0 of the declared width where nothing is held
-abbrev pub scalar : List Word → ℕ → Word
-scalar [] w = word (sound_width w) 0
-scalar (x ∷ xs) w = x
-
--- the value of a name
-abbrev pub name_word : Seen → List ℕ → Word
-name_word s x = scalar (s.tele x) (held_width (lookup s.hop.decls x))
-
--- how an operator takes its operands: alike, as a shift, as a test of two numbers, as truth values
-pub data Class : Type 0 where
-  like : Class
-  shift : Class
-  compare : Class
-  logic : Class
-
-abbrev pub class_of : Op → Class
-class_of Mul = like
-class_of Add = like
-class_of Sub = like
-class_of Shl = shift
-class_of Shr = shift
-class_of BitAnd = like
-class_of BitXor = like
-class_of BitOr = like
-class_of Less = compare
-class_of LessEq = compare
-class_of More = compare
-class_of MoreEq = compare
-class_of Equal = compare
-class_of Differ = compare
-class_of Both = logic
-class_of Either = logic
-
--- the width of a result, where the operands have widths v and u of their own
-abbrev pub own_of : Class → (v u : ℕ) → ℕ
-own_of like v u = either_width v u
-own_of shift v u = v
-own_of compare v u = 1
-own_of logic v u = 1
+use Rattle.indus_tree.specs.Tree.{Expr, Exprs, num, flag, read, count, index, member, negation, inversion, binary, cast, none, more}
+use Rattle.indus_tree.specs.State.{lookup, held_width}
+use Rattle.indus_tree.specs.Operators.{class_of, own_of, left_place, right_place, operate}
+use Rattle.indus_tree.specs.Reads.{Seen, name_word, at_key, has, index_widths, member_widths, widths_for, first_width, other_widths}
 
 -- the width that an expression has of its own, or 0
 abbrev pub own_width : Seen → Expr → ℕ
 own_width s (num p n) = n.width
+own_width s (flag p b) = 1
 own_width s (read p x) = (name_word s x).width
+own_width s (count p x) = 8
+own_width s (index p x es) = held_width (lookup s.hop.decls x)
+own_width s (member p es x) = 1
+own_width s (negation p a) = 1
+own_width s (inversion p a) = own_width s a
 own_width s (binary p op a b) = own_of (class_of op) (own_width s a) (own_width s b)
+own_width s (cast p w a) = w
 
--- the width of the left operand's place, where the operands have v and u and the whole's place gives w
-abbrev pub left_place : Class → (v u w : ℕ) → ℕ
-left_place like v u w = either_width (either_width v u) w
-left_place shift v u w = either_width v w
-left_place compare v u w = either_width v u
-left_place logic v u w = 1
+-- each bit turned round
+abbrev pub inverted : Word → Word
+inverted a = word a.width (invert a.width a.value)
 
--- the same of the right operand's place
-abbrev pub right_place : Class → (v u w : ℕ) → ℕ
-right_place like v u w = either_width (either_width v u) w
-right_place shift v u w = either_width u 128
-right_place compare v u w = either_width v u
-right_place logic v u w = 1
+abbrev mutual
+  -- the value of an expression, where its place gives the width w, or 0 where it gives none
+  pub value_of : Seen → Expr → (w : ℕ) → Word
+  value_of s (num p n) w = word (sound_width (either_width n.width w)) (cast_number (sound_width (either_width n.width w)) n.value)
+  value_of s (flag p b) w = bit b
+  value_of s (read p x) w = name_word s x
+  value_of s (count p x) w = word 8 (cast_number 8 (length (s.tele x)))
+  value_of s (index p x es) w = at_key s x (lookup s.hop.decls x) (key_of s es (widths_for index_widths (lookup s.hop.decls x)))
+  value_of s (member p es x) w = bit (has s x (lookup s.hop.decls x) (key_of s es (widths_for member_widths (lookup s.hop.decls x))))
+  value_of s (negation p a) w = bit (not (holds (value_of s a 1)))
+  value_of s (inversion p a) w = inverted (value_of s a w)
+  value_of s (binary p op a b) w =
+      operate op
+      (cast_word (sound_width (left_place (class_of op) (own_width s a) (own_width s b) w)) (value_of s a (left_place (class_of op) (own_width s a) (own_width s b) w)))
+      (cast_word (sound_width (right_place (class_of op) (own_width s a) (own_width s b) w)) (value_of s b (right_place (class_of op) (own_width s a) (own_width s b) w)))
+  value_of s (cast p v a) w = cast_word (sound_width v) (value_of s a 0)
 
--- what an operator makes of two words, which have one width but for a shift
-abbrev pub operate : Op → Word → Word → Word
-operate Mul a b = word a.width (mul a.width a.value b.value)
-operate Add a b = word a.width (add a.width a.value b.value)
-operate Sub a b = word a.width (sub a.width a.value b.value)
-operate Shl a b = word a.width (shl a.width a.value b.value)
-operate Shr a b = word a.width (shr a.value b.value)
-operate BitAnd a b = word a.width (bit_and a.value b.value)
-operate BitXor a b = word a.width (bit_xor a.value b.value)
-operate BitOr a b = word a.width (bit_or a.value b.value)
-operate Less a b = bit (nat_lt a.value b.value)
-operate LessEq a b = bit (nat_le a.value b.value)
-operate More a b = bit (nat_lt b.value a.value)
-operate MoreEq a b = bit (nat_le b.value a.value)
-operate Equal a b = bit (nat_eq a.value b.value)
-operate Differ a b = bit (not (nat_eq a.value b.value))
-operate Both a b = bit (holds a && holds b)
-operate Either a b = bit (holds a || holds b)
+  -- the parts of a key, each in the width that its place gives
+  pub key_of : Seen → Exprs → (widths : List ℕ) → List Word
+  key_of s none ws = []
+  key_of s (more e es) ws = cast_word (sound_width (first_width ws (own_width s e))) (value_of s e (first_width ws (own_width s e))) ∷ key_of s es (other_widths ws)
 
--- the value of an expression, where its place gives the width w, or 0 where it gives none
-abbrev pub value_of : Seen → Expr → (w : ℕ) → Word
-value_of s (num p n) w = word (sound_width (either_width n.width w)) (cast (sound_width (either_width n.width w)) n.value)
-value_of s (read p x) w = name_word s x
-value_of s (binary p op a b) w =
-    operate op
-    (cast_word (sound_width (left_place (class_of op) (own_width s a) (own_width s b) w)) (value_of s a (left_place (class_of op) (own_width s a) (own_width s b) w)))
-    (cast_word (sound_width (right_place (class_of op) (own_width s a) (own_width s b) w)) (value_of s b (right_place (class_of op) (own_width s a) (own_width s b) w)))
+-- the values of some expressions, whose places give no width
+abbrev pub values_of : Seen → Exprs → List Word
+values_of s none = []
+values_of s (more e es) = value_of s e 0 ∷ values_of s es

@@ -2,19 +2,49 @@
 
 ghost use Rattle.std.specs.Prelude.{◌≡◌, IfOk, map};
 ghost use Rattle.std.specs.Option.{option_map};
-ghost use Rattle.indus_tree.specs.View.{decl_of, expr_of, property_of, stmt_of};
+ghost use Rattle.indus_tree.specs.View.{decl_of, expr_of, property_of, shape_of, stmt_of};
 
-use crate::tree::{Decl, Expr, Property, Shape, Stmt};
+use crate::tree::{Decl, DeclKind, Expr, Op, Property, Shape, Stmt, Ty};
 use lex_text::Name;
 use std::alloc::{AllocError, Global};
 
+impl Ty {
+    /// An equal type.
+    pub fn copy(&self, _alloc: Global) -> Result<Ty, AllocError>
+        ensures { IfOk result (λ t. t ≡ self.now) }
+    {
+        Ok(*self)
+    }
+}
+
+impl DeclKind {
+    /// An equal kind.
+    pub fn copy(&self, _alloc: Global) -> Result<DeclKind, AllocError>
+        ensures { IfOk result (λ k. k ≡ self.now) }
+    {
+        Ok(*self)
+    }
+}
+
+impl Op {
+    /// An equal operator.
+    pub fn copy(&self, _alloc: Global) -> Result<Op, AllocError>
+        ensures { IfOk result (λ o. o ≡ self.now) }
+    {
+        Ok(*self)
+    }
+}
+
 impl Shape {
     /// An equal shape.
-    pub fn copy(&self, _alloc: Global) -> Result<Shape, AllocError>
-        ensures { IfOk result (λ s. s ≡ self.now) }
+    pub fn copy(&self, alloc: Global) -> Result<Shape, AllocError>
+        ensures { IfOk result (λ s. shape_of s ≡ shape_of self.now) }
     {
         match self {
             Shape::One(ty) => Ok(Shape::One(*ty)),
+            Shape::List(ty, size) => Ok(Shape::List(*ty, *size)),
+            Shape::SetOf(key) => Ok(Shape::SetOf(Vec::from_slice(alloc, key)?)),
+            Shape::DictOf(key, ty) => Ok(Shape::DictOf(Vec::from_slice(alloc, key)?, *ty)),
         }
     }
 }
@@ -30,7 +60,7 @@ impl Decl {
             name: self.name.copy(alloc)?,
             shape: self.shape.copy(alloc)?,
             start: copy_start(alloc, &self.start)?,
-            path: copy_path(alloc, &self.path)?,
+            path: copy_names(alloc, &self.path)?,
             valid: self.valid,
         })
     }
@@ -45,11 +75,11 @@ fn copy_start(alloc: Global, start: &Option<Expr>) -> Result<Option<Expr>, Alloc
     }
 }
 
-fn copy_path(alloc: Global, path: &[Name]) -> Result<Vec<Name>, AllocError>
-    ensures { IfOk result (λ v. v.items ≡ path.now) }
+fn copy_names(alloc: Global, names: &[Name]) -> Result<Vec<Name>, AllocError>
+    ensures { IfOk result (λ v. v.items ≡ names.now) }
 {
     let mut copies = Vec::new(alloc);
-    for name in path {
+    for name in names {
         copies.push(name.copy(alloc)?)?;
     }
     Ok(copies)
@@ -57,19 +87,62 @@ fn copy_path(alloc: Global, path: &[Name]) -> Result<Vec<Name>, AllocError>
 
 impl Expr {
     /// An equal expression with the same places.
+    #[cycle(copy_expr)]
     pub fn copy(&self, alloc: Global) -> Result<Expr, AllocError>
         ensures { IfOk result (λ e. expr_of e ≡ expr_of self.now) }
     {
         match self {
             Expr::Num(at, n) => Ok(Expr::Num(*at, *n)),
+            Expr::Flag(at, value) => Ok(Expr::Flag(*at, *value)),
             Expr::Read(at, name) => Ok(Expr::Read(*at, name.copy(alloc)?)),
+            Expr::Length(at, name) => Ok(Expr::Length(*at, name.copy(alloc)?)),
+            Expr::Index(at, name, key) => {
+                let name = name.copy(alloc)?;
+                let key = copy_all(alloc, key)?;
+                Ok(Expr::Index(*at, name, key))
+            }
+            Expr::Member(at, key, name) => {
+                let key = copy_all(alloc, key)?;
+                let name = name.copy(alloc)?;
+                Ok(Expr::Member(*at, key, name))
+            }
+            Expr::Not(at, a) => {
+                let a = a.copy(alloc)?;
+                Ok(Expr::Not(*at, Box::new(alloc, a)?))
+            }
+            Expr::Invert(at, a) => {
+                let a = a.copy(alloc)?;
+                Ok(Expr::Invert(*at, Box::new(alloc, a)?))
+            }
             Expr::Bin(at, op, a, b) => {
                 let a = Box::new(alloc, a.copy(alloc)?)?;
                 let b = Box::new(alloc, b.copy(alloc)?)?;
                 Ok(Expr::Bin(*at, *op, a, b))
             }
+            Expr::Cast(at, width, a) => {
+                let a = a.copy(alloc)?;
+                Ok(Expr::Cast(*at, *width, Box::new(alloc, a)?))
+            }
         }
     }
+}
+
+#[cycle(copy_expr)]
+fn copy_all(alloc: Global, all: &[Expr]) -> Result<Vec<Expr>, AllocError>
+    ensures { IfOk result (λ v. map expr_of v.items ≡ map expr_of all.now) }
+{
+    let mut copies = Vec::new(alloc);
+    for e in all {
+        copies.push(e.copy(alloc)?)?;
+    }
+    Ok(copies)
+}
+
+/// Equal expressions with the same places.
+fn copy_exprs(alloc: Global, all: &[Expr]) -> Result<Vec<Expr>, AllocError>
+    ensures { IfOk result (λ v. map expr_of v.items ≡ map expr_of all.now) }
+{
+    copy_all(alloc, all)
 }
 
 impl Stmt {
@@ -84,13 +157,33 @@ impl Stmt {
                 let e = e.copy(alloc)?;
                 Ok(Stmt::Assign(*at, name, e))
             }
+            Stmt::Cell(at, name, index, e) => {
+                let name = name.copy(alloc)?;
+                let index = index.copy(alloc)?;
+                let e = e.copy(alloc)?;
+                Ok(Stmt::Cell(*at, name, index, e))
+            }
+            Stmt::Push(at, name, e) => {
+                let name = name.copy(alloc)?;
+                let e = e.copy(alloc)?;
+                Ok(Stmt::Push(*at, name, e))
+            }
             Stmt::If(at, e, a, b) => {
                 let e = e.copy(alloc)?;
                 let a = copy_block(alloc, a)?;
                 let b = copy_block(alloc, b)?;
                 Ok(Stmt::If(*at, e, a, b))
             }
+            Stmt::For(at, names, lists, a) => {
+                let names = copy_names(alloc, names)?;
+                let lists = copy_names(alloc, lists)?;
+                let a = copy_block(alloc, a)?;
+                Ok(Stmt::For(*at, names, lists, a))
+            }
             Stmt::Reject(at) => Ok(Stmt::Reject(*at)),
+            Stmt::Report(at, number, values) => {
+                Ok(Stmt::Report(*at, *number, copy_exprs(alloc, values)?))
+            }
         }
     }
 }

@@ -3,9 +3,11 @@
 //! The layers above get the tree types, the tree without pointers that each stands for, `copy` for
 //! each, and the meaning of expressions, blocks and the two parts of a property at a hop.
 //!
+//! `specs/Tree`, `State`, `Start`, `Operators`, `Reads`, `Value` and `Meaning` are read in this order.
+//!
 //! Follows: "Hydra: Effective Runtime Network Verification", SIGCOMM 2023; grammar and rules are this
-//! project's profile. Here stand the forms of the first small grammar: `tele` scalars, sums,
-//! assignments, `if` and `reject`. Nothing is said of texts.
+//! project's profile. The meaning is total, also on trees that break a rule of types. Nothing is said
+//! of texts.
 #![tactic(auto)]
 
 mod copy;
@@ -13,5 +15,7 @@ mod tree;
 
 pub use tree::{Decl, DeclKind, Expr, Op, Property, Shape, Stmt, Ty};
 
+#[cfg(test)]
+mod rows;
 #[cfg(test)]
 mod tests;

@@ -8,6 +8,8 @@ use lex_text::{Literal, Name};
 pub enum Ty {
     /// A number of so many bits, 1 to 128.
     Bit(u8),
+    /// A truth value.
+    Bool,
 }
 
 /// What a variable holds.
@@ -15,6 +17,12 @@ pub enum Ty {
 pub enum Shape {
     /// One value.
     One(Ty),
+    /// So many values: a list of at most so many items, or an array of sensor cells.
+    List(Ty, u8),
+    /// A set, whose keys have these parts.
+    SetOf(Vec<Ty>),
+    /// A dict, whose keys have these parts, with the type of its values.
+    DictOf(Vec<Ty>, Ty),
 }
 
 /// Who keeps a variable.
@@ -22,6 +30,12 @@ pub enum Shape {
 pub enum DeclKind {
     /// It travels with the packet.
     Tele,
+    /// The switch keeps it from packet to packet.
+    Sensor,
+    /// It stands in the packet or its metadata.
+    Header,
+    /// The control plane sets it for each switch.
+    Control,
 }
 
 /// A declaration.
@@ -31,7 +45,7 @@ pub struct Decl {
     pub kind: DeclKind,
     pub name: Name,
     pub shape: Shape,
-    /// The written initial value.
+    /// The written initial value, a number or a truth value.
     pub start: Option<Expr>,
     /// The path of a header variable, part by part.
     pub path: Vec<Name>,
@@ -64,17 +78,37 @@ pub enum Op {
 #[derive(Debug, Drop)]
 pub enum Expr {
     Num(u32, Literal),
+    Flag(u32, bool),
     Read(u32, Name),
+    /// The number of a list's items.
+    Length(u32, Name),
+    /// A cell of a sensor array, or the value of a dict at a key.
+    Index(u32, Name, Vec<Expr>),
+    /// Whether a key, part by part, is in a set, or a value in a list.
+    Member(u32, Vec<Expr>, Name),
+    Not(u32, Box<Expr>),
+    /// Each bit turned round.
+    Invert(u32, Box<Expr>),
     Bin(u32, Op, Box<Expr>, Box<Expr>),
+    /// The number in another width.
+    Cast(u32, u8, Box<Expr>),
 }
 
 /// A statement.
 #[derive(Debug, Drop)]
 pub enum Stmt {
     Assign(u32, Name, Expr),
+    /// A sensor array, the index of a cell, and the value that the cell takes.
+    Cell(u32, Name, Expr, Expr),
+    /// A list, and the value that it takes as its last item.
+    Push(u32, Name, Expr),
     /// A test, what is done where it holds, and what is done elsewhere.
     If(u32, Expr, Vec<Stmt>, Vec<Stmt>),
+    /// The names of the items, the lists that are walked, and what is done in each turn.
+    For(u32, Vec<Name>, Vec<Name>, Vec<Stmt>),
     Reject(u32),
+    /// The report's place among those of the text, and its values.
+    Report(u32, u16, Vec<Expr>),
 }
 
 /// A property: its declarations and its three blocks.

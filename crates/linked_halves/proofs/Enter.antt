@@ -13,7 +13,7 @@ use Rattle.p4_tree.specs.Parts.{Parts}
 use Rattle.p4_tree.specs.Pass as pass
 use Rattle.p4_tree.specs.Pass.{Registers, Queued, error_number, store_behind, run_from, is_dropped, unless_dropped, value_kept, without_locals, to_egress, entered_from, parts_enter}
 use Rattle.indus_tree.specs.Tree.{Decl, Property}
-use Rattle.indus_tree.specs.State.{tele_start}
+use Rattle.indus_tree.specs.Start.{tele_start}
 use Rattle.indus_tree.specs.Meaning.{run_of}
 use Rattle.indus_tree.specs.Small.{IsSmall}
 use Rattle.path_runner.specs.Network.{Wiring}

@@ -21,7 +21,7 @@ use Rattle.path_runner.specs.PathMeaning.{Reads}
 use Rattle.wire_linker.specs.WireProgram.{number}
 use Rattle.wire_linker.specs.Monitor.{tele_header, rejected_name, count_name, rejects_register, lowered_block, only_if, read_count, write_count, drop_packet, reject_stmts, end_stmts, check_stmts, check_stmt, exit_stmts, exit_stmt}
 use Rattle.linked_halves.specs.Telemetry.{Tele}
-use Rattle.linked_halves.specs.Networks.{hop_of}
+use Rattle.linked_halves.specs.Networks.{no_sensors, hop_of}
 use Rattle.linked_halves.specs.Relations.{IsPort, Monitor}
 use Rattle.linked_halves.proofs.Lower.{Stands, open_by, written_open, Lowered, lowers}
 use Rattle.linked_halves.proofs.Fill.{is_in, one_of_is}
@@ -115,7 +115,7 @@ abbrev pub updated : Property → Run → Run
 updated p r = (meaning_of (lowered_block p.tele) r).0
 
 abbrev pub telemetry_part : Property → Reads (Unit {0}) → Tele → Doing
-telemetry_part p r t = run_of (hop_of p.decls r) p.tele (fresh t)
+telemetry_part p r t = run_of (hop_of p.decls r) p.tele (fresh t no_sensors)
 
 module _ (p : Property) (small : IsSmall p) (links : List ℕ) (low : AllByRecursion (λ n. n < 512) links) where
   -- the exit part runs where forwarding does not drop the packet
@@ -138,7 +138,7 @@ module _ (p : Property) (small : IsSmall p) (links : List ℕ) (low : AllByRecur
       ∙ test_of_negation (is_in port links) body (b, Go)
 
   pub telemetry_runs : (r : Reads (Unit {0})) (b : Run) (t : Tele) → Monitor p.decls b.store t → Lowered p.decls false b (meaning_of (lowered_block p.tele) b) (telemetry_part p r t)
-  telemetry_runs r b t m = lowers (hop_of p.decls r) small.decls false p.tele b (fresh t) small.tele (record { monitor = m; rejected = λ e. absurd (cc); reports = refl })
+  telemetry_runs r b t m = lowers (hop_of p.decls r) small.decls false p.tele b (fresh t no_sensors) small.tele (record { monitor = m; rejected = λ e. absurd (cc); reports = refl })
 
   -- up to the checker
   pub exit_runs : (r : Reads (Unit {0})) (b : Run) (t : Tele) → Monitor p.decls b.store t → (meaning_of (exit_stmts p links) b).0 ≡ (meaning_of_stmt (check_stmt p links) (updated p b)).0
@@ -148,7 +148,7 @@ module _ (p : Property) (small : IsSmall p) (links : List ℕ) (low : AllByRecur
       ∙ last_run (meaning_of_stmt (check_stmt p links) (updated p b))
 
   -- with the flag, the store stands for the state in front of the checker
-  pub flag_stands : (b : Run) (d : Doing) → Stands p.decls false b.store d → Stands p.decls true (flagged b).store (fresh d.tele)
+  pub flag_stands : (b : Run) (d : Doing) → Stands p.decls false b.store d → Stands p.decls true (flagged b).store (fresh d.tele no_sensors)
   flag_stands b d s =
       record {
         monitor = record { plain = s.monitor.plain; standard = s.monitor.standard; valid = s.monitor.valid; mark = s.monitor.mark; tele = λ x e. s.monitor.tele x e; fits = s.monitor.fits };

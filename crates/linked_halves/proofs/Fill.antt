@@ -15,8 +15,9 @@ use Rattle.p4_tree.specs.Parsing.{first_fit, bytes_of}
 use Rattle.p4_tree.specs.Pass.{zero_fields}
 use Rattle.p4_tree.specs.declared.statement.Op.TheVariants.{Equal}
 use Rattle.indus_tree.specs.Tree.{Decl}
-use Rattle.indus_tree.specs.State.{lookup, start_of_shape, start_of_decl, tele_start}
-use Rattle.indus_tree.specs.Value.{scalar}
+use Rattle.indus_tree.specs.State.{lookup}
+use Rattle.indus_tree.specs.Start.{start_of_shape, start_of_decl, tele_start}
+use Rattle.indus_tree.specs.Reads.{scalar}
 use Rattle.indus_tree.specs.Names.{is_declared}
 use Rattle.indus_tree.specs.Small.{IsByteDecl}
 use Rattle.wire_linker.specs.WireProgram.{number}

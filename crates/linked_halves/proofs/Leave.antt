@@ -29,7 +29,7 @@ use Rattle.linked_halves.specs.Regions.{is_mine}
 use Rattle.linked_halves.specs.Forwarding.{IsForwarding}
 use Rattle.linked_halves.specs.LinkedParts.{tele_fields, linked_parts}
 use Rattle.linked_halves.specs.Telemetry.{Tele, tele_words, words_bits, tele_bytes, telemetry_of, IsFitTele}
-use Rattle.linked_halves.specs.Networks.{digest_of, report_of, going_of, leaving_of, hop_of, law_of}
+use Rattle.linked_halves.specs.Networks.{digest_of, report_of, going_of, leaving_of, no_sensors, hop_of, law_of}
 use Rattle.linked_halves.specs.Relations.{is_report, bare, Alike, IsPort, Others, Monitor, KeptBy, HeldBy}
 use Rattle.linked_halves.proofs.Apart.{readable_free, apart_names, free_apart}
 use Rattle.linked_halves.proofs.Own.{Ran, all_ran}
@@ -248,13 +248,13 @@ module _ (f : Parts) (own : IsForwarding f) (p : Property) (small : IsSmall p) (
 
       -- out by an edge: the checker ran too
       abbrev verdict : indus.Doing
-      verdict = run_of (hop_of p.decls (reads true)) p.check (fresh (telemetry_part p (reads true) t).tele)
+      verdict = run_of (hop_of p.decls (reads true)) p.check (fresh (telemetry_part p (reads true) t).tele no_sensors)
 
       abbrev checked : Run
       checked = (meaning_of (lowered_block p.check) (flagged told)).0
 
       checked_by : Lowered p.decls true (flagged told) (meaning_of (lowered_block p.check) (flagged told)) verdict
-      checked_by = check_runs p small links low (reads true) (flagged told) (fresh (telemetry_part p (reads true) t).tele) (flag_stands p small links low told (telemetry_part p (reads true) t) (told_by true).stands)
+      checked_by = check_runs p small links low (reads true) (flagged told) (fresh (telemetry_part p (reads true) t).tele no_sensors) (flag_stands p small links low told (telemetry_part p (reads true) t) (told_by true).stands)
 
       checked_others : Others own_run checked
       checked_others = others_then own_run (flagged told) checked (others_then own_run told (flagged told) (told_by true).others (others_set told (rejected_name ∷ []) (word 1 0) refl)) checked_by.others

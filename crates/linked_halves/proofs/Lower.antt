@@ -14,12 +14,13 @@ use Rattle.p4_tree.specs.Value.{value_of, own_width, operate}
 use Rattle.p4_tree.specs.declared.statement.Op.TheVariants as p4
 use Rattle.p4_tree.specs.Statements.{Go, Run, Ended, after, in_store, meaning_of_stmt, meaning_of, meaning_of_else}
 use Rattle.indus_tree.specs.Tree as indus
-use Rattle.indus_tree.specs.State.{Hop, Doing, lookup, held_width, shape_width, put, put_cell}
+use Rattle.indus_tree.specs.State.{Hop, Doing, lookup, held_width, shape_width, put, put_cell, set_by_kind, set_cell}
+use Rattle.indus_tree.specs.declared.tree.DeclKind.TheVariants as kind
 use Rattle.indus_tree.specs.Names.{is_declared}
 use Rattle.indus_tree.specs.Small.{IsByteDecl, IsSmallSum, IsSmallTest, IsSmallStmt, IsSmallBlock}
 use Rattle.indus_tree.specs.Value as indus_value
-use Rattle.indus_tree.specs.Value.{Seen, scalar, name_word}
-use Rattle.indus_tree.specs.Meaning.{seen_by, value_for, assigned, run_of_stmt, run_of}
+use Rattle.indus_tree.specs.Reads.{Seen, scalar, word_by_kind, variable_word, name_word}
+use Rattle.indus_tree.specs.Meaning.{seen_by, value_for, stmt_run, run_of}
 use Rattle.wire_linker.specs.Monitor.{tele_header, tele_path, rejected_name, lowered, lowered_stmt, lowered_block, lowered_else}
 use Rattle.linked_halves.specs.Regions.{is_free}
 use Rattle.linked_halves.specs.Relations.{Monitor, Others}
@@ -78,6 +79,28 @@ held_is : (ds : List indus.Decl) → All IsByteDecl ds → (x : List ℕ) → is
 held_is [] all x is = absurd (cc)
 held_is (d ∷ ds) all x is = held_here (same_text d.name x) d (lookup ds x) (is_declared ds x) (All-head IsByteDecl d ds all) (held_is ds (All-tail IsByteDecl d ds all) x) is
 
+-- where the first declaration is a byte's, and of the others what is declared is the packet's
+word_here : (b : Bool) (d : indus.Decl) (o : Option indus.Decl) (is_more : Bool) (s : Seen) (x : List ℕ) → IsByteDecl d → (is_more ≡ true → variable_word s x o ≡ scalar (s.tele x) (held_width o)) → (b || is_more) ≡ true
+    → variable_word s x (cond b (Some d) o) ≡ scalar (s.tele x) (held_width (cond b (Some d) o))
+word_here true d o is_more s x one more t = ap (λ k. word_by_kind k s x (shape_width d.shape)) one.kind
+word_here false d o is_more s x one more t = more t
+
+-- a declared name reads what the packet's variable holds
+word_is : (ds : List indus.Decl) → All IsByteDecl ds → (s : Seen) (x : List ℕ) → is_declared ds x ≡ true → variable_word s x (lookup ds x) ≡ scalar (s.tele x) (held_width (lookup ds x))
+word_is [] all s x is = absurd (cc)
+word_is (d ∷ ds) all s x is = word_here (same_text d.name x) d (lookup ds x) (is_declared ds x) s x (All-head IsByteDecl d ds all) (word_is ds (All-tail IsByteDecl d ds all) s x) is
+
+-- where the first declaration is a byte's, and of the others what is declared is written as the packet's
+set_here : (b : Bool) (d : indus.Decl) (o : Option indus.Decl) (is_more : Bool) (x : List ℕ) (w : Word) (e : Doing) → IsByteDecl d → (is_more ≡ true → set_cell o x 0 w e ≡ set_by_kind kind.Tele x 0 w e) → (b || is_more) ≡ true
+    → set_cell (cond b (Some d) o) x 0 w e ≡ set_by_kind kind.Tele x 0 w e
+set_here true d o is_more x w e one more t = ap (λ k. set_by_kind k x 0 w e) one.kind
+set_here false d o is_more x w e one more t = more t
+
+-- an assignment to a declared name writes the packet's variable
+set_is : (ds : List indus.Decl) → All IsByteDecl ds → (x : List ℕ) (w : Word) (e : Doing) → is_declared ds x ≡ true → set_cell (lookup ds x) x 0 w e ≡ set_by_kind kind.Tele x 0 w e
+set_is [] all x w e is = absurd (cc)
+set_is (d ∷ ds) all x w e is = set_here (same_text d.name x) d (lookup ds x) (is_declared ds x) x w e (All-head IsByteDecl d ds all) (set_is ds (All-tail IsByteDecl d ds all) x w e) is
+
 -- what a variable of one byte holds, whatever width is asked for
 cell_word : (ws : List Word) (w : ℕ) → IsByteCell ws → scalar ws w ≡ scalar ws 8
 cell_word ws w c = ap (λ us. scalar us w) c.one ∙ sym (ap (λ us. scalar us 8) c.one)
@@ -96,9 +119,16 @@ either_both zero u h k = k
 either_both (suc v) u h k = h
 
 -- the values of sums and tests over a store that holds the telemetry
-module _ (h : Hop) (s : Store) (t : Tele) (m : Monitor h.decls s t) where
+module _ (h : Hop) (decls : All IsByteDecl h.decls) (s : Store) (t sensors : Tele) (m : Monitor h.decls s t) where
   abbrev seen : Seen
-  seen = record { hop = h; tele = t }
+  seen = record { hop = h; items = []; tele = t; sensors = sensors }
+
+  -- a declared name reads 8 bits
+  name_is : (x : List ℕ) → is_declared h.decls x ≡ true → name_word seen x ≡ scalar (t x) 8
+  name_is x i = word_is h.decls decls seen x i ∙ cell_word (t x) (held_width (lookup h.decls x)) (m.fits x i)
+
+  name_width : (x : List ℕ) → is_declared h.decls x ≡ true → (name_word seen x).width ≡ 8
+  name_width x i = ap (λ (w : Word). w.width) (name_is x i) ∙ cell_width (t x) 8 (m.fits x i)
 
   -- a lowered sum has 8 bits
   low_width : (e : indus.Expr) → IsSmallSum h.decls e → own_width (lowered e) s ≡ 8
@@ -107,19 +137,21 @@ module _ (h : Hop) (s : Store) (t : Tele) (m : Monitor h.decls s t) where
   low_width (indus.binary p o a b) i =
       subst (λ o. own_width (lowered (indus.binary p o a b)) s ≡ 8) (sym i.0)
       (ap (λ n. either_width n (own_width (lowered b) s)) (low_width a i.1))
+  low_width _ i = absurd i
 
   -- the block's own width is 8, or there is none
   own_width_is : (e : indus.Expr) → IsSmallSum h.decls e → either_width (indus_value.own_width seen e) 8 ≡ 8
   own_width_is (indus.num p n) i = ap (λ w. either_width w 8) i.0
-  own_width_is (indus.read p x) i = ap (λ w. either_width w 8) (cell_width (t x) (held_width (lookup h.decls x)) (m.fits x i))
+  own_width_is (indus.read p x) i = ap (λ w. either_width w 8) (name_width x i)
   own_width_is (indus.binary p o a b) i =
       subst (λ o. either_width (indus_value.own_width seen (indus.binary p o a b)) 8 ≡ 8) (sym i.0)
       (either_both (indus_value.own_width seen a) (indus_value.own_width seen b) (own_width_is a i.1) (own_width_is b i.2))
+  own_width_is _ i = absurd i
 
   -- at a place of 8 bits both values are the same word
   sum_same : (e : indus.Expr) → IsSmallSum h.decls e → value_of (lowered e) 8 s ≡ indus_value.value_of seen e 8
   sum_same (indus.num p n) i = ap (λ w. word (sound_width (either_width w 8)) (cast (sound_width (either_width w 8)) n.value)) (sym i.0)
-  sum_same (indus.read p x) i = read_tele h.decls s t x i m ∙ sym (cell_word (t x) (held_width (lookup h.decls x)) (m.fits x i))
+  sum_same (indus.read p x) i = read_tele h.decls s t x i m ∙ sym (name_is x i)
   sum_same (indus.binary p o a b) i =
       let low_place : either_width (either_width (own_width (lowered a) s) (own_width (lowered b) s)) 8 ≡ 8 = ap (λ n. either_width (either_width n (own_width (lowered b) s)) 8) (low_width a i.1) in
       let own_place : either_width (either_width (indus_value.own_width seen a) (indus_value.own_width seen b)) 8 ≡ 8 =
@@ -128,21 +160,19 @@ module _ (h : Hop) (s : Store) (t : Tele) (m : Monitor h.decls s t) where
       (ap (λ n. operate p4.Add (cast_word (sound_width n) (value_of (lowered a) n s)) (cast_word (sound_width n) (value_of (lowered b) n s))) low_place
       ∙ ap₂ (λ u v. operate p4.Add (cast_word 8 u) (cast_word 8 v)) (sum_same a i.1) (sum_same b i.2)
       ∙ sym (ap (λ n. operate p4.Add (cast_word (sound_width n) (indus_value.value_of seen a n)) (cast_word (sound_width n) (indus_value.value_of seen b n))) own_place))
+  sum_same _ i = absurd i
 
   -- a test and its lowered form have the same bit
   test_same : (e : indus.Expr) → IsSmallTest h.decls e → value_of (lowered e) 1 s ≡ indus_value.value_of seen e 1
-  test_same (indus.num p n) i = absurd i
-  test_same (indus.read p x) i = absurd i
-  test_same (indus.binary p o (indus.num q n) b) i = absurd i
-  test_same (indus.binary p o (indus.binary q o' a c) b) i = absurd i
   test_same (indus.binary p o (indus.read q x) b) i =
       let low_place : either_width (read s (tele_path x)).width (own_width (lowered b) s) ≡ 8 = ap (λ n. either_width n (own_width (lowered b) s)) (low_width (indus.read q x) i.1) in
       let own_place : either_width (name_word seen x).width (indus_value.own_width seen b) ≡ 8 =
-      ap (λ n. either_width n (indus_value.own_width seen b)) (cell_width (t x) (held_width (lookup h.decls x)) (m.fits x i.1)) in
+      ap (λ n. either_width n (indus_value.own_width seen b)) (name_width x i.1) in
       subst (λ o. value_of (lowered (indus.binary p o (indus.read q x) b)) 1 s ≡ indus_value.value_of seen (indus.binary p o (indus.read q x) b) 1) (sym i.0)
       (ap (λ n. operate p4.Equal (cast_word (sound_width n) (read s (tele_path x))) (cast_word (sound_width n) (value_of (lowered b) n s))) low_place
       ∙ ap₂ (λ u v. operate p4.Equal (cast_word 8 u) (cast_word 8 v)) (sum_same (indus.read q x) i.1) (sum_same b i.2)
       ∙ sym (ap (λ n. operate p4.Equal (cast_word (sound_width n) (name_word seen x)) (cast_word (sound_width n) (indus_value.value_of seen b n))) own_place))
+  test_same _ i = absurd i
 
 and_true : (b : Bool) → (b && true) ≡ b
 and_true true = refl
@@ -160,9 +190,9 @@ set_word true false w old ws e h = absurd (cc)
 set_word false true w old ws e h = absurd (cc)
 
 -- which is a byte
-set_cell : (c : Bool) (n : ℕ) (ws : List Word) → n < 256 → IsByteCell ws → IsByteCell (cond c (word 8 n ∷ []) ws)
-set_cell true n ws lt h = record { one = refl; low = lt }
-set_cell false n ws lt h = h
+set_byte : (c : Bool) (n : ℕ) (ws : List Word) → n < 256 → IsByteCell ws → IsByteCell (cond c (word 8 n ∷ []) ws)
+set_byte true n ws lt h = record { one = refl; low = lt }
+set_byte false n ws lt h = h
 
 -- the flag is set, and so it is there, also where it was not before
 pub set_rejected : (ds : List indus.Decl) (before checks : Bool) (b : Run) (d : Doing) (r : Bool) → Stands ds before b.store d → Stands ds checks (set_value b.store (rejected_name ∷ []) (bit r)) (record d { rejected = r })
@@ -191,7 +221,7 @@ module _ (ds : List indus.Decl) (checks : Bool) where
               valid = s.monitor.valid;
               mark = s.monitor.mark;
               tele = λ y i. set_word (same_path (tele_path x) (tele_path y)) (same_text x y) (word 8 n) (b.store.values (tele_path y)) (d.tele y) (same_front x y) (s.monitor.tele y i);
-              fits = λ y i. set_cell (same_text x y) n (d.tele y) lt (s.monitor.fits y i);
+              fits = λ y i. set_byte (same_text x y) n (d.tele y) lt (s.monitor.fits y i);
             };
         rejected = s.rejected;
         reports = s.reports;
@@ -217,22 +247,22 @@ module _ (ds : List indus.Decl) (checks : Bool) where
 
 module _ (h : Hop) (decls : All IsByteDecl h.decls) (checks : Bool) where
   -- an assignment to a variable
-  lowers_assign : (p : ℕ) (x : List ℕ) (e : indus.Expr) (b : Run) (d : Doing) → is_declared h.decls x ≡ true → IsSmallSum h.decls e → Stands h.decls checks b.store d → Lowered h.decls checks b (meaning_of_stmt (lowered_stmt (indus.assign p x e)) b) (run_of_stmt h (indus.assign p x e) d)
+  lowers_assign : (p : ℕ) (x : List ℕ) (e : indus.Expr) (b : Run) (d : Doing) → is_declared h.decls x ≡ true → IsSmallSum h.decls e → Stands h.decls checks b.store d → Lowered h.decls checks b (meaning_of_stmt (lowered_stmt (indus.assign p x e)) b) (stmt_run h [] (indus.assign p x e) d)
   lowers_assign p x e b d is i s =
       let cell = s.monitor.fits x is in
-      let w = indus_value.value_of (seen_by h d) e 8 in
+      let w = indus_value.value_of (seen_by h [] d) e 8 in
       let n = cast 8 w.value in
       let lt : n < 256 = mod-lt w.value (pow_pos 8) in
       let c = in_store b (set_value b.store (tele_path x) (word 8 n)) in
       let d' : Doing = record d { tele = put d.tele x (word 8 n ∷ []) } in
       let old : b.store.values (tele_path x) ≡ word 8 (tele_word d.tele x).value = s.monitor.tele x is ∙ ap (λ ws. scalar ws 8) cell.one in
       let low : meaning_of_stmt (assign 0 (tele_path x) (lowered e)) b ≡ (c, Go) =
-      assignment b 0 (tele_path x) (lowered e) (word 8 (tele_word d.tele x).value) w (open_by (b.store.headers tele_header) (Some true) s.monitor.valid tt) old (sum_same h b.store d.tele s.monitor e i) in
-      let value : value_for h d x e ≡ word 8 n = ap (λ k. cast_word (sound_width k) (indus_value.value_of (seen_by h d) e k)) (held_is h.decls decls x is) in
-      let own : assigned x (value_for h d x e) d ≡ d' =
-      ap (λ v. assigned x v d) value ∙ ap (λ ws. let r : Doing = record d { tele = put d.tele x (put_cell ws 0 (word 8 n)) } in r) cell.one in
+      assignment b 0 (tele_path x) (lowered e) (word 8 (tele_word d.tele x).value) w (open_by (b.store.headers tele_header) (Some true) s.monitor.valid tt) old (sum_same h decls b.store d.tele d.sensors s.monitor e i) in
+      let value : value_for h [] d x e ≡ word 8 n = ap (λ k. cast_word (sound_width k) (indus_value.value_of (seen_by h [] d) e k)) (held_is h.decls decls x is) in
+      let own : set_cell (lookup h.decls x) x 0 (value_for h [] d x e) d ≡ d' =
+      set_is h.decls decls x (value_for h [] d x e) d is ∙ ap (λ v. set_by_kind kind.Tele x 0 v d) value ∙ ap (λ ws. let r : Doing = record d { tele = put d.tele x (put_cell ws 0 (word 8 n)) } in r) cell.one in
       let one : Lowered h.decls checks b (c, Go) d' = record { stands = set_tele h.decls checks b d x n lt s; others = others_set b (tele_path x) (word 8 n) refl; goes = refl } in
-      subst (λ r. Lowered h.decls checks b r (assigned x (value_for h d x e) d)) (sym low) (subst (λ r. Lowered h.decls checks b (c, Go) r) (sym own) one)
+      subst (λ r. Lowered h.decls checks b r (set_cell (lookup h.decls x) x 0 (value_for h [] d x e) d)) (sym low) (subst (λ r. Lowered h.decls checks b (c, Go) r) (sym own) one)
 
   -- a rejection
   lowers_reject : (p : ℕ) (b : Run) (d : Doing) → checks ≡ true → Stands h.decls checks b.store d → Lowered h.decls checks b (meaning_of_stmt (lowered_stmt (indus.reject p)) b) (record d { rejected = true })
@@ -246,17 +276,18 @@ module _ (h : Hop) (decls : All IsByteDecl h.decls) (checks : Bool) where
 
   mutual
     -- a statement
-    lowers_one : (o : indus.Stmt) (b : Run) (d : Doing) → IsSmallStmt h.decls checks o → Stands h.decls checks b.store d → Lowered h.decls checks b (meaning_of_stmt (lowered_stmt o) b) (run_of_stmt h o d)
+    lowers_one : (o : indus.Stmt) (b : Run) (d : Doing) → IsSmallStmt h.decls checks o → Stands h.decls checks b.store d → Lowered h.decls checks b (meaning_of_stmt (lowered_stmt o) b) (stmt_run h [] o d)
     lowers_one (indus.assign p x e) b d i s = lowers_assign p x e b d i.0 i.1 s
     lowers_one (indus.choice p e a c) b d i s =
         let test = value_of (lowered e) 1 b.store in
-        let own_test = indus_value.value_of (seen_by h d) e 1 in
+        let own_test = indus_value.value_of (seen_by h [] d) e 1 in
         subst (λ c. Lowered h.decls checks b (cond (holds test) (meaning_of (lowered_block a) b) (meaning_of_else (lowered_else c) b)) (cond (holds own_test) (run_of h a d) (run_of h c d))) (sym i.2)
-        (low_if h.decls checks b (holds test) (holds own_test) (meaning_of (lowered_block a) b) (b, Go) (run_of h a d) d (ap holds (test_same h b.store d.tele s.monitor e i.0)) (lowers a b d i.1 s) (low_same h.decls checks b d s))
+        (low_if h.decls checks b (holds test) (holds own_test) (meaning_of (lowered_block a) b) (b, Go) (run_of h a d) d (ap holds (test_same h decls b.store d.tele d.sensors s.monitor e i.0)) (lowers a b d i.1 s) (low_same h.decls checks b d s))
     lowers_one (indus.reject p) b d i s = lowers_reject p b d i s
+    lowers_one _ b d i s = absurd i
 
     -- a block
     pub lowers : (ss : indus.Stmts) (b : Run) (d : Doing) → IsSmallBlock h.decls checks ss → Stands h.decls checks b.store d → Lowered h.decls checks b (meaning_of (lowered_block ss) b) (run_of h ss d)
     lowers indus.done b d i s = low_same h.decls checks b d s
     lowers (indus.next o ss) b d i s =
-        low_after h.decls checks b (meaning_of_stmt (lowered_stmt o) b) (meaning_of (lowered_block ss)) (run_of_stmt h o d) (run_of h ss (run_of_stmt h o d)) (lowers_one o b d i.0 s) (λ q t. lowers ss q (run_of_stmt h o d) i.1 t)
+        low_after h.decls checks b (meaning_of_stmt (lowered_stmt o) b) (meaning_of (lowered_block ss)) (stmt_run h [] o d) (run_of h ss (stmt_run h [] o d)) (lowers_one o b d i.0 s) (λ q t. lowers ss q (stmt_run h [] o d) i.1 t)

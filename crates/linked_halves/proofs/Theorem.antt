@@ -6,7 +6,7 @@ use Rattle.std.proofs.lemmas.List.Elements.{All-head, All-tail, All-cons, All-ni
 use Rattle.bit_values.specs.Bits.{Word}
 use Rattle.p4_tree.specs.Parts.{Cells}
 use Rattle.p4_tree.specs.Pass.{Registers, parts_enter, zero_cells, start_cells}
-use Rattle.indus_tree.specs.State.{tele_start}
+use Rattle.indus_tree.specs.Start.{tele_start}
 use Rattle.path_runner.specs.Network.{Link, Wiring, far_end_among, at_edge, IsLinkOf}
 use Rattle.path_runner.specs.PathMeaning.{entry_part}
 use Rattle.program_linker.specs.HalvesLaws.{carried, reads_at, EnterAgrees}

@@ -7,7 +7,8 @@ use Rattle.p4_tree.specs.Pass as pass
 use Rattle.p4_tree.specs.Pass.{Registers, Queued, parts_enter, parts_leave, start_cells}
 use Rattle.indus_tree.specs.Tree.{Decl, Stmts, Property}
 use Rattle.indus_tree.specs.State as indus
-use Rattle.indus_tree.specs.State.{Hop, tele_start}
+use Rattle.indus_tree.specs.State.{Hop, members, nothing_of}
+use Rattle.indus_tree.specs.Start.{tele_start}
 use Rattle.indus_tree.specs.Meaning.{run_of}
 use Rattle.path_runner.specs.Machine.{Digest, Entered, Going, Leaving, Machine}
 use Rattle.path_runner.specs.Network.{Link}
@@ -41,16 +42,20 @@ machine_of program =
       set = λ s cells v c. cells;
     }
 
--- what a hop shows a block
+-- a property of the first small grammar has no sensors
+abbrev pub no_sensors : Tele
+no_sensors x = []
+
+-- what a hop shows a block. There are no header variables and no control variables
 abbrev pub hop_of : List Decl → law.Reads (Unit {0}) → Hop
-hop_of ds r = record { decls = ds; first = r.first; last = r.last; switch = r.switch }
+hop_of ds r = record { decls = ds; headers = λ x. nothing_of 1; contents = λ x. members []; first = r.first; last = r.last; switch = r.switch }
 
 abbrev pub report_of : indus.Report → law.Report
 report_of r = record { number = r.number; values = r.values }
 
 -- what a block works on, with nothing reported yet, and what it leaves
 abbrev pub begun : law.Doing Tele (Unit {0}) → indus.Doing
-begun d = record { tele = d.tele; rejected = d.rejected; reports = [] }
+begun d = record { tele = d.tele; sensors = no_sensors; rejected = d.rejected; reports = [] }
 
 abbrev pub ended : law.Doing Tele (Unit {0}) → indus.Doing → law.Doing Tele (Unit {0})
 ended d e = record { tele = e.tele; sensors = d.sensors; rejected = e.rejected; reports = d.reports ++ map report_of e.reports }

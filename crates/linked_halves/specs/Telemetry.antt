@@ -5,7 +5,7 @@ use Rattle.bit_values.specs.BitLists.{number_bits}
 use Rattle.p4_tree.specs.Parsing.{bytes_of}
 use Rattle.indus_tree.specs.Tree.{Decl}
 use Rattle.indus_tree.specs.Names.{is_declared}
-use Rattle.indus_tree.specs.Value.{scalar}
+use Rattle.indus_tree.specs.Reads.{scalar}
 use Rattle.program_linker.specs.Linkage as law
 
 -- what each name holds

@@ -3,10 +3,9 @@
 use Rattle.std.specs.Prelude.{◌≡◌, ℕ, suc, ◌+◌, ◌<◌, Bool, true, false, List, [], ◌∷◌, ◌++◌, length, None}
 use Rattle.lex_text.specs.declared.literal.Literal.{Literal}
 use Rattle.indus_tree.specs.Names.{is_declared, is_keyword, is_built_in}
-use Rattle.indus_tree.specs.Tree.{Expr, num, read, binary, Stmt, Stmts, assign, choice, reject, done, next, Decl, Property}
+use Rattle.indus_tree.specs.Tree.{one, Expr, num, read, binary, Stmt, Stmts, assign, choice, reject, done, next, Decl, Property}
 use Rattle.indus_tree.specs.declared.tree.DeclKind.TheVariants as kind
 use Rattle.indus_tree.specs.declared.tree.Op.TheVariants as op
-use Rattle.indus_tree.specs.declared.tree.Shape.TheVariants as shape
 use Rattle.indus_tree.specs.declared.tree.Ty.TheVariants as ty
 use Rattle.wire_reader.specs.declared.token.Key.TheVariants.{Tele, Bit, If, Reject, Less, More, Semicolon, BraceOpen, BraceClose, Open, Close, Assign, Equal, Plus}
 use Rattle.wire_reader.specs.declared.token.Token.{Token}
@@ -25,7 +24,7 @@ byte_decl p x = record {
   place = p;
   kind = kind.Tele;
   name = x;
-  shape = shape.One (ty.Bit 8);
+  shape = one (ty.Bit 8);
   start = None;
   path = [];
   valid = false;
