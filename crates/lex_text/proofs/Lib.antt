@@ -1,0 +1,5 @@
+pub mod Values
+pub mod Fronts
+pub mod NameFronts
+pub mod CommentFronts
+pub mod MarkFronts
