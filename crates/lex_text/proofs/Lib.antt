@@ -3,3 +3,5 @@ pub mod Fronts
 pub mod NameFronts
 pub mod CommentFronts
 pub mod MarkFronts
+pub mod TextFronts
+pub mod NumberFronts
