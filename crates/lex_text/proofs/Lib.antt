@@ -5,3 +5,6 @@ pub mod CommentFronts
 pub mod MarkFronts
 pub mod TextFronts
 pub mod NumberFronts
+pub mod PieceRight
+pub mod PieceOnly
+pub mod Whole

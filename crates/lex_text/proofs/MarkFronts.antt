@@ -33,35 +33,53 @@ other b e =
     let l = and_parts (not (is_digit b)) _ k.1 in
     record { space = not-true (is_space b) h.0; letter = not-true (is_name_start b) k.0; digit = not-true (is_digit b) l.0; quote = not-true (b == 34) l.1 }
 
-abbrev is_other_first : List ℕ → Bool
-is_other_first [] = false
-is_other_first (b ∷ bs) = is_other b
+-- the first byte passes
+abbrev is_first : (ℕ → Bool) → List ℕ → Bool
+is_first p [] = false
+is_first p (b ∷ bs) = p b
 
-same_first : (b : ℕ) (bs m : List ℕ) → same_text (b ∷ bs) m ≡ true → is_other_first m ≡ true → is_other b ≡ true
-same_first b bs [] e o = absurd (let x : false ≡ true = e in cc)
-same_first b bs (c ∷ cs) e o =
+same_first : (p : ℕ → Bool) (b : ℕ) (bs m : List ℕ) → same_text (b ∷ bs) m ≡ true → is_first p m ≡ true → p b ≡ true
+same_first p b bs [] e o = absurd (let x : false ≡ true = e in cc)
+same_first p b bs (c ∷ cs) e o =
     let h = and_parts (b == c) _ e in
     let same : b ≡ c = eqb-true b c h.0 in
-    ap is_other same ∙ o
+    ap p same ∙ o
 
-one_of_others : (ms : List (List ℕ)) (b : ℕ) (bs : List ℕ) → list_all is_other_first ms ≡ true → is_one_of ms (b ∷ bs) ≡ true → is_other b ≡ true
-one_of_others [] b bs a e = absurd (let x : false ≡ true = e in cc)
-one_of_others (m ∷ ms) b bs a e =
-    let h = and_parts (is_other_first m) (list_all is_other_first ms) a in
-    elim (or_cases (same_text (b ∷ bs) m) (is_one_of ms (b ∷ bs)) e) [ inl f ↦ same_first b bs m f h.0 | inr f ↦ one_of_others ms b bs h.1 f ]
+-- where the first byte of each mark passes, so does that of one of them
+one_first : (p : ℕ → Bool) (ms : List (List ℕ)) (b : ℕ) (bs : List ℕ) → list_all (is_first p) ms ≡ true → is_one_of ms (b ∷ bs) ≡ true → p b ≡ true
+one_first p [] b bs a e = absurd (let x : false ≡ true = e in cc)
+one_first p (m ∷ ms) b bs a e =
+    let h = and_parts (is_first p m) (list_all (is_first p) ms) a in
+    elim (or_cases (same_text (b ∷ bs) m) (is_one_of ms (b ∷ bs)) e) [ inl f ↦ same_first p b bs m f h.0 | inr f ↦ one_first p ms b bs h.1 f ]
 
 single_other : (w : Words) (b : ℕ) → is_single_mark w b ≡ true → is_other b ≡ true
-single_other Indus b e = one_of_others single_marks b [] refl e
+single_other Indus b e = one_first is_other single_marks b [] refl e
 single_other P4 b e =
     elim (or_cases (is_one_of single_marks (b ∷ [])) (is_one_of p4_marks (b ∷ [])) e)
-    [ inl f ↦ one_of_others single_marks b [] refl f | inr f ↦ one_of_others p4_marks b [] refl f ]
+    [ inl f ↦ one_first is_other single_marks b [] refl f | inr f ↦ one_first is_other p4_marks b [] refl f ]
 
 -- a mark begins with no space, letter, digit or `"`
 pub mark_other : (w : Words) (b : ℕ) (bs : List ℕ) → IsMark w (b ∷ bs) → Other b
 mark_other w b [] e = other b (single_other w b e)
-mark_other w b (c ∷ []) e = other b (one_of_others double_marks b (c ∷ []) refl e)
-mark_other w b (c ∷ d ∷ []) e = other b (one_of_others triple_marks b (c ∷ d ∷ []) refl e)
+mark_other w b (c ∷ []) e = other b (one_first is_other double_marks b (c ∷ []) refl e)
+mark_other w b (c ∷ d ∷ []) e = other b (one_first is_other triple_marks b (c ∷ d ∷ []) refl e)
 mark_other w b (c ∷ d ∷ x ∷ bs) e = absurd (let x : false ≡ true = e in cc)
+
+double_single : (w : Words) (b c : ℕ) → is_double_mark b c ≡ true → is_single_mark w b ≡ true
+double_single Indus b c e = one_first (is_single_mark Indus) double_marks b (c ∷ []) refl e
+double_single P4 b c e = one_first (is_single_mark P4) double_marks b (c ∷ []) refl e
+
+triple_single : (w : Words) (b c d : ℕ) → is_triple_mark b c d ≡ true → is_single_mark w b ≡ true
+triple_single Indus b c d e = one_first (is_single_mark Indus) triple_marks b (c ∷ d ∷ []) refl e
+triple_single P4 b c d e = one_first (is_single_mark P4) triple_marks b (c ∷ d ∷ []) refl e
+
+-- a mark begins with a mark of one character
+pub mark_single : (w : Words) (u : List ℕ) → IsMark w u → (v : List ℕ) (b : ℕ) (rest : List ℕ) → u ++ v ≡ b ∷ rest → is_single_mark w b ≡ true
+mark_single w [] i v b rest e = absurd (let x : false ≡ true = i in cc)
+mark_single w (a ∷ []) i v b rest e = let same : a ≡ b = cc in ap (is_single_mark w) (sym same) ∙ i
+mark_single w (a ∷ c ∷ []) i v b rest e = let same : a ≡ b = cc in ap (is_single_mark w) (sym same) ∙ double_single w a c i
+mark_single w (a ∷ c ∷ d ∷ []) i v b rest e = let same : a ≡ b = cc in ap (is_single_mark w) (sym same) ∙ triple_single w a c d i
+mark_single w (a ∷ c ∷ d ∷ x ∷ u) i v b rest e = absurd (let y : false ≡ true = i in cc)
 
 -- ---- the longest mark
 

@@ -80,7 +80,7 @@ end_no_text (b ∷ rest) e = let same : b ≡ 10 = eqb-true b 10 e in rw same re
 -- ---- texts
 
 -- a piece by whether the text is closed, and whether its inside is ASCII
-text_closed : (body rest : List ℕ) → list_all is_in_text body ≡ true → text_piece (body ++ 34 ∷ rest) ≡ cond (nat_lt (prefix_len is_ascii (body ++ 34 ∷ rest)) (length body)) (piece.Bad (prefix_len is_ascii (body ++ 34 ∷ rest) + 1)) (piece.Token kind.Text (length body + 2))
+pub text_closed : (body rest : List ℕ) → list_all is_in_text body ≡ true → text_piece (body ++ 34 ∷ rest) ≡ cond (nat_lt (prefix_len is_ascii (body ++ 34 ∷ rest)) (length body)) (piece.Bad (prefix_len is_ascii (body ++ 34 ∷ rest) + 1)) (piece.Token kind.Text (length body + 2))
 text_closed body rest a =
     let n = prefix_len-stop is_in_text body 34 rest a refl in
     rw (n, drop-append_seam body (34 ∷ rest)) refl
