@@ -8,3 +8,5 @@ pub mod NumberFronts
 pub mod PieceRight
 pub mod PieceOnly
 pub mod Whole
+pub mod OneAnswer
+pub mod Lying

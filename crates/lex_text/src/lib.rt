@@ -7,6 +7,7 @@
 
 mod byte;
 mod fault;
+pub mod laws;
 mod lexing;
 mod literal;
 mod name;
