@@ -1,10 +1,11 @@
 -- A text has one list of tokens or one fault.
-use Rattle.std.proofs.Common.{◌≡◌, ◌⊎◌, ℕ, zero, suc, ◌+◌, ◌≤◌, ◌<◌, List, [], ◌∷◌, ◌++◌, length, take, drop, Option, Some, None, refl, sym, ap, subst, ◌∙◌, arith, inl, inr, length-drop, length-append}
+use Rattle.std.proofs.Common.{◌≡◌, ◌≢◌, ◌⊎◌, Result, Ok, Err, ℕ, zero, suc, ◌+◌, ◌≤◌, ◌<◌, List, [], ◌∷◌, ◌++◌, length, take, drop, Option, Some, None, refl, sym, ap, subst, ◌∙◌, arith, inl, inr, length-drop, length-append}
 use Rattle.std.proofs.lemmas.Bool.{cases_lt}
 use Rattle.std.proofs.lemmas.List.{take_all, nil_from_length}
 use Rattle.std.proofs.lemmas.Str.{utf8_valid_len-IsValidUpTo}
+use Rattle.std.specs.Prelude.{IfOk, IfErr}
 use Rattle.std.specs.Str.{IsUtf8, IsValidUpTo}
-use Rattle.lex_text.specs.Tokens.{is_line_start, IsFault, no_token, letter_behind, past_ascii, open_comment, too_wide, open_text, Lexes, at_end, at_fault, a_space, a_comment, a_token, TokensOf, FirstFault, FaultOf}
+use Rattle.lex_text.specs.Tokens.{is_line_start, IsFault, no_token, letter_behind, past_ascii, open_comment, too_wide, open_text, Lexes, at_end, at_fault, a_space, a_comment, a_token, TokensOf, FirstFault, FaultOf, IsAnswer, IsRefusal}
 use Rattle.lex_text.specs.Laws.{OneList, OneFault, TokensOrFault, SomeAnswer}
 use Rattle.lex_text.specs.Pieces.{piece_of}
 use Rattle.lex_text.specs.declared.fault.LexFault.{LexFault}
@@ -145,3 +146,26 @@ some_end w text u ts (Some f) l = inr (f, record { utf8 = u; front = ts; lexes =
 
 pub some_answer : SomeAnswer
 some_answer w text u = let e = ends_by (suc (length text)) w [] text (omega arith) in some_end w text u e.tokens e.stop e.lexes
+
+-- ---- what a lexer answers
+
+-- where what is given is right, nothing else is given
+pub only_answer : {V : Type 0} (view : V → List Token) (w : Words) (text : List ℕ) (r : Result V LexFault) → IfOk r (λ v. TokensOf w text (view v)) → IfErr r (λ f. f ≢ fault.NoMemory → FaultOf w text f)
+    → (ts : List Token) → TokensOf w text ts → IsAnswer view r ts
+only_answer view w text (Ok v) ok err ts t = one_list w text (view v) ts ok t
+only_answer view w text (Err fault.NoMemory) ok err ts t = refl
+only_answer view w text (Err (fault.NotUtf8 at)) ok err ts t = absurd (tokens_or_fault w text ts (fault.NotUtf8 at) t (err (λ e. cc)))
+only_answer view w text (Err (fault.BadChar at)) ok err ts t = absurd (tokens_or_fault w text ts (fault.BadChar at) t (err (λ e. cc)))
+only_answer view w text (Err (fault.OpenComment at)) ok err ts t = absurd (tokens_or_fault w text ts (fault.OpenComment at) t (err (λ e. cc)))
+only_answer view w text (Err (fault.NumberTooWide at)) ok err ts t = absurd (tokens_or_fault w text ts (fault.NumberTooWide at) t (err (λ e. cc)))
+only_answer view w text (Err (fault.OpenText at)) ok err ts t = absurd (tokens_or_fault w text ts (fault.OpenText at) t (err (λ e. cc)))
+
+pub only_refusal : {V : Type 0} (view : V → List Token) (w : Words) (text : List ℕ) (r : Result V LexFault) → IfOk r (λ v. TokensOf w text (view v)) → IfErr r (λ f. f ≢ fault.NoMemory → FaultOf w text f)
+    → (f : LexFault) → FaultOf w text f → IsRefusal r f
+only_refusal view w text (Ok v) ok err f t = tokens_or_fault w text (view v) f ok t
+only_refusal view w text (Err fault.NoMemory) ok err f t = inl refl
+only_refusal view w text (Err (fault.NotUtf8 at)) ok err f t = inr (one_fault w text (fault.NotUtf8 at) f (err (λ e. cc)) t)
+only_refusal view w text (Err (fault.BadChar at)) ok err f t = inr (one_fault w text (fault.BadChar at) f (err (λ e. cc)) t)
+only_refusal view w text (Err (fault.OpenComment at)) ok err f t = inr (one_fault w text (fault.OpenComment at) f (err (λ e. cc)) t)
+only_refusal view w text (Err (fault.NumberTooWide at)) ok err f t = inr (one_fault w text (fault.NumberTooWide at) f (err (λ e. cc)) t)
+only_refusal view w text (Err (fault.OpenText at)) ok err f t = inr (one_fault w text (fault.OpenText at) f (err (λ e. cc)) t)

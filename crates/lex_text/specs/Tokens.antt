@@ -1,5 +1,5 @@
 -- The tokens of a text, and the first fault of a text that has none.
-use Rattle.std.specs.Prelude.{◌≡◌, ℕ, ◌+◌, ◌≤◌, ◌==◌, nat_lt, nat_le, Bool, true, false, not, ◌&&◌, ◌||◌, List, [], ◌∷◌, ◌++◌, length, reverse, Option, Some, None, codes}
+use Rattle.std.specs.Prelude.{◌≡◌, ℕ, ◌+◌, ◌≤◌, ◌==◌, nat_lt, nat_le, Bool, true, false, not, ◌&&◌, ◌||◌, List, [], ◌∷◌, ◌++◌, length, reverse, Option, Some, None, Result, Ok, Err, ◌⊎◌, codes}
 use Rattle.std.specs.List.{list_all, list_any}
 use Rattle.std.specs.Str.{IsUtf8, IsValidUpTo}
 use Rattle.lex_text.specs.Names.{same_text}
@@ -161,3 +161,13 @@ FaultOf w text (fault.BadChar at) = FirstFault w text (fault.BadChar at)
 FaultOf w text (fault.OpenComment at) = FirstFault w text (fault.OpenComment at)
 FaultOf w text (fault.NumberTooWide at) = FirstFault w text (fault.NumberTooWide at)
 FaultOf w text (fault.OpenText at) = FirstFault w text (fault.OpenText at)
+
+-- these tokens, or want of memory
+abbrev pub IsAnswer : {V : Type 0} → (V → List Token) → Result V LexFault → List Token → Type 0
+IsAnswer view (Ok list) ts = view list ≡ ts
+IsAnswer view (Err f) ts = f ≡ fault.NoMemory
+
+-- this fault, or want of memory
+abbrev pub IsRefusal : {V : Type 0} → Result V LexFault → LexFault → Type 0
+IsRefusal (Ok list) f = ⊥
+IsRefusal (Err g) f = (g ≡ fault.NoMemory) ⊎ (g ≡ f)

@@ -1,8 +1,8 @@
 //! The tokens of a text.
 
-ghost use Rattle.std.specs.Prelude.{◌≡◌, ◌≢◌, ◌≤◌, length, None, Some, List, IfOk, IfErr};
+ghost use Rattle.std.specs.Prelude.{◌≡◌, ◌≢◌, ◌≤◌, length, List, IfOk, IfErr};
 ghost use Rattle.std.specs.Str.{IsUtf8};
-ghost use Rattle.lex_text.specs.Tokens.{Lexes, TokensOf, FaultOf};
+ghost use Rattle.lex_text.specs.Tokens.{TokensOf, FaultOf, IsAnswer, IsRefusal};
 ghost use Rattle.lex_text.specs.declared.fault.LexFault.{LexFault as Fault};
 ghost use Rattle.lex_text.specs.declared.fault.LexFault.TheVariants.{NoMemory};
 ghost use Rattle.lex_text.specs.declared.token.Token.{Token as TokenOf};
@@ -19,6 +19,11 @@ pub fn tokens(alloc: Global, text: &[u8], words: Words) -> Result<Vec<Token>, Le
     ensures found { IfOk result (λ list. TokensOf words text.now list.items) }
     // A fault is why the text has no tokens, the first of its faults.
     ensures fault { IfErr result (λ f. f ≢ NoMemory → FaultOf words text.now f) }
+    // A text that has tokens is refused for want of memory alone.
+    ensures only { (ts : List TokenOf) → TokensOf words text.now ts →
+        IsAnswer (λ list. list.items) result ts }
+    // A text that has a fault is refused for it, or for want of memory.
+    ensures refused { (f : Fault) → FaultOf words text.now f → IsRefusal result f }
 {
     match std::str::from_utf8(text) {
         Err(error) => Err(LexFault::NotUtf8 {
