@@ -48,7 +48,6 @@ pub record Closed (bs : List ℕ) (m : ℕ) : Type 0 where
   pub no_end : has_close body ≡ false
   pub long : m ≡ length body + 2
 
-
 begins_front : (b : ℕ) (body behind : List ℕ) → begins (codes "*/") (b ∷ (body ++ 42 ∷ 47 ∷ behind)) ≡ begins (codes "*/") (b ∷ body)
 begins_front b [] behind = go (42 == b)
   where
@@ -112,6 +111,7 @@ line_right text e =
         by_test : (t : Bool) → (x == 10) ≡ t → not t ≡ false → t ≡ true
         by_test true f g = refl
         by_test false f g = absurd (let y : true ≡ false = g in cc)
+
     go : (rest : List ℕ) → IsComment (take (prefix_len is_in_line (47 ∷ 47 ∷ rest)) (47 ∷ 47 ∷ rest)) (drop (prefix_len is_in_line (47 ∷ 47 ∷ rest)) (47 ∷ 47 ∷ rest))
     go rest =
         let n : prefix_len is_in_line (47 ∷ 47 ∷ rest) ≡ suc (suc (prefix_len is_in_line rest)) = omega arith in

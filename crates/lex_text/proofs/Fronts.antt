@@ -66,8 +66,9 @@ same_longest P u rest v back l p m e =
 
 pub same_front : (u rest v back : List ℕ) → u ++ rest ≡ v ++ back → length u ≡ length v → (u ≡ v) × (rest ≡ back)
 same_front u rest v back e l = (
-    sym (take-append_seam u rest) ∙ ap (take (length u)) e ∙ ap (λ n. take n (v ++ back)) l ∙ take-append_seam v back,
-    sym (drop-append_seam u rest) ∙ ap (drop (length u)) e ∙ ap (λ n. drop n (v ++ back)) l ∙ drop-append_seam v back)
+  sym (take-append_seam u rest) ∙ ap (take (length u)) e ∙ ap (λ n. take n (v ++ back)) l ∙ take-append_seam v back,
+  sym (drop-append_seam u rest) ∙ ap (drop (length u)) e ∙ ap (λ n. drop n (v ++ back)) l ∙ drop-append_seam v back,
+)
 
 -- a front of n bytes, n within the text
 pub length-front : (n : ℕ) (text : List ℕ) → n ≤ length text → length (take n text) ≡ n

@@ -56,27 +56,35 @@ rest_is front u rest text e = ap (drop (length front + length u)) (sym e) ∙ dr
 
 lie_space : (w : Words) (text front rest : List ℕ) (b : ℕ) (ts : List Token) (stop : Option LexFault) → is_space b ≡ true → front ++ b ∷ rest ≡ text → LieFrom w text (length front + 1) ts stop → LieFrom w text (length front) ts stop
 lie_space w text front rest b ts stop s e x = record {
-  end = x.end; inside = x.inside; tokens = x.tokens; whole = x.whole; fault = x.fault;
+  end = x.end;
+  inside = x.inside;
+  tokens = x.tokens;
+  whole = x.whole;
+  fault = x.fault;
   rising = rising-earlier (length front) (length front + 1) x.end ts (omega arith) x.rising;
   between = λ i le lt.
-      elim (cases_lt (length front) i)
-      [ inl more ↦ x.between i (omega (arith, more)) lt
-      | inr less ↦
-          let same : i ≡ length front = omega (arith, le, less) in
-          let byte : get_or text i 0 ≡ b = ap (λ z. get_or text z 0) same ∙ ap (λ z. get_or z (length front) 0) (sym e) ∙ seam_byte front b rest in
-          inr (a_space (ap is_space byte ∙ s))
+      elim (cases_lt (length front) i) [
+        | inl more ↦ x.between i (omega (arith, more)) lt
+        | inr less ↦
+            let same : i ≡ length front = omega (arith, le, less) in
+            let byte : get_or text i 0 ≡ b = ap (λ z. get_or text z 0) same ∙ ap (λ z. get_or z (length front) 0) (sym e) ∙ seam_byte front b rest in
+            inr (a_space (ap is_space byte ∙ s))
       ];
 }
 
 lie_comment : (w : Words) (text front u rest : List ℕ) (ts : List Token) (stop : Option LexFault) → IsComment u rest → front ++ (u ++ rest) ≡ text → LieFrom w text (length front + length u) ts stop → LieFrom w text (length front) ts stop
 lie_comment w text front u rest ts stop c e x = record {
-  end = x.end; inside = x.inside; tokens = x.tokens; whole = x.whole; fault = x.fault;
+  end = x.end;
+  inside = x.inside;
+  tokens = x.tokens;
+  whole = x.whole;
+  fault = x.fault;
   rising = rising-earlier (length front) (length front + length u) x.end ts (omega arith) x.rising;
   between = λ i le lt.
-      elim (cases_lt i (length front + length u))
-      [ inl less ↦ inr (in_comment (length front) (length u) le less
-          (subst (λ z. IsComment z (drop (length front + length u) text)) (sym (part_is front u rest text e)) (subst (IsComment u) (sym (rest_is front u rest text e)) c)))
-      | inr more ↦ x.between i more lt
+      elim (cases_lt i (length front + length u)) [
+        | inl less ↦ inr (in_comment (length front) (length u) le less
+            (subst (λ z. IsComment z (drop (length front + length u) text)) (sym (part_is front u rest text e)) (subst (IsComment u) (sym (rest_is front u rest text e)) c)))
+        | inr more ↦ x.between i more lt
       ];
 }
 
@@ -91,16 +99,19 @@ lie_token w text front u rest k ts stop i e x =
       long = omega (arith, some);
       inside = omega (arith, size, length-append front (u ++ rest), length-append u rest);
       is = subst (λ z. IsToken w z k (bytes_of text t) (drop (length front + length u) text)) (sym (front_is front u rest text e))
-        (subst (λ z. IsToken w front k z (drop (length front + length u) text)) (sym bytes) (subst (IsToken w front k u) (sym (rest_is front u rest text e)) i));
+          (subst (λ z. IsToken w front k z (drop (length front + length u) text)) (sym bytes) (subst (IsToken w front k u) (sym (rest_is front u rest text e)) i));
     } in
     record {
-      end = x.end; inside = x.inside; whole = x.whole; fault = x.fault;
+      end = x.end;
+      inside = x.inside;
+      whole = x.whole;
+      fault = x.fault;
       tokens = All-cons (Stands w text) t ts stands x.tokens;
       rising = (omega arith, omega (arith, some), x.rising);
       between = λ j le lt.
-          elim (cases_lt j (length front + length u))
-          [ inl less ↦ inl (any_first j t ts le less)
-          | inr more ↦ elim (x.between j more lt) [ inl y ↦ inl (any_later j t ts y) | inr y ↦ inr y ]
+          elim (cases_lt j (length front + length u)) [
+            | inl less ↦ inl (any_first j t ts le less)
+            | inr more ↦ elim (x.between j more lt) [ inl y ↦ inl (any_later j t ts y) | inr y ↦ inr y ]
           ];
     }
 
@@ -112,7 +123,10 @@ lie {w = w} {front = front} text at_end e =
     let size = ap length e in
     let l = length-append front [] in
     record {
-      end = length front; inside = omega (arith, size, l); rising = omega arith; tokens = All-nil (Stands w text);
+      end = length front;
+      inside = omega (arith, size, l);
+      rising = omega arith;
+      tokens = All-nil (Stands w text);
       between = λ i le lt. absurd (omega (arith, le, lt));
       whole = λ n. omega (arith, size, l);
       fault = λ f n. absurd (let y : None ≡ Some f = n in cc);
@@ -121,7 +135,10 @@ lie {w = w} {front = front} {rest = rest} text (at_fault {f = f} i) e =
     let size = ap length e in
     let l = length-append front rest in
     record {
-      end = length front; inside = omega (arith, size, l); rising = omega arith; tokens = All-nil (Stands w text);
+      end = length front;
+      inside = omega (arith, size, l);
+      rising = omega arith;
+      tokens = All-nil (Stands w text);
       between = λ j le lt. absurd (omega (arith, le, lt));
       whole = λ n. absurd (let y : Some f ≡ None = n in cc);
       fault = λ g n.
@@ -175,7 +192,8 @@ fault_stops w text f t =
     let a = length-front x.end text x.inside in
     let b = length-drop x.end text in
     record {
-      tokens = t.front; place = x.end;
+      tokens = t.front;
+      place = x.end;
       lie = record { inside = x.inside; rising = x.rising; tokens = x.tokens; between = λ j lt. x.between j (omega arith) lt };
       fault = i;
       named = (let c = n.behind in omega (arith, a, c));

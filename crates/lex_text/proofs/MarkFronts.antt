@@ -124,6 +124,7 @@ double_longest w a b rest v back m e l = go (is_double_mark a b) refl
     short (x ∷ y ∷ []) n f h d =
         absurd (let first : x ≡ a = cc in let second : y ≡ b = cc in let is : is_double_mark x y ≡ true = n in let same : is_double_mark x y ≡ is_double_mark a b = cc in cc)
     short (x ∷ y ∷ z ∷ u) n f h d = absurd (omega (arith, h))
+
     go : (t : Bool) → is_double_mark a b ≡ t → length v ≤ cond t 2 (single_len w (a ∷ b ∷ rest))
     go true d = l
     go false d = single_longest w a (b ∷ rest) v back m e (short v m e l d)
@@ -151,6 +152,7 @@ triple_longest w a b c rest v back m e = go (is_triple_mark a b c) refl
     small (x ∷ y ∷ []) n = omega arith
     small (x ∷ y ∷ z ∷ []) n = omega arith
     small (x ∷ y ∷ z ∷ q ∷ u) n = absurd (let k : false ≡ true = n in cc)
+
     short : (u : List ℕ) → IsMark w u → u ++ back ≡ a ∷ b ∷ c ∷ rest → is_triple_mark a b c ≡ false → length u ≤ 2
     short [] n f d = omega arith
     short (x ∷ []) n f d = omega arith
@@ -158,6 +160,7 @@ triple_longest w a b c rest v back m e = go (is_triple_mark a b c) refl
     short (x ∷ y ∷ z ∷ []) n f d =
         absurd (let first : x ≡ a = cc in let second : y ≡ b = cc in let third : z ≡ c = cc in let is : is_triple_mark x y z ≡ true = n in let same : is_triple_mark x y z ≡ is_triple_mark a b c = cc in cc)
     short (x ∷ y ∷ z ∷ q ∷ u) n f d = absurd (let k : false ≡ true = n in cc)
+
     go : (t : Bool) → is_triple_mark a b c ≡ t → length v ≤ cond t 3 (double_len w (a ∷ b ∷ c ∷ rest))
     go true d = small v m
     go false d = double_longest w a b (c ∷ rest) v back m e (short v m e d)

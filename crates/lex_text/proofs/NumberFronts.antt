@@ -94,11 +94,14 @@ piece_found n text = go (is_w_next (drop n text))
   where
     width : ℕ
     width = value_from 10 0 (take n text)
+
     rest : List ℕ
     rest = drop (n + 1) text
+
     wide : (t : Bool) → is_width (value_from 10 0 (take n text)) ≡ t → cond t (sized_piece (value_from 10 0 (take n text)) (n + 1) (drop (n + 1) text)) piece.TooWide ≡ by_found (found_sized (Some (value_from 10 0 (take n text))) (n + 1) (drop (n + 1) text)) text
     wide true e = sized_found (value_from 10 0 (take n text)) (n + 1 + mark_of_base (base_of (drop (n + 1) text))) (radix (base_of (drop (n + 1) text))) (drop (mark_of_base (base_of (drop (n + 1) text))) (drop (n + 1) text)) text (drop-more (n + 1) (mark_of_base (base_of (drop (n + 1) text))) text) e
     wide false e = rw e refl
+
     go : (t : Bool) → cond t (cond (is_width (value_from 10 0 (take n text))) (sized_piece (value_from 10 0 (take n text)) (n + 1) (drop (n + 1) text)) piece.TooWide) (sized_piece 0 0 text) ≡ by_found (cond t (found_sized (Some (value_from 10 0 (take n text))) (n + 1) (drop (n + 1) text)) (found_sized None 0 text)) text
     go true = wide (is_width (value_from 10 0 (take n text))) refl
     go false = bare_found (0 + mark_of_base (base_of text)) (radix (base_of text)) (drop (mark_of_base (base_of text)) text) text (drop-more 0 (mark_of_base (base_of text)) text)
@@ -125,6 +128,7 @@ base_right (b ∷ rest) e = go (b == 48 && is_x_next rest) refl (b == 48 && is_b
   where
     first : (p : Bool) → (b == 48 && p) ≡ true → (b ≡ 48) × (p ≡ true)
     first p f = let h = and_parts (b == 48) p f in (eqb-true b 48 h.0, h.1)
+
     go : (s : Bool) → (b == 48 && is_x_next rest) ≡ s → (t : Bool) → (b == 48 && is_b_next rest) ≡ t → BaseAt (b ∷ rest) (cond s Hexadecimal (cond t Binary Decimal))
     go true f t g = let h = first (is_x_next rest) f in subst (λ z. BaseAt (z ∷ rest) Hexadecimal) (sym h.0) (x_apart rest h.1)
     go false f true g = let h = first (is_b_next rest) g in subst (λ z. BaseAt (z ∷ rest) Binary) (sym h.0) (b_apart rest h.1)
@@ -210,6 +214,7 @@ found_right b rest e = go (is_w_next (drop (prefix_len is_digit (b ∷ rest)) (b
   where
     n : ℕ
     n = prefix_len is_digit (b ∷ rest)
+
     go : (t : Bool) → is_w_next (drop (prefix_len is_digit (b ∷ rest)) (b ∷ rest)) ≡ t → IsFound (b ∷ rest) (cond t (found_sized (Some (value_from 10 0 (take (prefix_len is_digit (b ∷ rest)) (b ∷ rest)))) (prefix_len is_digit (b ∷ rest) + 1) (drop (prefix_len is_digit (b ∷ rest) + 1) (b ∷ rest))) (found_sized None 0 (b ∷ rest)))
     go true f =
         let w = w_apart (drop (prefix_len is_digit (b ∷ rest)) (b ∷ rest)) f in
@@ -227,11 +232,11 @@ Fits n value f = (n < f.long) ⊎ ((f.long ≡ n) × (f.value ≡ value))
 digits_fit : (width : Option ℕ) (before base : ℕ) (ds back : List ℕ) → list_all (is_in_digits base) ds ≡ true → Fits (before + length ds) (value_from base 0 ds) (found_digits width before base (ds ++ back))
 digits_fit width before base ds back a =
     let n = prefix_len-all (is_in_digits base) ds back a in
-    elim (cases_lt 0 (prefix_len (is_in_digits base) back))
-    [ inl lt ↦ inl (omega (arith, n, lt))
-    | inr le ↦
-        let m : prefix_len (is_in_digits base) (ds ++ back) ≡ length ds = omega (arith, n, le) in
-        inr (omega (arith, m), ap (λ z. value_from base 0 (take z (ds ++ back))) m ∙ ap (value_from base 0) (take-append_seam ds back))
+    elim (cases_lt 0 (prefix_len (is_in_digits base) back)) [
+      | inl lt ↦ inl (omega (arith, n, lt))
+      | inr le ↦
+          let m : prefix_len (is_in_digits base) (ds ++ back) ≡ length ds = omega (arith, n, le) in
+          inr (omega (arith, m), ap (λ z. value_from base 0 (take z (ds ++ back))) m ∙ ap (value_from base 0) (take-append_seam ds back))
     ]
 
 in_digits : (base : ℕ) (ds : List ℕ) → are_digits base ds ≡ true → list_all (is_in_digits base) ds ≡ true
@@ -283,9 +288,9 @@ w_behind text b rest e f = let w = w_apart text f in let same : b ∷ rest ≡ 1
 
 plain_before : (ds back : List ℕ) → list_all (is_in_digits 10) ds ≡ true → is_w_next (drop (prefix_len is_digit (ds ++ back)) (ds ++ back)) ≡ true → length ds ≤ prefix_len is_digit (ds ++ back)
 plain_before ds back a w =
-    elim (cases_lt (prefix_len is_digit (ds ++ back)) (length ds))
-    [ inl lt ↦
-        absurd (
+    elim (cases_lt (prefix_len is_digit (ds ++ back)) (length ds)) [
+      | inl lt ↦
+          absurd (
           let s = split is_digit ds back lt in
           let text = s.front ++ s.at ∷ (s.behind ++ back) in
           let whole : ds ++ back ≡ text = ap (λ z. z ++ back) s.is ∙ append_assoc s.front (s.at ∷ s.behind) back in
@@ -298,7 +303,7 @@ plain_before ds back a w =
           let g : is_in_digits 10 s.at ≡ false = ap (is_in_digits 10) is_w in
           let y = k.0 in
           cc)
-    | inr le ↦ le
+      | inr le ↦ le
     ]
 
 mark_before : (x : ℕ) (rest : List ℕ) → is_digit x ≡ false → (x == 119) ≡ false → is_w_next (drop (prefix_len is_digit (48 ∷ x ∷ rest)) (48 ∷ x ∷ rest)) ≡ false
@@ -341,10 +346,10 @@ number_fits back (with_width {value = value} {u = u} ws a x) =
     let n : prefix_len is_digit text ≡ length ws = prefix_len-stop is_digit ws 119 (u ++ back) (plain_all ws a) refl in
     let w : is_w_next (119 ∷ (u ++ back)) ≡ true = unsized_digit back x in
     let is : found text ≡ found_sized (Some (value_from 10 0 ws)) (length ws + 1) (u ++ back) =
-        ap (λ z. found_behind z text) n
-        ∙ cond-true (is_w_next (drop (length ws) text)) _ _ (ap is_w_next (drop-append_seam ws (119 ∷ (u ++ back))) ∙ w)
-        ∙ ap (λ z. found_sized (Some (value_from 10 0 z)) (length ws + 1) (drop (length ws + 1) text)) (take-append_seam ws (119 ∷ (u ++ back)))
-        ∙ ap (found_sized (Some (value_from 10 0 ws)) (length ws + 1)) (drop-append-add ws (119 ∷ (u ++ back)) 1) in
+    ap (λ z. found_behind z text) n
+    ∙ cond-true (is_w_next (drop (length ws) text)) _ _ (ap is_w_next (drop-append_seam ws (119 ∷ (u ++ back))) ∙ w)
+    ∙ ap (λ z. found_sized (Some (value_from 10 0 z)) (length ws + 1) (drop (length ws + 1) text)) (take-append_seam ws (119 ∷ (u ++ back)))
+    ∙ ap (found_sized (Some (value_from 10 0 ws)) (length ws + 1)) (drop-append-add ws (119 ∷ (u ++ back)) 1) in
     let long : length ws + 1 + length u ≡ length (ws ++ 119 ∷ u) = (let l = length-append ws (119 ∷ u) in omega (arith, l)) in
     subst (FoundFits (Some (value_from 10 0 ws)) value (ws ++ 119 ∷ u)) (sym (ap found whole ∙ is))
     (fits_from (found_sized (Some (value_from 10 0 ws)) (length ws + 1) (u ++ back)) (length ws + 1 + length u) refl long (sized_fits (Some (value_from 10 0 ws)) (length ws + 1) back x))

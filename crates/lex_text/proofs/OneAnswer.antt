@@ -61,11 +61,11 @@ same_turn w front rest piece.OpenText ts us s t rec lt some l m = record { token
 same_by : (k : ℕ) (w : Words) (front rest : List ℕ) (ts us : List Token) (s t : Option LexFault) → length rest < k → Lexes w front rest ts s → Lexes w front rest us t → Same ts us s t
 same_by zero w front rest ts us s t le l m = absurd (omega (arith, le))
 same_by (suc k) w front rest ts us s t le l m =
-    elim (cases_lt 0 (length rest))
-    [ inl lt ↦
-        same_turn w front rest (piece_of w (is_line_start front) rest) ts us s t (λ front' rest' xs ys short x y. same_by k w front' rest' xs ys s t (omega (arith, short, le)) x y)
-        lt (steps (right_front w front rest lt)) (back l lt) (back m lt)
-    | inr none ↦ (let a = ended l (omega (arith, none)) in let b = ended m (omega (arith, none)) in record { tokens = a.tokens ∙ sym b.tokens; stop = a.stop ∙ sym b.stop })
+    elim (cases_lt 0 (length rest)) [
+      | inl lt ↦
+          same_turn w front rest (piece_of w (is_line_start front) rest) ts us s t (λ front' rest' xs ys short x y. same_by k w front' rest' xs ys s t (omega (arith, short, le)) x y)
+          lt (steps (right_front w front rest lt)) (back l lt) (back m lt)
+      | inr none ↦ (let a = ended l (omega (arith, none)) in let b = ended m (omega (arith, none)) in record { tokens = a.tokens ∙ sym b.tokens; stop = a.stop ∙ sym b.stop })
     ]
 
 pub same : {w : Words} {front rest : List ℕ} {ts us : List Token} {s t : Option LexFault} → Lexes w front rest ts s → Lexes w front rest us t → Same ts us s t

@@ -83,9 +83,11 @@ hash_is P4 front bs rest m absent = go (is_line_start front) refl
     found n s e =
         let r = include_right (35 ∷ (bs ++ rest)) n e in
         absent refl (subst (Includes front) (take-append-drop n (35 ∷ (bs ++ rest))) (includes (take n (35 ∷ (bs ++ rest))) (drop n (35 ∷ (bs ++ rest))) r.is s))
+
     by_len : is_line_start front ≡ true → (o : Option ℕ) → include_len (35 ∷ (bs ++ rest)) ≡ o → include_or_mark o (35 ∷ (bs ++ rest)) ≡ mark_piece P4 (35 ∷ (bs ++ rest))
     by_len s None e = refl
     by_len s (Some n) e = absurd (found n s e)
+
     go : (t : Bool) → is_line_start front ≡ t → cond t (include_or_mark (include_len (35 ∷ (bs ++ rest))) (35 ∷ (bs ++ rest))) (mark_piece P4 (35 ∷ (bs ++ rest))) ≡ mark_piece P4 (35 ∷ (bs ++ rest))
     go true e = by_len e (include_len (35 ∷ (bs ++ rest))) refl
     go false e = refl
@@ -98,6 +100,7 @@ any_mark w front b bs rest l line block absent = piece_of-other w (is_line_start
     hash e =
         subst (λ z. hash_piece w (is_line_start front) (z ∷ (bs ++ rest)) ≡ mark_piece w (z ∷ (bs ++ rest))) (sym e)
         (hash_is w front bs rest (subst (λ z. IsMark w (z ∷ bs)) e l.is) (subst (λ z. w ≡ P4 → Includes front (z ∷ (bs ++ rest)) → ⊥) e absent))
+
     go : (x : Bool) → (b == 47) ≡ x → (h : Bool) → (b == 35) ≡ h → cond x (slash_piece w (b ∷ (bs ++ rest))) (cond h (hash_piece w (is_line_start front) (b ∷ (bs ++ rest))) (mark_piece w (b ∷ (bs ++ rest)))) ≡ mark_piece w (b ∷ (bs ++ rest))
     go true ex h eh = cond-false (begins (codes "//") (b ∷ (bs ++ rest))) _ _ line ∙ cond-false (begins (codes "/*") (b ∷ (bs ++ rest))) _ _ block
     go false ex true eh = hash (eqb-true b 35 eh)

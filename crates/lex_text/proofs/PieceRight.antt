@@ -51,6 +51,7 @@ mark_right w front b rest s l d q line block no_include = go (mark_len w (b ∷ 
   where
     text : List ℕ
     text = b ∷ rest
+
     go : (t : Bool) → (mark_len w (b ∷ rest) == 0) ≡ t → Right w front (b ∷ rest) (cond t (piece.Bad 0) (piece.Token kind.Mark (mark_len w (b ∷ rest))))
     go true e =
         let m = longest_mark w (b ∷ rest) in
@@ -64,8 +65,8 @@ mark_right w front b rest s l d q line block no_include = go (mark_len w (b ∷ 
         let whole = take-append-drop n (b ∷ rest) in
         let size = length-front n (b ∷ rest) m.inside in
         a_token kind.Mark n (b ∷ rest) m.inside (a_mark
-          (record { is = m.is some; longest = λ v back p f. let k = m.longest v back p (f ∙ whole) in omega (arith, k, size) })
-          (ap (begins (codes "//")) whole ∙ line) (ap (begins (codes "/*")) whole ∙ block) (λ p i. no_include p (subst (Includes front) whole i)))
+        (record { is = m.is some; longest = λ v back p f. let k = m.longest v back p (f ∙ whole) in omega (arith, k, size) })
+        (ap (begins (codes "//")) whole ∙ line) (ap (begins (codes "/*")) whole ∙ block) (λ p i. no_include p (subst (Includes front) whole i)))
 
 -- an inclusion begins with `#`
 include_first : (front : List ℕ) (text : List ℕ) → Includes front text → (b : ℕ) (rest : List ℕ) → text ≡ b ∷ rest → b ≡ 35
@@ -84,8 +85,8 @@ by_found_right w front b rest e = go (is_in_range (found (b ∷ rest)).width (fo
         let size = length-front x.long (b ∷ rest) r.inside in
         a_bad_char x.long (b ∷ rest)
         (subst (λ n. IsFault w front (fault.BadChar (length front + n)) (b ∷ rest)) size
-          (subst (IsFault w front (fault.BadChar (length front + length (take x.long (b ∷ rest))))) (take-append-drop x.long (b ∷ rest))
-            (letter_behind (take x.long (b ∷ rest)) (drop x.long (b ∷ rest)) x.width x.value r.number (number_longest b rest e) f g)))
+        (subst (IsFault w front (fault.BadChar (length front + length (take x.long (b ∷ rest))))) (take-append-drop x.long (b ∷ rest))
+        (letter_behind (take x.long (b ∷ rest)) (drop x.long (b ∷ rest)) x.width x.value r.number (number_longest b rest e) f g)))
     go true f false g =
         let x = found (b ∷ rest) in
         let r = found_right b rest e in
@@ -95,7 +96,7 @@ by_found_right w front b rest e = go (is_in_range (found (b ∷ rest)).width (fo
         let r = found_right b rest e in
         a_wide_number (b ∷ rest)
         (subst (IsFault w front (fault.NumberTooWide (length front))) (take-append-drop x.long (b ∷ rest))
-          (too_wide (take x.long (b ∷ rest)) (drop x.long (b ∷ rest)) x.width x.value r.number (number_longest b rest e) f))
+        (too_wide (take x.long (b ∷ rest)) (drop x.long (b ∷ rest)) x.width x.value r.number (number_longest b rest e) f))
 
 number_right : (w : Words) (front : List ℕ) (b : ℕ) (rest : List ℕ) → is_digit b ≡ true → Right w front (b ∷ rest) (number_piece (b ∷ rest))
 number_right w front b rest e = subst (Right w front (b ∷ rest)) (sym (piece_found (prefix_len is_digit (b ∷ rest)) (b ∷ rest))) (by_found_right w front b rest e)
@@ -112,8 +113,8 @@ closed_right front body behind a = subst (Right P4 front (34 ∷ (body ++ 34 ∷
         let at : length front + 1 + length s.front ≡ length front + (prefix_len is_ascii (body ++ 34 ∷ behind) + 1) = omega (arith, k) in
         a_bad_char (prefix_len is_ascii (body ++ 34 ∷ behind) + 1) (34 ∷ (body ++ 34 ∷ behind))
         (subst (λ n. IsFault P4 front (fault.BadChar n) (34 ∷ (body ++ 34 ∷ behind))) at
-          (subst (λ z. IsFault P4 front (fault.BadChar (length front + 1 + length s.front)) (34 ∷ (z ++ 34 ∷ behind))) (sym s.is)
-            (past_ascii s.front s.at s.behind behind s.passes s.stops (sym (ap (list_all is_in_text) s.is) ∙ a))))
+        (subst (λ z. IsFault P4 front (fault.BadChar (length front + 1 + length s.front)) (34 ∷ (z ++ 34 ∷ behind))) (sym s.is)
+        (past_ascii s.front s.at s.behind behind s.passes s.stops (sym (ap (list_all is_in_text) s.is) ∙ a))))
     go false e =
         let u = 34 ∷ (body ++ 34 ∷ []) in
         let text = 34 ∷ (body ++ 34 ∷ behind) in
@@ -131,6 +132,7 @@ text_right front rest = go (is_quote_next (drop (prefix_len is_in_text rest) res
   where
     apart : rest ≡ take (prefix_len is_in_text rest) rest ++ drop (prefix_len is_in_text rest) rest
     apart = sym (take-append-drop (prefix_len is_in_text rest) rest)
+
     go : (t : Bool) → is_quote_next (drop (prefix_len is_in_text rest) rest) ≡ t → Right P4 front (34 ∷ rest) (text_piece rest)
     go true e =
         let body = take (prefix_len is_in_text rest) rest in
@@ -142,8 +144,8 @@ text_right front rest = go (is_quote_next (drop (prefix_len is_in_text rest) res
         let is : text_piece rest ≡ piece.OpenText = cond-false (is_quote_next (drop n rest)) _ _ e in
         subst (Right P4 front (34 ∷ rest)) (sym is)
         (an_open_text (34 ∷ rest)
-          (subst (λ z. IsFault P4 front (fault.OpenText (length front)) (34 ∷ z)) (take-append-drop n rest)
-            (open_text (take n rest) (drop n rest) (all_before is_in_text rest) (no_quote (drop n rest) (stops_behind is_in_text rest) e))))
+        (subst (λ z. IsFault P4 front (fault.OpenText (length front)) (34 ∷ z)) (take-append-drop n rest)
+        (open_text (take n rest) (drop n rest) (all_before is_in_text rest) (no_quote (drop n rest) (stops_behind is_in_text rest) e))))
 
 -- ---- comments
 
@@ -157,6 +159,7 @@ slash_right w front rest = go (begins (codes "//") (47 ∷ rest)) refl (begins (
   where
     no_include : w ≡ P4 → Includes front (47 ∷ rest) → ⊥
     no_include p i = let e : 47 ≡ 35 = include_first front (47 ∷ rest) i 47 rest refl in omega (arith, e)
+
     go : (s : Bool) → begins (codes "//") (47 ∷ rest) ≡ s → (t : Bool) → begins (codes "/*") (47 ∷ rest) ≡ t
         → Right w front (47 ∷ rest) (cond s (piece.Gap (prefix_len is_in_line (47 ∷ rest))) (cond t (comment_of (close_of (drop 2 (47 ∷ rest)))) (mark_piece w (47 ∷ rest))))
     go true e t f = a_comment (prefix_len is_in_line (47 ∷ rest)) (47 ∷ rest) (line_right (47 ∷ rest) e)
@@ -173,13 +176,17 @@ hash_right P4 front rest = go (is_line_start front) refl
   where
     mark : (Includes front (35 ∷ rest) → ⊥) → Right P4 front (35 ∷ rest) (mark_piece P4 (35 ∷ rest))
     mark absent = mark_right P4 front 35 rest refl refl refl refl (not_first 47 47 35 rest refl) (not_first 47 42 35 rest refl) (λ p i. absent i)
+
     not_fresh : is_line_start front ≡ false → (text : List ℕ) → Includes front text → ⊥
     not_fresh e text (includes u behind i s) = let x = s in cc
+
     not_found : include_len (35 ∷ rest) ≡ None → (text : List ℕ) → text ≡ 35 ∷ rest → Includes front text → ⊥
     not_found e text same (includes u behind i s) = let x = include_only u behind i in let y : include_len (u ++ behind) ≡ None = ap include_len same ∙ e in cc
+
     by_len : is_line_start front ≡ true → (o : Option ℕ) → include_len (35 ∷ rest) ≡ o → Right P4 front (35 ∷ rest) (include_or_mark o (35 ∷ rest))
     by_len s None e = mark (λ i. not_found e (35 ∷ rest) refl i)
     by_len s (Some n) e = let r = include_right (35 ∷ rest) n e in a_token kind.Include n (35 ∷ rest) r.inside (an_include r.is s)
+
     go : (t : Bool) → is_line_start front ≡ t → Right P4 front (35 ∷ rest) (cond t (include_or_mark (include_len (35 ∷ rest)) (35 ∷ rest)) (mark_piece P4 (35 ∷ rest)))
     go true e = by_len e (include_len (35 ∷ rest)) refl
     go false e = mark (λ i. not_fresh e (35 ∷ rest) i)
@@ -195,10 +202,13 @@ right w front b rest = go (is_space b) refl (is_name_start b) refl (is_digit b) 
   where
     start_name : is_name_start b ≡ true → Right w front (b ∷ rest) (piece.Token kind.Name (prefix_len is_name_byte (b ∷ rest)))
     start_name e = a_token kind.Name (prefix_len is_name_byte (b ∷ rest)) (b ∷ rest) (prefix_len-le-length is_name_byte (b ∷ rest)) (a_name (name_right b rest e))
+
     no_include : (b == 35) ≡ false → w ≡ P4 → Includes front (b ∷ rest) → ⊥
     no_include e p i = let f = eqb-false b 35 e in f (include_first front (b ∷ rest) i b rest refl)
+
     back : (b == 47) ≡ false → (47 == b) ≡ false
     back e = let f = eqb-false b 47 e in false_from_ne_true (47 == b) (λ g. f (sym (eqb-true 47 b g)))
+
     go : (s : Bool) → is_space b ≡ s → (l : Bool) → is_name_start b ≡ l → (d : Bool) → is_digit b ≡ d → (x : Bool) → (b == 47) ≡ x → (q : Bool) → (b == 34) ≡ q → (h : Bool) → (b == 35) ≡ h
         → Right w front (b ∷ rest) (cond s (piece.Gap 1) (cond l (piece.Token kind.Name (prefix_len is_name_byte (b ∷ rest))) (cond d (number_piece (b ∷ rest)) (cond x (slash_piece w (b ∷ rest)) (cond q (quote_piece w (b ∷ rest)) (cond h (hash_piece w (is_line_start front) (b ∷ rest)) (mark_piece w (b ∷ rest))))))))
     go true es l el d ed x ex q eq h eh = a_space b rest es

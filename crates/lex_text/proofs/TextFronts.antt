@@ -177,15 +177,19 @@ one_file file t e s = subst Starts (sym (texts_same file t (sym e))) s
 
 starts : (file : List ℕ) → list_any (same_text file) included ≡ true → Starts file
 starts file e =
-    elim (or_cases (same_text file (codes "<core.p4>")) _ e)
-    [ inl f ↦ one_file file (codes "<core.p4>") f (record { found = λ r. refl; dark = λ r. refl })
-    | inr f ↦ elim (or_cases (same_text file (codes "<v1model.p4>")) _ f)
-      [ inl g ↦ one_file file (codes "<v1model.p4>") g (record { found = λ r. refl; dark = λ r. refl })
-      | inr g ↦ elim (or_cases (same_text file (34 ∷ codes "core.p4" ++ 34 ∷ [])) _ g)
-        [ inl h ↦ one_file file (34 ∷ codes "core.p4" ++ 34 ∷ []) h (record { found = λ r. refl; dark = λ r. refl })
-        | inr h ↦ elim (or_cases (same_text file (34 ∷ codes "v1model.p4" ++ 34 ∷ [])) _ h)
-          [ inl k ↦ one_file file (34 ∷ codes "v1model.p4" ++ 34 ∷ []) k (record { found = λ r. refl; dark = λ r. refl })
-          | inr k ↦ absurd (let x : false ≡ true = k in cc) ] ] ] ]
+    elim (or_cases (same_text file (codes "<core.p4>")) _ e) [
+      | inl f ↦ one_file file (codes "<core.p4>") f (record { found = λ r. refl; dark = λ r. refl })
+      | inr f ↦ elim (or_cases (same_text file (codes "<v1model.p4>")) _ f) [
+        | inl g ↦ one_file file (codes "<v1model.p4>") g (record { found = λ r. refl; dark = λ r. refl })
+        | inr g ↦ elim (or_cases (same_text file (34 ∷ codes "core.p4" ++ 34 ∷ [])) _ g) [
+          | inl h ↦ one_file file (34 ∷ codes "core.p4" ++ 34 ∷ []) h (record { found = λ r. refl; dark = λ r. refl })
+          | inr h ↦ elim (or_cases (same_text file (34 ∷ codes "v1model.p4" ++ 34 ∷ [])) _ h) [
+            | inl k ↦ one_file file (34 ∷ codes "v1model.p4" ++ 34 ∷ []) k (record { found = λ r. refl; dark = λ r. refl })
+            | inr k ↦ absurd (let x : false ≡ true = k in cc)
+          ]
+        ]
+      ]
+    ]
 
 include_len-parts : (blanks file rest : List ℕ) → list_all is_blank blanks ≡ true → Starts file → include_len (codes "#include" ++ (blanks ++ (file ++ rest))) ≡ Some (8 + length blanks + length file)
 include_len-parts blanks file rest a s =

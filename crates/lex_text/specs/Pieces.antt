@@ -62,8 +62,8 @@ abbrev pub digits_piece : ℕ → ℕ → ℕ → List ℕ → Piece
 digits_piece width before base digits =
     let n = prefix_len (is_in_digits base) digits in
     if nat_lt (value_from base 0 (take n digits)) (2 ^ 128) then
-      (if is_letter_next (drop n digits) then piece.Bad (before + n)
-       else piece.Token (kind.Number (record { width = width; value = value_from base 0 (take n digits) })) (before + n))
+    (if is_letter_next (drop n digits) then piece.Bad (before + n)
+    else piece.Token (kind.Number (record { width = width; value = value_from base 0 (take n digits) })) (before + n))
     else piece.TooWide
 
 -- a number of this written width, behind `before` bytes
@@ -80,8 +80,8 @@ is_w_next (b ∷ rest) = b == 119 && is_digit_next 10 rest
 abbrev pub number_behind : ℕ → List ℕ → Piece
 number_behind n rest =
     if is_w_next (drop n rest) then
-      (if is_width (value_from 10 0 (take n rest)) then sized_piece (value_from 10 0 (take n rest)) (n + 1) (drop (n + 1) rest)
-       else piece.TooWide)
+    (if is_width (value_from 10 0 (take n rest)) then sized_piece (value_from 10 0 (take n rest)) (n + 1) (drop (n + 1) rest)
+    else piece.TooWide)
     else sized_piece 0 0 rest
 
 abbrev pub number_piece : List ℕ → Piece
@@ -99,7 +99,7 @@ abbrev pub text_piece : List ℕ → Piece
 text_piece rest =
     let n = prefix_len is_in_text rest in
     if is_quote_next (drop n rest) then
-      (if nat_lt (prefix_len is_ascii rest) n then piece.Bad (prefix_len is_ascii rest + 1) else piece.Token kind.Text (n + 2))
+    (if nat_lt (prefix_len is_ascii rest) n then piece.Bad (prefix_len is_ascii rest + 1) else piece.Token kind.Text (n + 2))
     else piece.OpenText
 
 -- the length of the first of these texts that stands at the front
@@ -111,7 +111,7 @@ first_of_texts (t ∷ ts) rest = if begins t rest then Some (length t) else firs
 abbrev pub include_len : List ℕ → Option ℕ
 include_len rest =
     if begins (codes "#include") rest then
-      (let n = prefix_len is_blank (drop 8 rest) in option_map (λ m. 8 + n + m) (first_of_texts included (drop (8 + n) rest)))
+    (let n = prefix_len is_blank (drop 8 rest) in option_map (λ m. 8 + n + m) (first_of_texts included (drop (8 + n) rest)))
     else None
 
 -- ---- marks

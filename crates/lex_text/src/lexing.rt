@@ -53,7 +53,9 @@ fn pieces(alloc: Global, text: &[u8], words: Words) -> Result<Vec<Token>, LexFau
                 })?;
                 at += n;
             }
-            Piece::Bad(n) => return Err(LexFault::BadChar { at: (at + n) as u32 }),
+            Piece::Bad(n) => return Err(LexFault::BadChar {
+                at: (at + n) as u32,
+            }),
             Piece::OpenComment => return Err(LexFault::OpenComment { at: at as u32 }),
             Piece::TooWide => return Err(LexFault::NumberTooWide { at: at as u32 }),
             Piece::OpenText => return Err(LexFault::OpenText { at: at as u32 }),
