@@ -1,6 +1,6 @@
 -- How the tokens of a text lie in it.
-use Rattle.std.proofs.Common.{◌≡◌, ◌⊎◌, ℕ, zero, suc, ◌+◌, ◌-◌, ◌^◌, ◌≤◌, ◌<◌, Bool, true, false, ◌&&◌, List, [], ◌∷◌, ◌++◌, length, get_or, take, drop, Option, Some, None, refl, sym, ap, subst, ◌∙◌, arith, inl, inr, append_assoc, length-append, length-drop}
-use Rattle.std.specs.Prelude.{nat_lt, nat_le, slice_index, All, Any}
+use Rattle.std.proofs.Common.{◌≡◌, ◌⊎◌, ℕ, zero, suc, ◌+◌, ◌-◌, ◌^◌, ◌≤◌, ◌<◌, Bool, true, false, ◌&&◌, List, [], ◌∷◌, ◌++◌, length, get_or, take, drop, Option, Some, None, Result, Ok, Err, refl, sym, ap, subst, ◌∙◌, arith, inl, inr, append_assoc, length-append, length-drop}
+use Rattle.std.specs.Prelude.{nat_lt, nat_le, slice_index, All, Any, IfOk}
 use Rattle.std.proofs.lemmas.Bool.{and_parts, cases_lt, ltb-true, leb-true}
 use Rattle.std.proofs.lemmas.List.Elements.{All-nil, All-cons}
 use Rattle.std.proofs.Math.Seq.{drop-append_seam, take-append_seam, drop-append-add}
@@ -8,7 +8,7 @@ use Rattle.lex_text.specs.Comments.{is_space, IsComment}
 use Rattle.lex_text.specs.Numbers.{is_width, is_in_range, literal_of}
 use Rattle.lex_text.specs.Tokens.{IsToken, a_name, a_number, a_text, an_include, a_mark, IsFault, no_token, letter_behind, past_ascii, open_comment, too_wide, open_text, Lexes, at_end, at_fault, TokensOf, FirstFault}
 use Rattle.lex_text.specs.Tokens as lex
-use Rattle.lex_text.specs.Places.{bytes_of, Stands, AreRising, IsInToken, IsBetween, a_space, in_comment, Lie, place_of, StopsAt, IsFair}
+use Rattle.lex_text.specs.Places.{AreIn, bytes_of, Stands, AreRising, IsInToken, IsBetween, a_space, in_comment, Lie, place_of, StopsAt, IsFair}
 use Rattle.lex_text.specs.Laws.{TokensLie, FaultStops, TokensAreFair}
 use Rattle.lex_text.specs.declared.fault.LexFault.{LexFault}
 use Rattle.lex_text.specs.declared.fault.LexFault.TheVariants as fault
@@ -220,3 +220,25 @@ pub tokens_are_fair : TokensAreFair
 tokens_are_fair w text ts t =
     let x = tokens_lie w text ts t in
     λ k d lt. fair (x.tokens k d lt).is
+
+-- ---- what a lexer gives
+
+pub tokens_in_text : (w : Words) (text : List ℕ) (ts : List Token) → TokensOf w text ts → AreIn text ts
+tokens_in_text w text ts t =
+    let x = tokens_lie w text ts t in
+    λ k d lt. (let s = (x.tokens k d lt).long in omega (arith, s), (x.tokens k d lt).inside)
+
+few-rising : (from end : ℕ) (ts : List Token) → AreRising from end ts → from + length ts ≤ end
+few-rising from end [] r = omega (arith, r)
+few-rising from end (t ∷ ts) r = (let a = few-rising t.end end ts r.2 in let b = r.0 in let c = r.1 in omega (arith, a, b, c))
+
+pub few_tokens : (w : Words) (text : List ℕ) (ts : List Token) → TokensOf w text ts → length ts ≤ length text
+few_tokens w text ts t = (let a = few-rising 0 (length text) ts (tokens_lie w text ts t).rising in omega (arith, a))
+
+pub given_in_text : {V : Type 0} (view : V → List Token) (w : Words) (text : List ℕ) (r : Result V LexFault) → IfOk r (λ v. TokensOf w text (view v)) → IfOk r (λ v. AreIn text (view v))
+given_in_text view w text (Ok v) t = tokens_in_text w text (view v) t
+given_in_text view w text (Err f) t = t
+
+pub given_few : {V : Type 0} (view : V → List Token) (w : Words) (text : List ℕ) (r : Result V LexFault) → IfOk r (λ v. TokensOf w text (view v)) → IfOk r (λ v. length (view v) ≤ length text)
+given_few view w text (Ok v) t = few_tokens w text (view v) t
+given_few view w text (Err f) t = t

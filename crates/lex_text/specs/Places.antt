@@ -13,6 +13,10 @@ use Rattle.lex_text.specs.declared.token.Words.{Words}
 abbrev pub bytes_of : List ℕ → Token → List ℕ
 bytes_of text t = take (t.end - t.start) (drop t.start text)
 
+-- each token's places lie in the text
+abbrev pub AreIn : List ℕ → List Token → Type 0
+AreIn text ts = All (λ t. (t.start ≤ t.end) × (t.end ≤ length text)) ts
+
 -- The token stands in the text: its bytes are of its kind, and no longer front of what is there would be a name, number or mark.
 pub record Stands (w : Words) (text : List ℕ) (t : Token) : Type 0 where
   pub long : t.start < t.end
