@@ -48,7 +48,7 @@ seam_byte (x ∷ front) b rest = seam_byte front b rest
 front_is : (front u rest text : List ℕ) → front ++ (u ++ rest) ≡ text → take (length front) text ≡ front
 front_is front u rest text e = ap (take (length front)) (sym e) ∙ take-append_seam front (u ++ rest)
 
-part_is : (front u rest text : List ℕ) → front ++ (u ++ rest) ≡ text → take (length u) (drop (length front) text) ≡ u
+pub part_is : (front u rest text : List ℕ) → front ++ (u ++ rest) ≡ text → take (length u) (drop (length front) text) ≡ u
 part_is front u rest text e = ap (λ z. take (length u) (drop (length front) z)) (sym e) ∙ ap (take (length u)) (drop-append_seam front (u ++ rest)) ∙ take-append_seam u rest
 
 rest_is : (front u rest text : List ℕ) → front ++ (u ++ rest) ≡ text → drop (length front + length u) text ≡ rest

@@ -1,0 +1,30 @@
+-- Laws of words and texts. Each is proved, as the contract of a function of `laws`. Read `Seen` and `Written` before.
+use Rattle.std.specs.Prelude.{◌≡◌, ℕ, Bool, true, List}
+use Rattle.std.specs.Str.{IsUtf8}
+use Rattle.lex_text.specs.Comments.{is_space}
+use Rattle.lex_text.specs.Tokens.{TokensOf}
+use Rattle.lex_text.specs.declared.token.Token.{Token}
+use Rattle.lex_text.specs.declared.token.Words.{Words}
+use Rattle.lex_words.specs.Seen.{Word, at_key, key_in, words_of}
+use Rattle.lex_words.specs.Written.{AreWords, Lays, text_of, are_fresh, ReadsBack}
+use Rattle.lex_words.specs.declared.key.Key.{Key}
+use Rattle.std.specs.Prelude.{Option, Some}
+
+-- words with spaces behind them are read back as the same words
+abbrev pub WordsReadBack : Type 0
+WordsReadBack = (w : Words) (ws : List Word) (text : List ℕ) → Lays true ws text → AreWords w ws → ReadsBack w text ws
+
+-- words with one space each behind them are such a text
+abbrev pub TextLays : Type 0
+TextLays = (after : Word → ℕ) (ws : List Word) → ((x : Word) → is_space (after x) ≡ true) → are_fresh after true ws ≡ true → Lays true ws (text_of after ws)
+
+-- the tokens of a text are words of the language
+abbrev pub TokensAreWords : Type 0
+TokensAreWords = (w : Words) (text : List ℕ) (list : List Token) → TokensOf w text list → AreWords w (words_of w text list)
+
+-- the test for a key answers where that key stands, and only there
+abbrev pub KeyIsFound : Type 0
+KeyIsFound = (k : Key) (o : Option Word) → at_key k o ≡ true → key_in o ≡ Some k
+
+abbrev pub FoundIsKey : Type 0
+FoundIsKey = (k : Key) (o : Option Word) → key_in o ≡ Some k → at_key k o ≡ true
