@@ -16,7 +16,7 @@ use Rattle.lex_text.specs.declared.token.Words.{Words}
 use Rattle.lex_text.specs.declared.token.Words.TheVariants.{Indus, P4}
 use Rattle.lex_text.proofs.NameFronts.{name_bytes}
 use Rattle.lex_words.specs.Keys.{bytes_of_key}
-use Rattle.lex_words.specs.Seen.{Word, name, number, key, quoted, include}
+use Rattle.lex_words.specs.Seen.{Word, name, number, key, quoted, include, strange}
 use Rattle.lex_words.specs.Written.{number_bytes, bytes_of_word, IsKeyOf, a_reserved_word, a_mark, IsQuoted, in_quotes, IsWord}
 use Rattle.lex_words.specs.declared.key.Key.{Key}
 use Rattle.lex_words.proofs.Dark.{list_all-more, number_name, one_of_all}
@@ -62,3 +62,4 @@ ascii_word w (number n) i = ascii_number n i.0 i.1
 ascii_word w (key k) i = ascii_key w k i
 ascii_word w (quoted s) i = ascii_quoted s i.1
 ascii_word w (include s) i = ascii_include s i.1
+ascii_word w (strange s) i = absurd i

@@ -4,3 +4,4 @@ pub mod Ascii
 pub mod Laid
 pub mod FairWords
 pub mod KeyCodes
+pub mod KindsSeen

@@ -24,7 +24,7 @@ use Rattle.lex_text.proofs.CommentFronts.{not_first}
 use Rattle.lex_text.proofs.NumberFronts.{digit_of_ten}
 use Rattle.lex_words.specs.Keys.{bytes_of_key, reserved_key, mark_key}
 use Rattle.lex_words.specs.declared.key.Key.{Key}
-use Rattle.lex_words.specs.Seen.{Word, name, number, key, quoted, include, name_or, mark_or, word_of_kind}
+use Rattle.lex_words.specs.Seen.{Word, name, number, key, quoted, include, strange, name_or, mark_or, word_of_kind}
 use Rattle.lex_words.specs.Written.{number_bytes, bytes_of_word, IsKeyOf, a_reserved_word, IsQuoted, in_quotes, IsWord, may_stand}
 use Rattle.lex_words.specs.Written as written
 use Rattle.lex_words.proofs.Dark.{one_of_all, longest_name, longest_number, longest_mark}
@@ -183,3 +183,4 @@ shown w front fresh (number n) b rest i e f l = shown_number w front n b rest i.
 shown w front fresh (key k) b rest i e f l = shown_key w front k b rest i e
 shown w front fresh (quoted s) b rest i e f l = shown_quoted w front s (b ∷ rest) i.0 i.1
 shown w front fresh (include s) b rest i e f l = shown_include w front s (b ∷ rest) i.0 i.1 (l f)
+shown w front fresh (strange s) b rest i e f l = absurd i

@@ -1,14 +1,12 @@
 -- Laws of words and texts. Each is proved, as the contract of a function of `laws`. Read `Seen` and `Written` before.
-use Rattle.std.specs.Prelude.{◌≡◌, ℕ, Bool, true, List}
-use Rattle.std.specs.Str.{IsUtf8}
+use Rattle.std.specs.Prelude.{◌≡◌, ℕ, Bool, true, List, Option, Some, slice_get}
 use Rattle.lex_text.specs.Comments.{is_space}
 use Rattle.lex_text.specs.Tokens.{TokensOf}
 use Rattle.lex_text.specs.declared.token.Token.{Token}
 use Rattle.lex_text.specs.declared.token.Words.{Words}
-use Rattle.lex_words.specs.Seen.{Word, at_key, key_in, words_of}
+use Rattle.lex_words.specs.Seen.{Word, at_key, key_in, number_in, at_quoted, at_include, words_of, number_of, is_quoted, is_include}
 use Rattle.lex_words.specs.Written.{AreWords, Lays, text_of, are_fresh, ReadsBack}
 use Rattle.lex_words.specs.declared.key.Key.{Key}
-use Rattle.std.specs.Prelude.{Option, Some}
 
 -- words with spaces behind them are read back as the same words
 abbrev pub WordsReadBack : Type 0
@@ -28,3 +26,15 @@ KeyIsFound = (k : Key) (o : Option Word) → at_key k o ≡ true → key_in o �
 
 abbrev pub FoundIsKey : Type 0
 FoundIsKey = (k : Key) (o : Option Word) → key_in o ≡ Some k → at_key k o ≡ true
+
+-- ---- what needs no bytes
+
+-- numbers, texts in quotes and inclusions stand in the words where they stand in the tokens
+abbrev pub NumbersAreSeen : Type 0
+NumbersAreSeen = (w : Words) (text : List ℕ) (list : List Token) (at : ℕ) → number_in (slice_get (words_of w text list) at) ≡ number_of (slice_get list at)
+
+abbrev pub TextsAreSeen : Type 0
+TextsAreSeen = (w : Words) (text : List ℕ) (list : List Token) (at : ℕ) → at_quoted (slice_get (words_of w text list) at) ≡ is_quoted (slice_get list at)
+
+abbrev pub IncludesAreSeen : Type 0
+IncludesAreSeen = (w : Words) (text : List ℕ) (list : List Token) (at : ℕ) → at_include (slice_get (words_of w text list) at) ≡ is_include (slice_get list at)

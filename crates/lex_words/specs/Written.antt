@@ -10,7 +10,7 @@ use Rattle.lex_text.specs.declared.token.Token.{Token}
 use Rattle.lex_text.specs.declared.token.Words.{Words}
 use Rattle.lex_text.specs.declared.token.Words.TheVariants.{P4}
 use Rattle.lex_words.specs.Keys.{bytes_of_key, reserved_key, mark_key}
-use Rattle.lex_words.specs.Seen.{Word, name, number, key, quoted, include, words_of}
+use Rattle.lex_words.specs.Seen.{Word, name, number, key, quoted, include, strange, words_of}
 use Rattle.lex_words.specs.declared.key.Key.{Key}
 
 -- a number in decimal digits, behind its width and `w` where the width is not 0
@@ -25,6 +25,7 @@ bytes_of_word (number n) = number_bytes n.width n.value
 bytes_of_word (key k) = bytes_of_key k
 bytes_of_word (quoted s) = s
 bytes_of_word (include s) = s
+bytes_of_word (strange s) = s
 
 -- ---- the words of a language
 
@@ -44,6 +45,7 @@ IsWord w (number n) = (n.width ≤ 128) × (n.value < 2 ^ 128)
 IsWord w (key k) = IsKeyOf w k
 IsWord w (quoted s) = (w ≡ P4) × IsQuoted s
 IsWord w (include s) = (w ≡ P4) × IsInclude s
+IsWord w (strange s) = ⊥
 
 -- the language has these words
 abbrev pub AreWords : Words → List Word → Type 0
@@ -59,6 +61,7 @@ may_stand fresh (number n) = true
 may_stand fresh (key k) = true
 may_stand fresh (quoted s) = true
 may_stand fresh (include s) = fresh
+may_stand fresh (strange s) = true
 
 -- The text is these words, one or more spaces behind each; `fresh` where nothing but spaces stands before it on its line.
 pub data Lays : (fresh : Bool) (ws : List Word) (text : List ℕ) → Type 0 where

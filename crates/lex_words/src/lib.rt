@@ -1,8 +1,9 @@
 //! Tokens as grammars see them.
 //!
 //! The readers above get `Key`, the reserved words and marks of both languages, and the tests
-//! `key_at`, `is_key`, `name_at`, `is_named` and `number_at` on a list of tokens. Contracts see a
-//! list of tokens as a list of words (`specs/Seen`).
+//! `key_at`, `is_key`, `name_at`, `is_named`, `number_at`, `is_text` and `is_inclusion` on a list
+//! of tokens. Contracts see a list of tokens as a list of words (`specs/Seen`). The printers get
+//! the laws that a text of words is read back as these words (`specs/Written`, `laws`).
 //!
 //! Follows: P4_16, lexical structure, this project's subset.
 #![tactic(auto)]
@@ -12,4 +13,4 @@ pub mod laws;
 mod seen;
 
 pub use key::{Key, mark, reserved};
-pub use seen::{is_key, is_named, key_at, name_at, number_at};
+pub use seen::{is_inclusion, is_key, is_named, is_text, key_at, name_at, number_at};

@@ -4,7 +4,7 @@ ghost use Rattle.std.specs.Prelude.{◌≡◌, ◌≤◌, length, slice_get, Som
 ghost use Rattle.std.specs.Option.{option_copied};
 ghost use Rattle.lex_text.specs.Places.{AreIn, bytes_of};
 ghost use Rattle.lex_words.specs.Keys.{reserved_key};
-ghost use Rattle.lex_words.specs.Seen.{word_of, words_of, name_or, key_in, name_in, number_of, at_key, at_name};
+ghost use Rattle.lex_words.specs.Seen.{word_of, words_of, name_or, key_in, name_in, number_of, is_quoted, is_include, at_key, at_name};
 
 use crate::key::{Key, mark, reserved};
 use lex_text::{Literal, Token, TokenKind, Words};
@@ -94,12 +94,38 @@ pub fn is_named(words: Words, text: &[u8], list: &[Token], at: usize, name: &[u8
     }
 }
 
-/// The number at a place. The words of a text's tokens have it there.
+/// The number at a place.
 pub fn number_at(list: &[Token], at: usize) -> Option<Literal>
     ensures { result ≡ number_of (slice_get list.now at) }
 {
     match list.get(at)?.kind {
         TokenKind::Number(literal) => Some(literal),
         TokenKind::Name | TokenKind::Text | TokenKind::Mark | TokenKind::Include => None,
+    }
+}
+
+/// Whether a text in quotes stands at a place.
+pub fn is_text(list: &[Token], at: usize) -> bool
+    ensures { result ≡ is_quoted (slice_get list.now at) }
+{
+    match list.get(at) {
+        None => false,
+        Some(token) => match token.kind {
+            TokenKind::Text => true,
+            TokenKind::Name | TokenKind::Number(_) | TokenKind::Mark | TokenKind::Include => false,
+        },
+    }
+}
+
+/// Whether an inclusion stands at a place.
+pub fn is_inclusion(list: &[Token], at: usize) -> bool
+    ensures { result ≡ is_include (slice_get list.now at) }
+{
+    match list.get(at) {
+        None => false,
+        Some(token) => match token.kind {
+            TokenKind::Include => true,
+            TokenKind::Name | TokenKind::Number(_) | TokenKind::Mark | TokenKind::Text => false,
+        },
     }
 }
