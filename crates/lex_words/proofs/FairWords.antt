@@ -80,11 +80,13 @@ one_of-append (x ∷ xs) ys u = go (same_text u x) (one_of-append xs ys u)
 single_found : (u : List ℕ) → is_one_of single_marks u ≡ true → is_some (single_key u) ≡ true
 single_found u e =
     let apart : is_one_of (map bytes_of_key brackets ++ (map bytes_of_key points ++ map bytes_of_key signs)) u ≡ true = e in
-    elim (or_cases (is_one_of (map bytes_of_key brackets) u) _ (sym (one_of-append (map bytes_of_key brackets) (map bytes_of_key points ++ map bytes_of_key signs) u) ∙ apart))
-    [ inl f ↦ or_first (find_key brackets u) _ (is_found brackets u f)
-    | inr f ↦ elim (or_cases (is_one_of (map bytes_of_key points) u) (is_one_of (map bytes_of_key signs) u) (sym (one_of-append (map bytes_of_key points) (map bytes_of_key signs) u) ∙ f))
-      [ inl g ↦ or_some (find_key brackets u) _ (or_first (find_key points u) _ (is_found points u g))
-      | inr g ↦ or_some (find_key brackets u) _ (or_some (find_key points u) _ (or_first (find_key signs u) _ (is_found signs u g))) ] ]
+    elim (or_cases (is_one_of (map bytes_of_key brackets) u) _ (sym (one_of-append (map bytes_of_key brackets) (map bytes_of_key points ++ map bytes_of_key signs) u) ∙ apart)) [
+      | inl f ↦ or_first (find_key brackets u) _ (is_found brackets u f)
+      | inr f ↦ elim (or_cases (is_one_of (map bytes_of_key points) u) (is_one_of (map bytes_of_key signs) u) (sym (one_of-append (map bytes_of_key points) (map bytes_of_key signs) u) ∙ f)) [
+        | inl g ↦ or_some (find_key brackets u) _ (or_first (find_key points u) _ (is_found points u g))
+        | inr g ↦ or_some (find_key brackets u) _ (or_some (find_key points u) _ (or_first (find_key signs u) _ (is_found signs u g)))
+      ]
+    ]
 
 p4_found : (u : List ℕ) → is_one_of p4_marks u ≡ true → is_some (single_key u) ≡ true
 p4_found u e = or_some (find_key brackets u) _ (or_some (find_key points u) _ (or_some (find_key signs u) _ (is_found p4_signs u e)))

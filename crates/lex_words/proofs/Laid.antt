@@ -34,9 +34,10 @@ record Laid (w : Words) (text front rest : List ℕ) (ws : List Word) : Type 0 w
 start_behind : (front : List ℕ) (b : ℕ) (fresh : Bool) → is_space b ≡ true → (fresh ≡ true → is_line_start front ≡ true) → (b == 10 || fresh) ≡ true → is_line_start (front ++ b ∷ []) ≡ true
 start_behind front b fresh s l e =
     line_start_step front b
-    ∙ elim (or_cases (b == 10) fresh e)
-      [ inl f ↦ or_left (b == 10) (is_space b && is_line_start front) f
-      | inr f ↦ or_right (b == 10) (is_space b && is_line_start front) (and_from (is_space b) (is_line_start front) s (l f)) ]
+    ∙ elim (or_cases (b == 10) fresh e) [
+      | inl f ↦ or_left (b == 10) (is_space b && is_line_start front) f
+      | inr f ↦ or_right (b == 10) (is_space b && is_line_start front) (and_from (is_space b) (is_line_start front) s (l f))
+    ]
 
 laid : {fresh : Bool} {ws : List Word} {rest : List ℕ} (w : Words) (text front : List ℕ) → Lays fresh ws rest → AreWords w ws → (fresh ≡ true → is_line_start front ≡ true) → front ++ rest ≡ text → Laid w text front rest ws
 laid w text front no_word a l e = record { list = []; lexes = at_end; same = refl }

@@ -55,6 +55,7 @@ decimal_of n lt = let x = decimal_is_IsNumeral_wide n lt in record { digits = di
     digits : (ds : List ℕ) → 0 < length ds → AllDigits 10 ds → are_digits 10 ds ≡ true
     digits [] l a = absurd (omega (arith, l))
     digits (c ∷ cs) l a = and_from (is_digit_of 10 c) _ (lt-ltb (digit_value c) 10 a.0) (in_ten cs a.1)
+
     plain : (ds : List ℕ) → 0 < length ds → AllDigits 10 ds → are_plain ds ≡ true
     plain [] l a = absurd (omega (arith, l))
     plain (c ∷ cs) l a = in_plain (c ∷ cs) a
@@ -71,7 +72,8 @@ pub spelled : (width value : ℕ) → width ≤ 128 → value < 2 ^ 128 → Spel
 spelled zero value low lt =
     let d = decimal_of value (omega arith) in
     record {
-      width = None; value = value;
+      width = None;
+      value = value;
       is = subst (λ z. Number None z (decimal_text value)) d.value (without_width (decimal (decimal_text value) d.digits));
       range = lt-ltb value (2 ^ 128) lt;
       literal = refl;
@@ -81,9 +83,10 @@ spelled (suc width) value low lt =
     let e = decimal_of (suc width) (omega arith) in
     let u = decimal_text (suc width) ++ 119 ∷ decimal_text value in
     record {
-      width = Some (suc width); value = value;
+      width = Some (suc width);
+      value = value;
       is = subst (λ y. Number (Some y) value u) e.value
-        (subst (λ z. Number (Some (value_from 10 0 (decimal_text (suc width)))) z u) d.value (with_width (decimal_text (suc width)) e.plain (decimal (decimal_text value) d.digits)));
+          (subst (λ z. Number (Some (value_from 10 0 (decimal_text (suc width)))) z u) d.value (with_width (decimal_text (suc width)) e.plain (decimal (decimal_text value) d.digits)));
       range = and_from (is_width (suc width)) (nat_lt value (2 ^ 128)) (and_from (nat_lt 0 (suc width)) (nat_le (suc width) 128) (lt-ltb 0 (suc width) (omega arith)) (le-leb (suc width) 128 low)) (lt-ltb value (2 ^ 128) lt);
       literal = refl;
     }
@@ -167,7 +170,7 @@ shown_key w front k b rest (a_reserved_word n r) e = record { kind = kind.Name; 
 shown_key w front k b rest (written.a_mark m r) e = record {
   kind = kind.Mark;
   token = a_mark (longest_mark w (bytes_of_key k) b rest m e) (no_comment w 47 (bytes_of_key k) b rest m (space_no_slash b e)) (no_comment w 42 (bytes_of_key k) b rest m (space_no_star b e))
-    (λ p i. no_include w front (bytes_of_key k) b rest m e i);
+      (λ p i. no_include w front (bytes_of_key k) b rest m e i);
   same = ap (mark_or (bytes_of_key k)) r;
 }
 

@@ -14,3 +14,6 @@ mod seen;
 
 pub use key::{Key, mark, reserved};
 pub use seen::{is_inclusion, is_key, is_named, is_text, key_at, name_at, number_at};
+
+#[cfg(test)]
+mod tests;

@@ -68,12 +68,7 @@ fn name_of<'a>(words: Words, text: &'a [u8], token: &Token) -> Option<&'a [u8]>
 }
 
 /// The name at a place, if it is not reserved.
-pub fn name_at<'a>(
-    words: Words,
-    text: &'a [u8],
-    list: &[Token],
-    at: usize,
-) -> Option<&'a [u8]>
+pub fn name_at<'a>(words: Words, text: &'a [u8], list: &[Token], at: usize) -> Option<&'a [u8]>
     requires { AreIn text.now list.now }
     ensures { option_copied result ≡ name_in (slice_get (words_of words text.now list.now) at) }
 {
