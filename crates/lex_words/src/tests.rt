@@ -1,9 +1,11 @@
 //! Reserved words and marks of both languages, and tokens as words.
 
+ghost use Rattle.lex_text.specs.Places.{AreIn};
+
 use crate::{
     Key, is_inclusion, is_key, is_named, is_text, key_at, mark, name_at, number_at, reserved,
 };
-use lex_text::{Literal, Words, tokens};
+use lex_text::{Literal, Token, Words, tokens};
 use std::process::Abort;
 use std::test::Fail;
 
@@ -207,36 +209,76 @@ fn marks_of_both_languages(rt: HostRuntime) {
     }
 }
 
+/// At each of these places stands this key, or none.
+fn keys_are(
+    rt: &impl Abort,
+    words: Words,
+    text: &[u8],
+    list: &[Token],
+    rows: &[(usize, Option<Key>)],
+)
+    requires { AreIn text.now list.now }
+{
+    for row in rows {
+        assert_eq!(rt; key_at(words, text, list, row.0), row.1);
+        if let Some(key) = row.1 {
+            assert!(rt; is_key(words, text, list, row.0, key));
+        }
+        assert!(rt; !is_key(words, text, list, row.0, Key::Bool));
+    }
+}
+
+/// At each of these places stands this name, or none.
+fn names_are(
+    rt: &impl Abort,
+    words: Words,
+    text: &[u8],
+    list: &[Token],
+    rows: &[(usize, Option<&[u8]>)],
+)
+    requires { AreIn text.now list.now }
+{
+    for row in rows {
+        assert_eq!(rt; name_at(words, text, list, row.0), row.1);
+        if let Some(name) = row.1 {
+            assert!(rt; is_named(words, text, list, row.0, name));
+        }
+        assert!(rt; !is_named(words, text, list, row.0, b"tele"));
+    }
+}
+
 #[test]
 fn words_of_a_property(rt: HostRuntime) -> Result<(), Fail> {
     let text = b"tele bit<8> n; // a list\n { n = 4w7 + state; }";
     let list = tokens(rt.alloc(), text, Words::Indus)?;
     assert_eq!(rt; list.len(), 15);
-    assert_eq!(rt; key_at(Words::Indus, text, &list, 0), Some(Key::Tele));
-    assert_eq!(rt; key_at(Words::Indus, text, &list, 2), Some(Key::Less));
-    assert_eq!(rt; key_at(Words::Indus, text, &list, 3), None);
-    assert_eq!(rt; key_at(Words::Indus, text, &list, 15), None);
-    assert!(rt; is_key(Words::Indus, text, &list, 1, Key::Bit));
-    assert!(rt; !is_key(Words::Indus, text, &list, 1, Key::Bool));
-    assert!(rt; !is_key(Words::Indus, text, &list, 5, Key::Bit));
-    assert!(rt; is_key(Words::Indus, text, &list, 14, Key::BraceClose));
-    assert!(rt; is_named(Words::Indus, text, &list, 5, b"n"));
-    assert!(rt; !is_named(Words::Indus, text, &list, 5, b"m"));
-    assert!(rt; !is_named(Words::Indus, text, &list, 0, b"tele"));
-    assert_eq!(rt;
-        name_at(Words::Indus, text, &list, 12),
-        Some(b"state".as_slice())
-    );
-    assert_eq!(rt; name_at(Words::P4, text, &list, 12), None);
-    assert_eq!(rt;
-        name_at(Words::P4, text, &list, 0),
-        Some(b"tele".as_slice())
-    );
-    assert_eq!(rt; name_at(Words::Indus, text, &list, 15), None);
-    assert_eq!(rt; number_at(&list, 3), Some(Literal { width: 0, value: 8 }));
-    assert_eq!(rt; number_at(&list, 10), Some(Literal { width: 4, value: 7 }));
-    assert_eq!(rt; number_at(&list, 8), None);
-    assert_eq!(rt; number_at(&list, 15), None);
+    let keys = [
+        (0, Some(Key::Tele)),
+        (1, Some(Key::Bit)),
+        (2, Some(Key::Less)),
+        (3, None),
+        (5, None),
+        (14, Some(Key::BraceClose)),
+        (15, None),
+    ];
+    keys_are(&rt, Words::Indus, text, &list, &keys);
+    let names: [(usize, Option<&[u8]>); 4] = [
+        (0, None),
+        (5, Some(b"n")),
+        (12, Some(b"state")),
+        (15, None),
+    ];
+    names_are(&rt, Words::Indus, text, &list, &names);
+    for row in [(3, 0, 8), (10, 4, 7)] {
+        let literal = Literal {
+            width: row.1,
+            value: row.2,
+        };
+        assert_eq!(rt; number_at(&list, row.0), Some(literal));
+    }
+    for at in [8, 15] {
+        assert_eq!(rt; number_at(&list, at), None);
+    }
     Ok(())
 }
 
@@ -245,18 +287,21 @@ fn words_of_a_program(rt: HostRuntime) -> Result<(), Fail> {
     let text = b"#include <core.p4>\nheader h_t { bit<9> _; } @name(\"a b\") >> #";
     let list = tokens(rt.alloc(), text, Words::P4)?;
     assert_eq!(rt; list.len(), 18);
-    assert!(rt; is_inclusion(&list, 0));
-    assert!(rt; !is_inclusion(&list, 1));
-    assert!(rt; !is_inclusion(&list, 18));
-    assert!(rt; is_key(Words::P4, text, &list, 1, Key::Header));
-    assert!(rt; is_named(Words::P4, text, &list, 2, b"h_t"));
-    assert!(rt; is_key(Words::P4, text, &list, 8, Key::LowLine));
-    assert!(rt; is_key(Words::P4, text, &list, 11, Key::At));
-    assert!(rt; is_named(Words::P4, text, &list, 12, b"name"));
-    assert!(rt; is_text(&list, 14));
-    assert!(rt; !is_text(&list, 13));
-    assert!(rt; is_key(Words::P4, text, &list, 15, Key::Close));
-    assert_eq!(rt; key_at(Words::P4, text, &list, 14), None);
-    assert_eq!(rt; key_at(Words::P4, text, &list, 0), None);
+    let keys = [
+        (0, None),
+        (1, Some(Key::Header)),
+        (8, Some(Key::LowLine)),
+        (11, Some(Key::At)),
+        (14, None),
+        (15, Some(Key::Close)),
+        (17, Some(Key::Hash)),
+    ];
+    keys_are(&rt, Words::P4, text, &list, &keys);
+    let names: [(usize, Option<&[u8]>); 3] = [(2, Some(b"h_t")), (8, None), (12, Some(b"name"))];
+    names_are(&rt, Words::P4, text, &list, &names);
+    for at in 0..19 {
+        assert_eq!(rt; is_inclusion(&list, at), at == 0);
+        assert_eq!(rt; is_text(&list, at), at == 14);
+    }
     Ok(())
 }
