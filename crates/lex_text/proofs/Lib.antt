@@ -1,0 +1,12 @@
+pub mod Values
+pub mod Fronts
+pub mod NameFronts
+pub mod CommentFronts
+pub mod MarkFronts
+pub mod TextFronts
+pub mod NumberFronts
+pub mod PieceRight
+pub mod PieceOnly
+pub mod Whole
+pub mod OneAnswer
+pub mod Lying

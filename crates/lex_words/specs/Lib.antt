@@ -1,0 +1,5 @@
+-- What readers and printers rest on: reserved words and marks, tokens as words, and words as texts.
+pub mod Keys
+pub mod Seen
+pub mod Written
+pub mod Laws
