@@ -3,7 +3,8 @@
 //! The layers above get the tree types, the tree without pointers that each stands for, `copy` for
 //! each, and the meaning of expressions, blocks and the two parts of a property at a hop.
 //!
-//! `specs/Tree`, `State`, `Start`, `Operators`, `Reads`, `Value` and `Meaning` are read in this order.
+//! `specs/Tree`, `State`, `Start`, `Reads`, `Keys`, `Operators`, `Value` and `Meaning` are read in
+//! this order. `variables_keep_their_shapes` is a law of theirs.
 //!
 //! Follows: "Hydra: Effective Runtime Network Verification", SIGCOMM 2023; grammar and rules are this
 //! project's profile. The meaning is total, also on trees that break a rule of types. Nothing is said
@@ -11,8 +12,10 @@
 #![tactic(auto)]
 
 mod copy;
+mod laws;
 mod tree;
 
+pub use laws::variables_keep_their_shapes;
 pub use tree::{Decl, DeclKind, Expr, Op, Property, Shape, Stmt, Ty};
 
 #[cfg(test)]
