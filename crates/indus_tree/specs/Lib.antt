@@ -12,6 +12,7 @@ pub mod Value
 pub mod Meaning
 pub mod Hops
 pub mod Shapes
+pub mod Words
 pub mod Names
 pub mod Small
 -- Small properties, on which the meaning is worked out in tests.
