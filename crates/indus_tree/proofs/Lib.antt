@@ -1,0 +1,2 @@
+pub mod ShapesLemmas
+pub mod WordsLemmas

@@ -7,9 +7,12 @@ pub mod State
 pub mod Start
 pub mod Operators
 pub mod Reads
+pub mod Keys
 pub mod Value
 pub mod Meaning
 pub mod Hops
+pub mod Shapes
+pub mod Words
 pub mod Names
 pub mod Small
 -- Small properties, on which the meaning is worked out in tests.

@@ -2,7 +2,7 @@
 -- before it.
 use Rattle.std.specs.Prelude.{ℕ, zero, suc, List, [], ◌∷◌, Option, Some, None}
 use Rattle.bit_values.specs.Bits.{Word, word, cast}
-use Rattle.bit_values.specs.Widths.{bit, sound_width}
+use Rattle.bit_values.specs.Widths.{bit, sound_width, cast_word}
 use Rattle.indus_tree.specs.Tree.{Shape, one, list, set, dict, Expr, num, flag, Decl}
 use Rattle.indus_tree.specs.State.{lookup, width_of, shape_width, nothing_of}
 
@@ -25,7 +25,7 @@ tele_start ds x = start_of_decl (lookup ds x)
 -- the written initial value in a width; 0 or false where none is written
 abbrev pub start_word : Option Expr → ℕ → Word
 start_word (Some (num p n)) w = word (sound_width w) (cast (sound_width w) n.value)
-start_word (Some (flag p b)) w = bit b
+start_word (Some (flag p b)) w = cast_word (sound_width w) (bit b)
 start_word _ w = nothing_of w
 
 -- so many cells that hold the same word

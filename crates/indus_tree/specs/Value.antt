@@ -1,13 +1,14 @@
 -- The value of an expression. An expression takes numbers of any width: each operand is cast to the width
--- that its place gives, which changes nothing in a well-typed property. Read `Operators` and `Reads` before it and
--- `Meaning` after it.
+-- that its place gives, which changes nothing in a well-typed property. Read `Operators` and `Keys` before it
+-- and `Meaning` after it.
 use Rattle.std.specs.Prelude.{ℕ, List, [], ◌∷◌, length, not}
 use Rattle.bit_values.specs.Bits.{Word, word, invert, cast as cast_number}
 use Rattle.bit_values.specs.Widths.{bit, holds, either_width, sound_width, cast_word}
 use Rattle.indus_tree.specs.Tree.{Expr, Exprs, num, flag, read, count, index, member, negation, inversion, binary, cast, none, more}
 use Rattle.indus_tree.specs.State.{lookup, held_width}
 use Rattle.indus_tree.specs.Operators.{class_of, own_of, left_place, right_place, operate}
-use Rattle.indus_tree.specs.Reads.{Seen, name_word, at_key, has, index_widths, member_widths, widths_for, first_width, other_widths}
+use Rattle.indus_tree.specs.Reads.{Seen, name_word}
+use Rattle.indus_tree.specs.Keys.{at_key, has, index_widths, member_widths, widths_for, first_width, other_widths}
 
 -- the width that an expression has of its own, or 0
 abbrev pub own_width : Seen → Expr → ℕ

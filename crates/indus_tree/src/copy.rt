@@ -106,23 +106,18 @@ impl Expr {
                 let name = name.copy(alloc)?;
                 Ok(Expr::Member(*at, key, name))
             }
-            Expr::Not(at, a) => {
-                let a = a.copy(alloc)?;
-                Ok(Expr::Not(*at, Box::new(alloc, a)?))
-            }
-            Expr::Invert(at, a) => {
-                let a = a.copy(alloc)?;
-                Ok(Expr::Invert(*at, Box::new(alloc, a)?))
-            }
+            Expr::Not(at, a) => Ok(Expr::Not(*at, Box::new(alloc, a.copy(alloc)?)?)),
+            Expr::Invert(at, a) => Ok(Expr::Invert(*at, Box::new(alloc, a.copy(alloc)?)?)),
             Expr::Bin(at, op, a, b) => {
                 let a = Box::new(alloc, a.copy(alloc)?)?;
                 let b = Box::new(alloc, b.copy(alloc)?)?;
                 Ok(Expr::Bin(*at, *op, a, b))
             }
-            Expr::Cast(at, width, a) => {
-                let a = a.copy(alloc)?;
-                Ok(Expr::Cast(*at, *width, Box::new(alloc, a)?))
-            }
+            Expr::Cast(at, width, a) => Ok(Expr::Cast(
+                *at,
+                *width,
+                Box::new(alloc, a.copy(alloc)?)?,
+            )),
         }
     }
 }

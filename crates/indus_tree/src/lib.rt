@@ -3,7 +3,9 @@
 //! The layers above get the tree types, the tree without pointers that each stands for, `copy` for
 //! each, and the meaning of expressions, blocks and the two parts of a property at a hop.
 //!
-//! `specs/Tree`, `State`, `Start`, `Operators`, `Reads`, `Value` and `Meaning` are read in this order.
+//! `specs/Tree`, `State`, `Start`, `Reads`, `Keys`, `Operators`, `Value` and `Meaning` are read in
+//! this order. `values_are_words` and
+//! `variables_keep_their_shapes` are laws of theirs.
 //!
 //! Follows: "Hydra: Effective Runtime Network Verification", SIGCOMM 2023; grammar and rules are this
 //! project's profile. The meaning is total, also on trees that break a rule of types. Nothing is said
@@ -11,8 +13,10 @@
 #![tactic(auto)]
 
 mod copy;
+mod laws;
 mod tree;
 
+pub use laws::{values_are_words, variables_keep_their_shapes};
 pub use tree::{Decl, DeclKind, Expr, Op, Property, Shape, Stmt, Ty};
 
 #[cfg(test)]

@@ -1,0 +1,30 @@
+//! Laws of the meaning, each on a function that does nothing.
+
+ghost use Rattle.std.specs.Prelude.{List, ℕ};
+ghost use Rattle.bit_values.specs.Bits.{IsWord};
+ghost use Rattle.indus_tree.specs.Tree.{Decl, Expr, Property, Stmts};
+ghost use Rattle.indus_tree.specs.State.{Doing, Hop};
+ghost use Rattle.indus_tree.specs.Start.{sensors_start, tele_start};
+ghost use Rattle.indus_tree.specs.Meaning.{exit_part, entry_part, fresh, run_of};
+ghost use Rattle.indus_tree.specs.Reads.{Seen};
+ghost use Rattle.indus_tree.specs.Shapes.{AreShaped};
+ghost use Rattle.indus_tree.specs.Value.{value_of};
+ghost use Rattle.indus_tree.specs.Words.{SeesWords};
+
+/// The value of an expression that sees words is a word: of 1 to 128 bits, and in range. This also
+/// holds of an expression that breaks a rule of types.
+pub fn values_are_words()
+    ensures { (s : Seen) (e : Expr) (w : ℕ) → SeesWords s → IsWord (value_of s e w) }
+{}
+
+/// What variables hold keeps to their declarations, whatever a block does, also one that breaks a
+/// rule of types: words of the declared width, one in a scalar, and no more than a list has room for.
+pub fn variables_keep_their_shapes()
+    ensures start { (ds : List Decl) → AreShaped ds (fresh (tele_start ds) (sensors_start ds)) }
+    ensures blocks { (h : Hop) (ss : Stmts) (d : Doing) →
+        AreShaped h.decls d → AreShaped h.decls (run_of h ss d) }
+    ensures entry { (p : Property) (h : Hop) (d : Doing) →
+        AreShaped h.decls d → AreShaped h.decls (entry_part p h d) }
+    ensures exit { (p : Property) (h : Hop) (d : Doing) →
+        AreShaped h.decls d → AreShaped h.decls (exit_part p h d) }
+{}
