@@ -1,3 +1,4 @@
+-- The lemmas.
 pub mod Dark
 pub mod WordFronts
 pub mod Ascii

@@ -1,3 +1,4 @@
+-- What `==` on keys answers, by their numbers.
 use Rattle.std.proofs.Common.{ap, ◌∙◌}
 use Rattle.lex_words.specs.Seen.{is_this_key}
 use Rattle.lex_words.proofs.KeyCodes.{same_codes}
