@@ -5,7 +5,8 @@ use Rattle.std.proofs.lemmas.Bool.{eqb-true, eqb-false, eq-eqb}
 use denote.Enum.Bare.{sameb, true_same, false_same}
 use Rattle.lex_words.specs.contracts.key.Key.{the_type}
 use Rattle.lex_words.specs.Keys.{code_of}
-use Rattle.lex_words.specs.Seen.{Word, key_in, is_this_key, at_key}
+use Rattle.lex_text.specs.declared.literal.Literal.{Literal}
+use Rattle.lex_words.specs.Seen.{Word, name, number, key, quoted, include, strange, key_in, name_in, number_in, is_this_key, at_key}
 use Rattle.lex_words.specs.Laws.{KeyIsFound, FoundIsKey}
 use Rattle.lex_words.specs.declared.key.Key.{Key}
 use Rattle.lex_words.specs.declared.key.Key.TheVariants.{Header, Control, Bit, Bool, True, False, If, Else, In, Tele, Sensor, Set, Dict, For, Reject, Report, Length, Edition, Const, Typedef, Struct, Register, Parser, Out, Inout, State, Transition, Select, Default, LowLine, Action, Table, Return, Exit, Error, V1Switch, AddCapped, SubCapped, Mask, Both, Either, Equal, Differ, LessEq, MoreEq, ShiftLeft, ShiftRight, Concat, DotDot, BraceOpen, BraceClose, Open, Close, SquareOpen, SquareClose, Less, More, Semicolon, Colon, Comma, Dot, Assign, Plus, Minus, Times, Slash, Percent, And, Or, Caret, Tilde, Not, Question, At, Hash}
@@ -112,3 +113,38 @@ key_is_found k o e = this_key k (key_in o) e
 
 pub found_is_key : FoundIsKey
 found_is_key k o e = ap (is_this_key k) e ∙ eq-eqb (code_of k) (code_of k) refl
+
+-- ---- what was found is the word
+
+key_word : (k : Key) (o : Option Word) → key_in o ≡ Some k → o ≡ Some (key k)
+key_word k None e = absurd (let x : None ≡ Some k = e in cc)
+key_word k (Some (name s)) e = absurd (let x : None ≡ Some k = e in cc)
+key_word k (Some (number n)) e = absurd (let x : None ≡ Some k = e in cc)
+key_word k (Some (key l)) e = ap (λ (x : Key). Some (key x)) (let x : Some l ≡ Some k = e in cc)
+key_word k (Some (quoted s)) e = absurd (let x : None ≡ Some k = e in cc)
+key_word k (Some (include s)) e = absurd (let x : None ≡ Some k = e in cc)
+key_word k (Some (strange s)) e = absurd (let x : None ≡ Some k = e in cc)
+
+pub at_key-is : (k : Key) (o : Option Word) → at_key k o ≡ true → o ≡ Some (key k)
+at_key-is k o e = key_word k o (key_is_found k o e)
+
+pub at_key-same : (k : Key) → at_key k (Some (key k)) ≡ true
+at_key-same k = eq-eqb (code_of k) (code_of k) refl
+
+pub name_word : (s : List ℕ) (o : Option Word) → name_in o ≡ Some s → o ≡ Some (name s)
+name_word s None e = absurd (let x : None ≡ Some s = e in cc)
+name_word s (Some (name t)) e = ap (λ (x : List ℕ). Some (name x)) (let x : Some t ≡ Some s = e in cc)
+name_word s (Some (number n)) e = absurd (let x : None ≡ Some s = e in cc)
+name_word s (Some (key l)) e = absurd (let x : None ≡ Some s = e in cc)
+name_word s (Some (quoted t)) e = absurd (let x : None ≡ Some s = e in cc)
+name_word s (Some (include t)) e = absurd (let x : None ≡ Some s = e in cc)
+name_word s (Some (strange t)) e = absurd (let x : None ≡ Some s = e in cc)
+
+pub number_word : (n : Literal) (o : Option Word) → number_in o ≡ Some n → o ≡ Some (number n)
+number_word n None e = absurd (let x : None ≡ Some n = e in cc)
+number_word n (Some (name t)) e = absurd (let x : None ≡ Some n = e in cc)
+number_word n (Some (number m)) e = ap (λ (x : Literal). Some (number x)) (let x : Some m ≡ Some n = e in cc)
+number_word n (Some (key l)) e = absurd (let x : None ≡ Some n = e in cc)
+number_word n (Some (quoted t)) e = absurd (let x : None ≡ Some n = e in cc)
+number_word n (Some (include t)) e = absurd (let x : None ≡ Some n = e in cc)
+number_word n (Some (strange t)) e = absurd (let x : None ≡ Some n = e in cc)

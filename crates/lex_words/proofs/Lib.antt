@@ -1,3 +1,4 @@
+-- The lemmas.
 pub mod Dark
 pub mod WordFronts
 pub mod Ascii
@@ -5,3 +6,6 @@ pub mod Laid
 pub mod FairWords
 pub mod KeyCodes
 pub mod KindsSeen
+pub mod Standing
+pub mod Locality
+pub mod Loops

@@ -3,3 +3,5 @@ pub mod Keys
 pub mod Seen
 pub mod Written
 pub mod Laws
+-- What readers are made of.
+pub mod Reading

@@ -5,13 +5,19 @@
 //! of tokens. Contracts see a list of tokens as a list of words (`specs/Seen`). The printers get
 //! the laws that a text of words is read back as these words (`specs/Written`, `laws`).
 //!
+//! What is common to readers, of whatever grammar, stands here too: `Halt` and `expect`, the words
+//! of `specs/Reading`, and in `proofs` what a reading rests on (`Locality`), the turns of loops
+//! (`Loops`) and the front and the rest of a list (`Standing`).
+//!
 //! Follows: P4_16, lexical structure, this project's subset.
 #![tactic(auto)]
 
+mod halt;
 mod key;
 pub mod laws;
 mod seen;
 
+pub use halt::{Halt, expect};
 pub use key::{Key, mark, reserved};
 pub use seen::{is_inclusion, is_key, is_named, is_text, key_at, name_at, number_at};
 

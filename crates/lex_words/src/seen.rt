@@ -1,6 +1,6 @@
 //! What stands at a place of a list of tokens.
 
-ghost use Rattle.std.specs.Prelude.{◌≡◌, ◌≤◌, length, slice_get, Some};
+ghost use Rattle.std.specs.Prelude.{◌≡◌, ◌≤◌, ◌<◌, length, slice_get, Some, OnSome, true};
 ghost use Rattle.std.specs.Option.{option_copied};
 ghost use Rattle.lex_text.specs.Places.{AreIn, bytes_of};
 ghost use Rattle.lex_words.specs.Keys.{reserved_key};
@@ -21,7 +21,8 @@ fn token_bytes<'a>(text: &'a [u8], token: &Token) -> &'a [u8]
 /// The reserved word or mark at a place.
 pub fn key_at(words: Words, text: &[u8], list: &[Token], at: usize) -> Option<Key>
     requires { AreIn text.now list.now }
-    ensures { result ≡ key_in (slice_get (words_of words text.now list.now) at) }
+    ensures value { result ≡ key_in (slice_get (words_of words text.now list.now) at) }
+    ensures inside { OnSome result (at < length list.now) }
 {
     let token = list.get(at)?;
     match token.kind {
@@ -34,7 +35,8 @@ pub fn key_at(words: Words, text: &[u8], list: &[Token], at: usize) -> Option<Ke
 /// Whether this reserved word or mark stands at a place.
 pub fn is_key(words: Words, text: &[u8], list: &[Token], at: usize, key: Key) -> bool
     requires { AreIn text.now list.now }
-    ensures { result ≡ at_key key (slice_get (words_of words text.now list.now) at) }
+    ensures value { result ≡ at_key key (slice_get (words_of words text.now list.now) at) }
+    ensures inside { result ≡ true → at < length list.now }
 {
     match key_at(words, text, list, at) {
         None => false,
