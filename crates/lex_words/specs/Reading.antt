@@ -1,5 +1,5 @@
 -- Reading words from left to right, with one word of choice: what a reader gives, and its steps. A reader is a function of the list of words and a place in it.
-use Rattle.std.specs.Prelude.{◌≡◌, ℕ, zero, suc, ◌+◌, List, [], ◌∷◌, ◌++◌, Option, Some, None, Result, Ok, Err, if◌then◌else◌, slice_get}
+use Rattle.std.specs.Prelude.{◌≡◌, ℕ, zero, suc, ◌+◌, List, [], ◌∷◌, Option, Result, Ok, Err, if◌then◌else◌, slice_get}
 use Rattle.lex_words.specs.Seen.{Word, at_key}
 use Rattle.lex_words.specs.declared.halt.Halt.{Halt}
 use Rattle.lex_words.specs.declared.halt.Halt.TheVariants as halt

@@ -2,7 +2,9 @@
 
 ghost use Rattle.lex_text.specs.Places.{AreIn};
 
-use crate::{Key, is_inclusion, is_key, is_named, is_text, key_at, mark, name_at, number_at, reserved};
+use crate::{
+    Key, is_inclusion, is_key, is_named, is_text, key_at, mark, name_at, number_at, reserved,
+};
 use lex_text::{Literal, Token, Words, tokens};
 use std::process::Abort;
 use std::test::Fail;
@@ -23,69 +25,137 @@ fn are_names(rt: &impl Abort, words: Words, rows: &[&str]) {
 
 #[test]
 fn reserved_words_of_indus(rt: HostRuntime) {
-    are_reserved(&rt, Words::Indus, &[
-        ("bit", Key::Bit),
-        ("bool", Key::Bool),
-        ("control", Key::Control),
-        ("dict", Key::Dict),
-        ("edition", Key::Edition),
-        ("else", Key::Else),
-        ("false", Key::False),
-        ("for", Key::For),
-        ("header", Key::Header),
-        ("if", Key::If),
-        ("in", Key::In),
-        ("length", Key::Length),
-        ("reject", Key::Reject),
-        ("report", Key::Report),
-        ("sensor", Key::Sensor),
-        ("set", Key::Set),
-        ("tele", Key::Tele),
-        ("true", Key::True),
-    ]);
-    are_names(&rt, Words::Indus, &[
-        "_", "const", "typedef", "struct", "register", "parser", "out", "inout", "state", "transition", "select",
-        "default", "action", "table", "return", "exit", "error", "V1Switch", "apply", "key", "main", "Tele", "tel",
-        "telemetry", "", "first_hop", "push", "hdr",
-    ]);
+    are_reserved(
+        &rt,
+        Words::Indus,
+        &[
+            ("bit", Key::Bit),
+            ("bool", Key::Bool),
+            ("control", Key::Control),
+            ("dict", Key::Dict),
+            ("edition", Key::Edition),
+            ("else", Key::Else),
+            ("false", Key::False),
+            ("for", Key::For),
+            ("header", Key::Header),
+            ("if", Key::If),
+            ("in", Key::In),
+            ("length", Key::Length),
+            ("reject", Key::Reject),
+            ("report", Key::Report),
+            ("sensor", Key::Sensor),
+            ("set", Key::Set),
+            ("tele", Key::Tele),
+            ("true", Key::True),
+        ],
+    );
+    are_names(
+        &rt,
+        Words::Indus,
+        &[
+            "_",
+            "const",
+            "typedef",
+            "struct",
+            "register",
+            "parser",
+            "out",
+            "inout",
+            "state",
+            "transition",
+            "select",
+            "default",
+            "action",
+            "table",
+            "return",
+            "exit",
+            "error",
+            "V1Switch",
+            "apply",
+            "key",
+            "main",
+            "Tele",
+            "tel",
+            "telemetry",
+            "",
+            "first_hop",
+            "push",
+            "hdr",
+        ],
+    );
 }
 
 #[test]
 fn reserved_words_of_p4(rt: HostRuntime) {
-    are_reserved(&rt, Words::P4, &[
-        ("V1Switch", Key::V1Switch),
-        ("_", Key::LowLine),
-        ("action", Key::Action),
-        ("bit", Key::Bit),
-        ("bool", Key::Bool),
-        ("const", Key::Const),
-        ("control", Key::Control),
-        ("default", Key::Default),
-        ("else", Key::Else),
-        ("error", Key::Error),
-        ("exit", Key::Exit),
-        ("false", Key::False),
-        ("header", Key::Header),
-        ("if", Key::If),
-        ("in", Key::In),
-        ("inout", Key::Inout),
-        ("out", Key::Out),
-        ("parser", Key::Parser),
-        ("register", Key::Register),
-        ("return", Key::Return),
-        ("select", Key::Select),
-        ("state", Key::State),
-        ("struct", Key::Struct),
-        ("table", Key::Table),
-        ("transition", Key::Transition),
-        ("true", Key::True),
-        ("typedef", Key::Typedef),
-    ]);
-    are_names(&rt, Words::P4, &[
-        "tele", "sensor", "set", "dict", "for", "reject", "report", "length", "edition", "apply", "key", "actions",
-        "size", "default_action", "main", "hit", "miss", "isValid", "extract", "enum", "switch", "int", "varbit",
-        "entries", "range", "__", "v1switch", "Error", "", "bits",
-    ]);
+    are_reserved(
+        &rt,
+        Words::P4,
+        &[
+            ("V1Switch", Key::V1Switch),
+            ("_", Key::LowLine),
+            ("action", Key::Action),
+            ("bit", Key::Bit),
+            ("bool", Key::Bool),
+            ("const", Key::Const),
+            ("control", Key::Control),
+            ("default", Key::Default),
+            ("else", Key::Else),
+            ("error", Key::Error),
+            ("exit", Key::Exit),
+            ("false", Key::False),
+            ("header", Key::Header),
+            ("if", Key::If),
+            ("in", Key::In),
+            ("inout", Key::Inout),
+            ("out", Key::Out),
+            ("parser", Key::Parser),
+            ("register", Key::Register),
+            ("return", Key::Return),
+            ("select", Key::Select),
+            ("state", Key::State),
+            ("struct", Key::Struct),
+            ("table", Key::Table),
+            ("transition", Key::Transition),
+            ("true", Key::True),
+            ("typedef", Key::Typedef),
+        ],
+    );
+    are_names(
+        &rt,
+        Words::P4,
+        &[
+            "tele",
+            "sensor",
+            "set",
+            "dict",
+            "for",
+            "reject",
+            "report",
+            "length",
+            "edition",
+            "apply",
+            "key",
+            "actions",
+            "size",
+            "default_action",
+            "main",
+            "hit",
+            "miss",
+            "isValid",
+            "extract",
+            "enum",
+            "switch",
+            "int",
+            "varbit",
+            "entries",
+            "range",
+            "__",
+            "v1switch",
+            "Error",
+            "",
+            "bits",
+        ],
+    );
 }
 
 #[test]
@@ -192,10 +262,18 @@ fn words_of_a_property(rt: HostRuntime) -> Result<(), Fail> {
         (15, None),
     ];
     keys_are(&rt, Words::Indus, text, &list, &keys);
-    let names: [(usize, Option<&[u8]>); 4] = [(0, None), (5, Some(b"n")), (12, Some(b"state")), (15, None)];
+    let names: [(usize, Option<&[u8]>); 4] = [
+        (0, None),
+        (5, Some(b"n")),
+        (12, Some(b"state")),
+        (15, None),
+    ];
     names_are(&rt, Words::Indus, text, &list, &names);
     for row in [(3, 0, 8), (10, 4, 7)] {
-        let literal = Literal { width: row.1, value: row.2 };
+        let literal = Literal {
+            width: row.1,
+            value: row.2,
+        };
         assert_eq!(rt; number_at(&list, row.0), Some(literal));
     }
     for at in [8, 15] {
