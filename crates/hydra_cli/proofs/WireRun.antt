@@ -33,10 +33,10 @@ unfolding machine_for
 net_of-line p l linked machines told are none =
     let three : Program → Program → Program → List Machine = λ a b c. machine_for a ∷ machine_for b ∷ machine_for c ∷ [] in
     let switches : machines ≡ three (program_at p 0) (program_at p 1) (program_at p 2) =
-        are
-        ∙ ap (λ a. three a (program_of l.s2) (program_of l.s3)) linked.s1
-        ∙ ap (λ b. three (program_at p 0) b (program_of l.s3)) linked.s2
-        ∙ ap (λ c. three (program_at p 0) (program_at p 1) c) linked.s3 in
+    are
+    ∙ ap (λ a. three a (program_of l.s2) (program_of l.s3)) linked.s1
+    ∙ ap (λ b. three (program_at p 0) b (program_of l.s3)) linked.s2
+    ∙ ap (λ c. three (program_at p 0) (program_at p 1) c) linked.s3 in
     ap₂ net_of switches none
 
 -- a small property's telemetry has 8 bytes at most
@@ -48,7 +48,7 @@ pub run_shows : (p : Property) → IsSmall p → (frame : List ℕ) (limit : ℕ
     → ShowsWay (λ s. parts_of (program_at p s)) (run_of_frame p frame) (travel 63 line3_links limit net 0 1 frame)
 run_shows p small frame limit net is before =
     let same : travel 63 line3_links limit net 0 1 frame ≡ travel 63 line3_links (longest_frame + (telemetry_of p.decls).size) (net_before p) 0 1 frame =
-        ap₂ (λ (l : ℕ) (n : Net). travel 63 line3_links l n 0 1 frame) (is ∙ limit_is p small) before in
+    ap₂ (λ (l : ℕ) (n : Net). travel 63 line3_links l n 0 1 frame) (is ∙ limit_is p small) before in
     subst (λ way. ShowsWay (λ s. parts_of (program_at p s)) (run_of_frame p frame) way) (sym same) (way_is_run p frame)
 
 -- the files of the linked programs

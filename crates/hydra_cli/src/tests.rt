@@ -68,14 +68,16 @@ fn frame_leaves_as_it_came(rt: HostRuntime) -> Result<(), Fail> {
 }
 
 /// Seven variables, and `if`s in one another up to the limit of 16. At the third hop a is 4 and g is 12.
-const SEVEN_REJECTED: &str = "tele bit<8> a; tele bit<8> b; tele bit<8> c; tele bit<8> d; tele bit<8> e; tele bit<8> f; tele bit<8> g;
+const SEVEN_REJECTED: &str =
+    "tele bit<8> a; tele bit<8> b; tele bit<8> c; tele bit<8> d; tele bit<8> e; tele bit<8> f; tele bit<8> g;
 {a = 1; b = 2; c = 3; d = 4; e = 5; f = 6; g = 250;} {a = a + 1; g = g + a + 3;}
 {if (a == 4) {if (b == 2) {if (c == 3) {if (d == 4) {if (e == 5) {if (f == 6) {if (g == 12) {if (a == b + 2) {
 if (b == 2) {if (c == a + 255) {if (d == a) {if (e == d + 1) {if (f == e + 1) {if (g == f + f) {if (a == 4) {if (g == 12) {
 reject;}}}}}}}}}}}}}}}}}";
 
 /// The same, but that the last test does not hold.
-const SEVEN_LEAVES: &str = "tele bit<8> a; tele bit<8> b; tele bit<8> c; tele bit<8> d; tele bit<8> e; tele bit<8> f; tele bit<8> g;
+const SEVEN_LEAVES: &str =
+    "tele bit<8> a; tele bit<8> b; tele bit<8> c; tele bit<8> d; tele bit<8> e; tele bit<8> f; tele bit<8> g;
 {a = 1; b = 2; c = 3; d = 4; e = 5; f = 6; g = 250;} {a = a + 1; g = g + a + 3;}
 {if (a == 4) {if (b == 2) {if (c == 3) {if (d == 4) {if (e == 5) {if (f == 6) {if (g == 12) {if (a == b + 2) {
 if (b == 2) {if (c == a + 255) {if (d == a) {if (e == d + 1) {if (f == e + 1) {if (g == f + f) {if (a == 4) {if (g == 13) {
