@@ -138,6 +138,7 @@ fn show_expr(alloc: Global, e: &Expr, out: &mut String) -> Result<(), Fail> {
             show_expr(alloc, b, out)?;
             out.push_str(")")?;
         }
+        _ => out.push_str("another form")?,
     }
     Ok(())
 }
@@ -160,6 +161,7 @@ fn show_stmt(alloc: Global, s: &Stmt, out: &mut String) -> Result<(), Fail> {
             out.push_str("} ")?;
         }
         Stmt::Reject(at) => out.push_str(format!(in alloc; "{at}:reject; ")?.as_str())?,
+        _ => out.push_str("another form; ")?,
     }
     Ok(())
 }
