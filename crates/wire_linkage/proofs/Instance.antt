@@ -28,6 +28,7 @@ lowered_under : (e : indus.Expr) → expr_under roots (lowered e) ≡ lowered e
 lowered_under (indus.num p n) = refl
 lowered_under (indus.read p x) = refl
 lowered_under (indus.binary p o a b) = ap₂ (binary 0 (lowered_op o)) (lowered_under a) (lowered_under b)
+lowered_under _ = refl
 
 mutual
   stmt_same : (s : indus.Stmt) → stmt_under roots (lowered_stmt s) ≡ lowered_stmt s
@@ -36,6 +37,7 @@ mutual
       ap (λ t. choice 0 t (block 0 (stmts_under roots (lowered_block a))) (else_under roots (lowered_else b))) (lowered_under e)
       ∙ ap₂ (λ x y. choice 0 (lowered e) (block 0 x) y) (block_same a) (else_same b)
   stmt_same (indus.reject p) = refl
+  stmt_same _ = refl
 
   block_same : (ss : indus.Stmts) → stmts_under roots (lowered_block ss) ≡ lowered_block ss
   block_same indus.done = refl
@@ -140,6 +142,7 @@ mutual
   stmt_names (indus.assign p x e) = refl
   stmt_names (indus.choice p e a b) = ap₂ (λ (x y : List (List ℕ)). x ++ y) (block_names a) (else_names b)
   stmt_names (indus.reject p) = refl
+  stmt_names _ = refl
 
   block_names : (ss : indus.Stmts) → names_in (lowered_block ss) ≡ []
   block_names indus.done = refl
