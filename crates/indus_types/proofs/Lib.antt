@@ -1,0 +1,5 @@
+pub mod Cuts
+pub mod Checked
+pub mod Widths
+pub mod Agreement
+pub mod NamesLemmas
