@@ -23,3 +23,6 @@ mod weight;
 pub use fault::TypeFault;
 pub use indus_rules::Rule;
 pub use typed::{TypedProperty, check_property};
+
+#[cfg(test)]
+mod tests;
