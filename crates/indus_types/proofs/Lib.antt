@@ -3,3 +3,4 @@ pub mod Checked
 pub mod Widths
 pub mod Agreement
 pub mod NamesLemmas
+pub mod Places

@@ -25,4 +25,6 @@ pub use indus_rules::Rule;
 pub use typed::{TypedProperty, check_property};
 
 #[cfg(test)]
+mod rows;
+#[cfg(test)]
 mod tests;

@@ -85,6 +85,7 @@ fn block_reads(all: &[Stmt], decls: &[Decl], variable: &Name) -> u32
 }
 
 /// How often the control variable at this place among the declarations is read.
+#[tactic(auto, using(crate::proofs::Places::nth_decl))]
 pub fn lookups(p: &Property, variable: u32) -> u32
     requires { IsControl (property_of p.now) variable }
     ensures { result ≡ cut (nth_lookups (property_of p.now) variable) }

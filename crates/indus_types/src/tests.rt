@@ -151,6 +151,7 @@ fn over_a_list(alloc: Global, s: Stmt) -> Result<Property, AllocError> {
 }
 
 /// How often a control variable is read.
+#[tactic(auto, using(crate::proofs::Places::nth_decl))]
 fn reads_of(t: &TypedProperty, variable: u32) -> Option<u32> {
     match t.property().decls.get(variable as usize) {
         Some(d) => match d.kind {

@@ -47,13 +47,13 @@ pub fn check_property(alloc: Global, p: Property) -> Result<TypedProperty, TypeF
 {
     match first_fault(alloc, &p)? {
         Some((place, rule)) => Err(TypeFault::Type_ { place, rule }),
-        None => Ok(typed(alloc, p)?),
+        None => Ok(with_names(alloc, p)?),
     }
 }
 
 /// A property that breaks no rule, with the table of its names.
 #[tactic(auto, using(crate::proofs::NamesLemmas::typed_new))]
-fn typed(alloc: Global, property: Property) -> Result<TypedProperty, AllocError>
+fn with_names(alloc: Global, property: Property) -> Result<TypedProperty, AllocError>
     requires { IsWellTyped (property_of property) }
     ensures { IfOk result (λ t. t ≡ property_of property) }
 {
@@ -75,7 +75,7 @@ impl TypedProperty {
         ensures { IfOk result (λ t. t ≡ self.now) }
     {
         let property = self.property.copy(alloc)?;
-        typed(alloc, property)
+        with_names(alloc, property)
     }
 
     /// The place of a name among the declarations.
