@@ -12,9 +12,9 @@ use Rattle.indus_types.specs.Facts.{IsKnown, CitesKnown, Agrees, FineAgrees}
 use Rattle.indus_types.proofs.Widths.{head_fine, kind_fine}
 
 known_step : (i b : Option Kind) (d : Option Decl) → is_missing (role_from i b d) ≡ false → IsSome i ⊎ IsSome b ⊎ IsSome d
-known_step (Some k) b d h = inl (inl tt)
-known_step None (Some k) d h = inl (inr tt)
-known_step None None (Some d) h = inr tt
+known_step (Some k) b d h = inl refl
+known_step None (Some k) d h = inr (inl refl)
+known_step None None (Some d) h = inr (inr refl)
 known_step None None None h = absurd (let c : true ≡ false = h in cc)
 
 cites : (g : Sight) (e : Expr) → cites_missing g e ≡ false → CitesKnown g e
