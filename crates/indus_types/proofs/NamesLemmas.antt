@@ -12,7 +12,7 @@ use Rattle.indus_rules.specs.Scopes.{builtin_of}
 use Rattle.indus_rules.specs.Sites.{decl_sites}
 use Rattle.indus_rules.specs.Rules.{Fine, is_some, IsWellTyped}
 use Rattle.indus_rules.specs.declared.rule.Rule.TheVariants.{NameTwice}
-use Rattle.indus_types.specs.Declared.{names_of, texts, AreNew}
+use Rattle.indus_types.specs.NameTable.{names_of, texts, AreNew}
 use Rattle.indus_types.proofs.Checked.{each_fine}
 use Rattle.indus_types.proofs.Widths.{neither}
 

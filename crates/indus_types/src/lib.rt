@@ -1,7 +1,7 @@
 //! Indus properties that keep the rules of types, and their sums.
 //!
 //! The layer above gets `check_property`, which takes a property exactly where it breaks no rule, and
-//! `TypedProperty`, which contracts see as the property and which nothing else makes. It answers the
+//! `TypedProperty`, whose ghost field says so, so that nothing else makes one. It answers the
 //! telemetry's bits, the weight and the reads of a control variable. `laws` says what well-typedness
 //! says of a tree.
 //!

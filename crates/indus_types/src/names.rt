@@ -2,7 +2,7 @@
 
 ghost use Rattle.std.specs.Prelude.{◌≡◌, [], map, IfOk};
 ghost use Rattle.indus_tree.specs.View.{decl_of};
-ghost use Rattle.indus_types.specs.Declared.{AreNew, names_of, texts};
+ghost use Rattle.indus_types.specs.NameTable.{AreNew, names_of, texts};
 
 use indexmap::IndexSet;
 use indus_tree::Decl;

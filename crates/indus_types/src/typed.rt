@@ -5,6 +5,7 @@ ghost use Rattle.indus_tree.specs.Hops.{number_of};
 ghost use Rattle.indus_tree.specs.View.{property_of};
 ghost use Rattle.indus_rules.specs.Rules.{IsWellTyped};
 ghost use Rattle.indus_types.specs.Faults.{HasCause};
+ghost use Rattle.indus_types.specs.NameTable.{names_of, texts};
 ghost use Rattle.indus_types.specs.Sums.{cut, cut_wide, property_bits, property_weight, nth_lookups, IsControl};
 
 use crate::fault::TypeFault;
@@ -14,34 +15,21 @@ use indexmap::IndexSet;
 use indus_rules::first_fault;
 use indus_tree::Property;
 use std::alloc::{AllocError, Global};
-use std::marker::Model;
 
-/// A property that breaks no rule. Contracts see it as the property.
+/// A property that breaks no rule.
 #[derive(Drop)]
 pub struct TypedProperty {
-    property: Property,
+    pub property: Property,
     /// The declared names, in the order in which they are first seen.
-    names: IndexSet<String>,
-}
-
-impl Model for TypedProperty {
-    ghost use Rattle.std.specs.Prelude.{◌≡◌};
-    ghost use Rattle.indus_tree.specs.Tree.{Property};
-    ghost use Rattle.indus_tree.specs.View.{property_of};
-    ghost use Rattle.indus_rules.specs.Rules.{IsWellTyped};
-    ghost use Rattle.indus_types.specs.Declared.{names_of, texts};
-
-    ghost Value = { Property };
-
-    ghost view = { λ t. property_of t.property };
-
-    ghost invariant = { λ t. IsWellTyped (property_of t.property) × (texts t.names.keys ≡ names_of (property_of t.property).decls) };
+    pub names: IndexSet<String>,
+    pub ghost typed: { IsWellTyped (property_of property) },
+    pub ghost named: { texts names.keys ≡ names_of (property_of property).decls },
 }
 
 /// The property itself, exactly where it breaks no rule.
 #[tactic(auto, using(crate::proofs::Checked::no_fault, crate::proofs::Checked::a_fault))]
 pub fn check_property(alloc: Global, p: Property) -> Result<TypedProperty, TypeFault>
-    ensures ok { IfOk result (λ t. t ≡ property_of p) }
+    ensures ok { IfOk result (λ t. property_of t.property ≡ property_of p) }
     ensures typed { IfOk result (λ _. IsWellTyped (property_of p)) }
     ensures cause { IfErr result (HasCause (property_of p)) }
 {
@@ -55,7 +43,7 @@ pub fn check_property(alloc: Global, p: Property) -> Result<TypedProperty, TypeF
 #[tactic(auto, using(crate::proofs::NamesLemmas::typed_new))]
 fn with_names(alloc: Global, property: Property) -> Result<TypedProperty, AllocError>
     requires { IsWellTyped (property_of property) }
-    ensures { IfOk result (λ t. t ≡ property_of property) }
+    ensures { IfOk result (λ t. property_of t.property ≡ property_of property) }
 {
     let names = name_table(alloc, &property.decls)?;
     Ok(TypedProperty { property, names })
@@ -64,15 +52,15 @@ fn with_names(alloc: Global, property: Property) -> Result<TypedProperty, AllocE
 impl TypedProperty {
     /// The property.
     pub fn property(&self) -> &Property
-        ensures same { property_of result.now ≡ self.now }
-        ensures typed { IsWellTyped self.now }
+        ensures same { result.now ≡ self.now.property }
+        ensures typed { IsWellTyped (property_of result.now) }
     {
         &self.property
     }
 
     /// An equal property with the same places.
     pub fn copy(&self, alloc: Global) -> Result<TypedProperty, AllocError>
-        ensures { IfOk result (λ t. t ≡ self.now) }
+        ensures { IfOk result (λ t. property_of t.property ≡ property_of self.now.property) }
     {
         let property = self.property.copy(alloc)?;
         with_names(alloc, property)
@@ -80,21 +68,21 @@ impl TypedProperty {
 
     /// The place of a name among the declarations.
     pub fn number(&self, name: &str) -> Option<usize>
-        ensures { result ≡ number_of self.now.decls name.now }
+        ensures { result ≡ number_of (property_of self.now.property).decls name.now }
     {
         self.names.get_index_of(name)
     }
 
     /// The bits of the telemetry, cut at the greatest number.
     pub fn tele_bits(&self) -> u64
-        ensures { result ≡ cut_wide (property_bits self.now) }
+        ensures { result ≡ cut_wide (property_bits (property_of self.now.property)) }
     {
         bits::property_bits(&self.property)
     }
 
     /// The weight, cut at the greatest number.
     pub fn weight(&self) -> u32
-        ensures { result ≡ cut (property_weight self.now) }
+        ensures { result ≡ cut (property_weight (property_of self.now.property)) }
     {
         weight::property_weight(&self.property)
     }
@@ -102,8 +90,8 @@ impl TypedProperty {
     /// How often the control variable at this place among the declarations is read, cut at the
     /// greatest number.
     pub fn lookups(&self, variable: u32) -> u32
-        requires { IsControl self.now variable }
-        ensures { result ≡ cut (nth_lookups self.now variable) }
+        requires { IsControl (property_of self.now.property) variable }
+        ensures { result ≡ cut (nth_lookups (property_of self.now.property) variable) }
     {
         reads::lookups(&self.property, variable)
     }
