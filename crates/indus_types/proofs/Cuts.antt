@@ -51,7 +51,7 @@ over_times : (n m : ℕ) → 4294967295 ≤ m → 1 ≤ n → cut (n * m) ≡ 42
 over_times n m h k = let p : 1 * m ≤ n * m = mul-le-mul_right m k in omega (arith, p)
 
 large_times : (n w : ℕ) → 4294967295 ≤ w → cut (n * cut w) ≡ cut (n * w)
-large_times zero w h = refl
+large_times zero w h = omega arith
 large_times (suc n) w h = over_times (suc n) (cut w) (omega arith) (omega arith) ∙ sym (over_times (suc n) w h (omega arith))
 
 pub cut_times : (n w : ℕ) → cut (n * cut w) ≡ cut (n * w)

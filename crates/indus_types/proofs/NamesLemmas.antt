@@ -1,5 +1,7 @@
 -- A table of names beside the list of declarations.
-use Rattle.std.proofs.Common.{◌≡◌, ℕ, zero, suc, ◌+◌, Bool, true, false, cond, not, ◌||◌, List, [], ◌∷◌, ◌++◌, map, length, Option, Some, None, String, Global, string_bytes, nat_lt, ◌<◌, ◌≤◌, refl, sym, ap, ◌∙◌, arith}
+use Rattle.std.proofs.Common.{◌≡◌, ℕ, zero, suc, ◌+◌, Bool, true, false, cond, not, ◌||◌, List, [], ◌∷◌, ◌++◌, map, length, Option, Some, None, String, Global, string_bytes, nat_lt, ◌<◌, ◌≤◌, refl, sym, ap, ◌∙◌, subst, get_or, take, drop, drop-cons, arith}
+use Rattle.std.proofs.Math.Seq.{take-suc}
+use Rattle.std.proofs.lemmas.List.{map-append}
 use Rattle.std.proofs.lemmas.Bool.{lt-ltb, le-ltb, ltb-true, ltb-false}
 use Rattle.std.specs.List.{list_any, position, prefix_len}
 use Rattle.std.specs.Str.{bytes_eq}
@@ -7,6 +9,8 @@ use Rattle.std.specs.Cmp.Lexicographic.{nat_list_eq_equiv}
 use Rattle.lex_text.specs.Names.{same_text}
 use Rattle.indus_tree.specs.Tree.{Decl, Property}
 use Rattle.indus_tree.specs.State.{lookup}
+use Rattle.indus_tree.specs.View.{decl_of}
+use Rattle.indus_tree.specs.declared.tree.Decl as code
 use Rattle.indus_tree.specs.Hops.{number_from, number_of}
 use Rattle.indus_rules.specs.Scopes.{builtin_of}
 use Rattle.indus_rules.specs.Sites.{decl_sites}
@@ -60,6 +64,21 @@ one_more ks new k ds d same named fresh n =
     let out : list_any (λ x. bytes_eq (string_bytes k) (string_bytes x)) ks ≡ false =
     any_texts (string_bytes k) ks ∙ ap (list_any (bytes_eq (string_bytes k))) same ∙ ap (λ (x : List ℕ). list_any (bytes_eq x) (names_of ds)) named ∙ absent ds d.name fresh in
     ap texts (n ∙ ap (λ (b : Bool). insert_it b ks k) out) ∙ texts_push ks k ∙ ap (λ (ns : List (List ℕ)). ns ++ string_bytes k ∷ []) same ∙ ap (λ (x : List ℕ). names_of ds ++ x ∷ []) named ∙ sym (names_append ds (d ∷ []))
+
+-- a turn of the loop that fills the table
+pub table_step : (ds : List code.Decl) (i : ℕ) (d : code.Decl) (ks new : List (String Global)) (k : String Global)
+    → i < length ds → d ≡ get_or ds i d → texts ks ≡ names_of (map decl_of (take i ds)) → AreNew (map decl_of (take i ds)) (map decl_of (drop i ds))
+    → string_bytes k ≡ d.name → new ≡ insert_it (list_any (λ x. bytes_eq (string_bytes k) (string_bytes x)) ks) ks k
+    → (texts new ≡ names_of (map decl_of (take (i + 1) ds))) × AreNew (map decl_of (take (i + 1) ds)) (map decl_of (drop (i + 1) ds))
+table_step ds i d ks new k lt is same fresh named n =
+    let more : i + 1 ≡ suc i = omega arith in
+    let rest : drop i ds ≡ d ∷ drop (i + 1) ds = drop-cons ds i d lt ∙ ap (λ (x : code.Decl). x ∷ drop (suc i) ds) (sym is) ∙ ap (λ (m : ℕ). d ∷ drop m ds) (sym more) in
+    let front : map decl_of (take (i + 1) ds) ≡ map decl_of (take i ds) ++ decl_of d ∷ [] =
+        ap (λ (m : ℕ). map decl_of (take m ds)) more ∙ ap (map decl_of) (take-suc ds i d lt) ∙ ap (λ (x : code.Decl). map decl_of (take i ds ++ x ∷ [])) (sym is) ∙ map-append decl_of (take i ds) (d ∷ []) in
+    let next : AreNew (map decl_of (take i ds)) (decl_of d ∷ map decl_of (drop (i + 1) ds)) =
+        let P : List code.Decl → Type 0 = λ xs. AreNew (map decl_of (take i ds)) (map decl_of xs) in subst P rest fresh in
+    let Q : List Decl → Type 0 = λ xs. (texts new ≡ names_of xs) × AreNew xs (map decl_of (drop (i + 1) ds)) in
+    subst Q (sym front) (one_more ks new k (map decl_of (take i ds)) (decl_of d) same named next.0 n, next.1)
 
 -- ---- the place of a name
 

@@ -1,5 +1,6 @@
 -- The widths that the meaning finds are those of the rules, by induction on the expression.
 use Rattle.std.proofs.Common.{◌≡◌, ℕ, zero, suc, List, [], ◌∷◌, Bool, true, false, cond, not, ◌||◌, Option, Some, None, refl, sym, ap, ◌∙◌, nat_eq, arith}
+use borrow.Author.Tests.{eqb-true}
 use Rattle.bit_values.specs.Widths.{either_width}
 use Rattle.indus_tree.specs.Tree.{Expr, Exprs, num, flag, read, count, index, member, negation, inversion, binary, cast, Shape, one, list, set, dict, Decl}
 use Rattle.indus_tree.specs.declared.tree.Ty.{Ty}
@@ -92,9 +93,13 @@ truth_differs (Number w) = refl
 truth_differs Truth = refl
 truth_differs Unknown = refl
 
+nonzero : (w : ℕ) (b : Bool) → nat_eq (suc w) 0 ≡ b → b ≡ false
+nonzero w true e = absurd (let z : suc w ≡ 0 = eqb-true (suc w) 0 e in omega arith)
+nonzero w false e = refl
+
 open_step : (w : ℕ) (k want : Kind) → kinds_differ k (as_number want) ≡ false → either_width w (kind_width k) ≡ kind_width (as_number (cond (nat_eq w 0) k (Number w)))
 open_step zero k want h = sym (not_truth k want h)
-open_step (suc w) k want h = refl
+open_step (suc w) k want h = sym (ap (λ (b : Bool). kind_width (as_number (cond b k (Number (suc w))))) (nonzero w (nat_eq (suc w) 0) refl))
 
 join_width : (a b want want' : Kind) → kinds_differ a (as_number want) ≡ false → kinds_differ b (as_number want') ≡ false → either_width (kind_width a) (kind_width b) ≡ kind_width (as_number (join a b))
 join_width (Number w) b want want' h k = open_step w b want' k

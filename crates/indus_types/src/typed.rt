@@ -27,7 +27,6 @@ pub struct TypedProperty {
 }
 
 /// The property itself, exactly where it breaks no rule.
-#[tactic(auto, using(crate::proofs::Checked::no_fault, crate::proofs::Checked::a_fault))]
 pub fn check_property(alloc: Global, p: Property) -> Result<TypedProperty, TypeFault>
     ensures ok { IfOk result (λ t. property_of t.property ≡ property_of p) }
     ensures typed { IfOk result (λ _. IsWellTyped (property_of p)) }
@@ -40,7 +39,6 @@ pub fn check_property(alloc: Global, p: Property) -> Result<TypedProperty, TypeF
 }
 
 /// A property that breaks no rule, with the table of its names.
-#[tactic(auto, using(crate::proofs::NamesLemmas::typed_new))]
 fn with_names(alloc: Global, property: Property) -> Result<TypedProperty, AllocError>
     requires { IsWellTyped (property_of property) }
     ensures { IfOk result (λ t. property_of t.property ≡ property_of property) }
