@@ -1,0 +1,150 @@
+//! What an expression is, and what its place wants.
+
+ghost use Rattle.std.specs.Prelude.{◌≡◌};
+ghost use Rattle.indus_rules.specs.Kinds.{kind_of, is_open, join, as_number, kinds_differ, widths_differ, manner_of, left_want, right_want, binary_kind, width_in};
+
+use indus_tree::{Op, Ty};
+
+/// What an expression is, or what its place wants.
+#[derive(Clone, Copy, Debug, PartialEq, Eq)]
+pub enum Kind {
+    /// A number of so many bits; 0 where it has no width.
+    Number(u8),
+    Truth,
+    /// A missing name, or a place that takes either.
+    Unknown,
+}
+
+/// How an operator takes its operands.
+#[derive(Clone, Copy, Debug, PartialEq, Eq)]
+pub enum Manner {
+    /// Two numbers of one width, which the result has too.
+    Like,
+    /// A number, and one of any width.
+    Shift,
+    /// Two numbers of one width, or two truth values.
+    Same,
+    /// Two numbers of one width.
+    Order,
+    /// Two truth values.
+    Logic,
+}
+
+/// A value of a type.
+pub fn kind_of(t: Ty) -> Kind
+    ensures { result ≡ kind_of t }
+{
+    match t {
+        Ty::Bit(w) => Kind::Number(w),
+        Ty::Bool => Kind::Truth,
+    }
+}
+
+/// Whether it has no width, or is not known.
+pub fn is_open(k: Kind) -> bool
+    ensures { result ≡ is_open k }
+{
+    match k {
+        Kind::Number(w) => w == 0,
+        Kind::Truth => false,
+        Kind::Unknown => true,
+    }
+}
+
+/// The first, or the second where the first has no width.
+pub fn join(a: Kind, b: Kind) -> Kind
+    ensures { result ≡ join a b }
+{
+    if is_open(a) { b } else { a }
+}
+
+/// What is wanted where a number is.
+pub fn as_number(k: Kind) -> Kind
+    ensures { result ≡ as_number k }
+{
+    match k {
+        Kind::Number(w) => Kind::Number(w),
+        _ => Kind::Number(0),
+    }
+}
+
+/// The width of a number, or 0.
+pub fn width_in(k: Kind) -> u8
+    ensures { result ≡ width_in k }
+{
+    match k {
+        Kind::Number(w) => w,
+        _ => 0,
+    }
+}
+
+/// Whether one is a number and the other a truth value.
+pub fn kinds_differ(a: Kind, b: Kind) -> bool
+    ensures { result ≡ kinds_differ a b }
+{
+    match (a, b) {
+        (Kind::Number(_), Kind::Truth) => true,
+        (Kind::Truth, Kind::Number(_)) => true,
+        _ => false,
+    }
+}
+
+/// Whether both are numbers, of different widths.
+pub fn widths_differ(a: Kind, b: Kind) -> bool
+    ensures { result ≡ widths_differ a b }
+{
+    match (a, b) {
+        (Kind::Number(v), Kind::Number(w)) => v != 0 && w != 0 && v != w,
+        _ => false,
+    }
+}
+
+/// How an operator takes its operands.
+pub fn manner_of(op: Op) -> Manner
+    ensures { result ≡ manner_of op }
+{
+    match op {
+        Op::Mul | Op::Add | Op::Sub | Op::BitAnd | Op::BitXor | Op::BitOr => Manner::Like,
+        Op::Shl | Op::Shr => Manner::Shift,
+        Op::Less | Op::LessEq | Op::More | Op::MoreEq => Manner::Order,
+        Op::Equal | Op::Differ => Manner::Same,
+        Op::Both | Op::Either => Manner::Logic,
+    }
+}
+
+/// What an operator with such operands is.
+pub fn binary_kind(c: Manner, a: Kind, b: Kind) -> Kind
+    ensures { result ≡ binary_kind c a b }
+{
+    match c {
+        Manner::Like => as_number(join(a, b)),
+        Manner::Shift => as_number(a),
+        Manner::Same | Manner::Order | Manner::Logic => Kind::Truth,
+    }
+}
+
+/// What is wanted of a left operand.
+pub fn left_want(c: Manner, a: Kind, b: Kind, want: Kind) -> Kind
+    ensures { result ≡ left_want c a b want }
+{
+    match c {
+        Manner::Like => as_number(join(join(a, b), want)),
+        Manner::Shift => as_number(join(a, want)),
+        Manner::Same => join(a, b),
+        Manner::Order => as_number(join(a, b)),
+        Manner::Logic => Kind::Truth,
+    }
+}
+
+/// What is wanted of a right operand.
+pub fn right_want(c: Manner, a: Kind, b: Kind, want: Kind) -> Kind
+    ensures { result ≡ right_want c a b want }
+{
+    match c {
+        Manner::Like => as_number(join(join(a, b), want)),
+        Manner::Shift => as_number(join(b, Kind::Number(128))),
+        Manner::Same => join(a, b),
+        Manner::Order => as_number(join(a, b)),
+        Manner::Logic => Kind::Truth,
+    }
+}

@@ -1,0 +1,222 @@
+//! What a name stands for at a place.
+
+ghost use Rattle.std.specs.Prelude.{◌≡◌, map};
+ghost use Rattle.std.specs.Option.{option_map};
+ghost use Rattle.lex_text.specs.Names.{same_text};
+ghost use Rattle.indus_tree.specs.State.{lookup};
+ghost use Rattle.indus_tree.specs.View.{decl_of, expr_of, shape_of};
+ghost use Rattle.indus_rules.specs.Scopes.{item_in, item_of, builtin_of, role_of, stands, scope_of, loop_of, read_kind, index_kind, scalar_kind, element_kind, shape_item, list_item, own};
+
+use crate::kind::{Kind, as_number, binary_kind, kind_of, manner_of};
+use indus_tree::{Decl, DeclKind, Expr, Shape};
+use lex_text::Name;
+
+/// A block of a property.
+#[derive(Clone, Copy, Debug, PartialEq, Eq)]
+pub enum Block {
+    Init,
+    Tele,
+    Check,
+}
+
+/// A surrounding loop.
+#[derive(Clone, Copy)]
+pub struct Loop<'a> {
+    pub names: &'a [Name],
+    pub lists: &'a [Name],
+}
+
+/// What is in sight at a place, innermost loop first.
+#[derive(Drop)]
+pub struct Scope<'a> {
+    pub decls: &'a [Decl],
+    pub loops: Vec<Loop<'a>>,
+    pub block: Block,
+}
+
+/// What a name stands for.
+#[derive(Clone, Copy)]
+pub enum Role<'a> {
+    Missing,
+    Item(Kind),
+    Builtin(Kind),
+    Variable(&'a Decl),
+}
+
+/// Whether two names are the same.
+pub fn same(a: &Name, b: &Name) -> bool
+    ensures { result ≡ same_text a.now b.now }
+{
+    a.as_str() == b.as_str()
+}
+
+/// Whether a name has this text.
+pub fn is(name: &Name, text: &str) -> bool
+    ensures { result ≡ same_text name.now text.now }
+{
+    name.as_str() == text
+}
+
+/// The declaration of a name.
+pub fn find<'a>(decls: &'a [Decl], name: &Name) -> Option<&'a Decl>
+    ensures { option_map (λ d. decl_of d.now) result ≡ lookup (map decl_of decls.now) name.now }
+{
+    for d in decls {
+        if same(&d.name, name) {
+            return Some(d);
+        }
+    }
+    None
+}
+
+/// One item of a list.
+pub fn shape_item(s: &Shape) -> Kind
+    ensures { result ≡ shape_item (shape_of s.now) }
+{
+    match s {
+        Shape::List(t, _) => kind_of(*t),
+        _ => Kind::Unknown,
+    }
+}
+
+fn list_item(decls: &[Decl], list: &Name) -> Kind
+    ensures { result ≡ list_item (map decl_of decls.now) list.now }
+{
+    match find(decls, list) {
+        Some(d) => shape_item(&d.shape),
+        None => Kind::Unknown,
+    }
+}
+
+/// An item of a loop.
+fn item_in(decls: &[Decl], names: &[Name], lists: &[Name], name: &Name) -> Option<Kind>
+    ensures { result ≡ item_in (map decl_of decls.now) names.now lists.now name.now }
+{
+    match names {
+        [] => None,
+        [x, names @ ..] => match lists {
+            [] => {
+                if same(x, name) {
+                    Some(Kind::Unknown)
+                } else {
+                    item_in(decls, names, lists, name)
+                }
+            }
+            [l, lists @ ..] => {
+                if same(x, name) {
+                    Some(list_item(decls, l))
+                } else {
+                    item_in(decls, names, lists, name)
+                }
+            }
+        },
+    }
+}
+
+/// An item of one of the loops.
+fn item_of(decls: &[Decl], loops: &[Loop], name: &Name) -> Option<Kind>
+    ensures { result ≡ item_of (map decl_of decls.now) (map loop_of loops.now) name.now }
+{
+    match loops {
+        [] => None,
+        [l, loops @ ..] => match item_in(decls, l.names, l.lists, name) {
+            Some(k) => Some(k),
+            None => item_of(decls, loops, name),
+        },
+    }
+}
+
+/// A name of the language's own.
+pub fn builtin_of(name: &Name) -> Option<Kind>
+    ensures { result ≡ builtin_of name.now }
+{
+    if is(name, "first_hop") || is(name, "last_hop") {
+        Some(Kind::Truth)
+    } else if is(name, "switch_id") {
+        Some(Kind::Number(16))
+    } else {
+        None
+    }
+}
+
+impl<'a> Scope<'a> {
+    /// What a name stands for.
+    pub fn role(&self, name: &Name) -> Role<'a>
+        ensures { stands result ≡ role_of (scope_of self.now) name.now }
+    {
+        match item_of(self.decls, &self.loops, name) {
+            Some(k) => Role::Item(k),
+            None => match builtin_of(name) {
+                Some(k) => Role::Builtin(k),
+                None => match find(self.decls, name) {
+                    Some(d) => Role::Variable(d),
+                    None => Role::Missing,
+                },
+            },
+        }
+    }
+}
+
+fn scalar_kind(s: &Shape) -> Kind
+    ensures { result ≡ scalar_kind (shape_of s.now) }
+{
+    match s {
+        Shape::One(t) => kind_of(*t),
+        _ => Kind::Unknown,
+    }
+}
+
+fn element_kind(k: DeclKind, s: &Shape) -> Kind
+    ensures { result ≡ element_kind k (shape_of s.now) }
+{
+    match s {
+        Shape::List(t, _) => match k {
+            DeclKind::Sensor => kind_of(*t),
+            _ => Kind::Unknown,
+        },
+        Shape::DictOf(_, t) => kind_of(*t),
+        _ => Kind::Unknown,
+    }
+}
+
+/// What is read by the name alone.
+pub fn read_kind(r: &Role) -> Kind
+    ensures { result ≡ read_kind (stands r.now) }
+{
+    match r {
+        Role::Missing => Kind::Unknown,
+        Role::Item(k) => *k,
+        Role::Builtin(k) => *k,
+        Role::Variable(d) => scalar_kind(&d.shape),
+    }
+}
+
+/// What is read at a key.
+pub fn index_kind(r: &Role) -> Kind
+    ensures { result ≡ index_kind (stands r.now) }
+{
+    match r {
+        Role::Variable(d) => element_kind(d.kind, &d.shape),
+        _ => Kind::Unknown,
+    }
+}
+
+impl<'a> Scope<'a> {
+    /// What an expression is of its own.
+    pub fn own(&self, e: &Expr) -> Kind
+        ensures { result ≡ own (scope_of self.now) (expr_of e.now) }
+    {
+        match e {
+            Expr::Num(_, n) => Kind::Number(n.width),
+            Expr::Flag(_, _) => Kind::Truth,
+            Expr::Read(_, x) => read_kind(&self.role(x)),
+            Expr::Length(_, _) => Kind::Number(8),
+            Expr::Index(_, x, _) => index_kind(&self.role(x)),
+            Expr::Member(_, _, _) => Kind::Truth,
+            Expr::Not(_, _) => Kind::Truth,
+            Expr::Invert(_, a) => as_number(self.own(a)),
+            Expr::Bin(_, op, a, b) => binary_kind(manner_of(*op), self.own(a), self.own(b)),
+            Expr::Cast(_, w, _) => Kind::Number(*w),
+        }
+    }
+}

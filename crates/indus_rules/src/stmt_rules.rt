@@ -1,0 +1,212 @@
+//! The first rule that is broken at a statement, but for its parts.
+
+ghost use Rattle.std.specs.Prelude.{◌≡◌, map, nat_lt};
+ghost use Rattle.indus_tree.specs.View.{exprs_of, stmt_of};
+ghost use Rattle.indus_rules.specs.Scopes.{loop_of, scope_of};
+ghost use Rattle.indus_rules.specs.Sites.{at_stmt};
+ghost use Rattle.indus_rules.specs.Rules.{is_check, any_missing, sets_missing, paired, same_count, all_count, ill_set, sets_fixed, answers_early, among, walked, pushes_walked, repeats, names_again, count_all, tells_much, rule_at, stmt_place};
+
+use crate::rule::Rule;
+use crate::scope::{Block, Loop, Scope, same};
+use crate::uses::{counts, is_missing, may_index, reads, writable};
+use indus_tree::{Expr, Stmt};
+use lex_text::Name;
+
+fn is_check(b: Block) -> bool
+    ensures { result ≡ is_check b }
+{
+    match b {
+        Block::Check => true,
+        _ => false,
+    }
+}
+
+fn any_missing(scope: &Scope, lists: &[Name]) -> bool
+    ensures { result ≡ any_missing (scope_of scope.now) lists.now }
+{
+    match lists {
+        [] => false,
+        [x, lists @ ..] => is_missing(&scope.role(x)) || any_missing(scope, lists),
+    }
+}
+
+fn sets_missing(scope: &Scope, s: &Stmt) -> bool
+    ensures { result ≡ sets_missing (scope_of scope.now) (stmt_of s.now) }
+{
+    match s {
+        Stmt::Assign(_, x, _) => is_missing(&scope.role(x)),
+        Stmt::Cell(_, x, _, _) => is_missing(&scope.role(x)),
+        Stmt::Push(_, x, _) => is_missing(&scope.role(x)),
+        Stmt::For(_, _, lists, _) => any_missing(scope, lists),
+        _ => false,
+    }
+}
+
+fn all_count(scope: &Scope, lists: &[Name]) -> bool
+    ensures { result ≡ all_count (scope_of scope.now) lists.now }
+{
+    match lists {
+        [] => true,
+        [x, lists @ ..] => counts(&scope.role(x)) && all_count(scope, lists),
+    }
+}
+
+fn paired(names: &[Name], lists: &[Name]) -> bool
+    ensures { result ≡ paired names.now lists.now }
+{
+    match names {
+        [] => false,
+        [_n, names @ ..] => match lists {
+            [] => false,
+            [_l, lists @ ..] => same_count(names, lists),
+        },
+    }
+}
+
+fn same_count(names: &[Name], lists: &[Name]) -> bool
+    ensures { result ≡ same_count names.now lists.now }
+{
+    match names {
+        [] => match lists {
+            [] => true,
+            [_l, _lists @ ..] => false,
+        },
+        [_n, names @ ..] => match lists {
+            [] => false,
+            [_l, lists @ ..] => same_count(names, lists),
+        },
+    }
+}
+
+fn ill_set(scope: &Scope, s: &Stmt) -> bool
+    ensures { result ≡ ill_set (scope_of scope.now) (stmt_of s.now) }
+{
+    match s {
+        Stmt::Assign(_, x, _) => !reads(&scope.role(x)),
+        Stmt::Cell(_, x, _, _) => !may_index(&scope.role(x)),
+        Stmt::Push(_, x, _) => !counts(&scope.role(x)),
+        Stmt::For(_, names, lists, _) => !(paired(names, lists) && all_count(scope, lists)),
+        _ => false,
+    }
+}
+
+fn sets_fixed(scope: &Scope, s: &Stmt) -> bool
+    ensures { result ≡ sets_fixed (scope_of scope.now) (stmt_of s.now) }
+{
+    match s {
+        Stmt::Assign(_, x, _) => !writable(&scope.role(x)),
+        Stmt::Cell(_, x, _, _) => !writable(&scope.role(x)),
+        _ => false,
+    }
+}
+
+fn answers_early(scope: &Scope, s: &Stmt) -> bool
+    ensures { result ≡ answers_early (scope_of scope.now) (stmt_of s.now) }
+{
+    match s {
+        Stmt::Reject(_) => !is_check(scope.block),
+        Stmt::Report(_, _, _) => !is_check(scope.block),
+        _ => false,
+    }
+}
+
+fn among(names: &[Name], x: &Name) -> bool
+    ensures { result ≡ among names.now x.now }
+{
+    match names {
+        [] => false,
+        [y, names @ ..] => same(y, x) || among(names, x),
+    }
+}
+
+fn walked(loops: &[Loop], x: &Name) -> bool
+    ensures { result ≡ walked (map loop_of loops.now) x.now }
+{
+    match loops {
+        [] => false,
+        [l, loops @ ..] => among(l.lists, x) || walked(loops, x),
+    }
+}
+
+fn pushes_walked(scope: &Scope, s: &Stmt) -> bool
+    ensures { result ≡ pushes_walked (scope_of scope.now) (stmt_of s.now) }
+{
+    match s {
+        Stmt::Push(_, x, _) => walked(&scope.loops, x),
+        _ => false,
+    }
+}
+
+fn repeats(scope: &Scope, names: &[Name]) -> bool
+    ensures { result ≡ repeats (scope_of scope.now) names.now }
+{
+    match names {
+        [] => false,
+        [x, names @ ..] => {
+            !is_missing(&scope.role(x)) || among(names, x) || repeats(scope, names)
+        }
+    }
+}
+
+fn names_again(scope: &Scope, s: &Stmt) -> bool
+    ensures { result ≡ names_again (scope_of scope.now) (stmt_of s.now) }
+{
+    match s {
+        Stmt::For(_, names, _, _) => repeats(scope, names),
+        _ => false,
+    }
+}
+
+#[tactic(auto, using(crate::proofs::Counts::counted))]
+fn over_eight(values: &[Expr]) -> bool
+    ensures { result ≡ nat_lt 8 (count_all (exprs_of values.now)) }
+{
+    values.len() > 8
+}
+
+fn tells_much(s: &Stmt) -> bool
+    ensures { result ≡ tells_much (stmt_of s.now) }
+{
+    match s {
+        Stmt::Report(_, _, values) => over_eight(values),
+        _ => false,
+    }
+}
+
+/// The first rule that is broken at a statement.
+pub fn rule_of_stmt(scope: &Scope, s: &Stmt) -> Option<Rule>
+    ensures { result ≡ rule_at (at_stmt (scope_of scope.now) (stmt_of s.now)) }
+{
+    if names_again(scope, s) {
+        Some(Rule::NameTwice)
+    } else if sets_missing(scope, s) {
+        Some(Rule::NoSuchName)
+    } else if ill_set(scope, s) {
+        Some(Rule::KindDiffers)
+    } else if sets_fixed(scope, s) {
+        Some(Rule::NotWritable)
+    } else if answers_early(scope, s) {
+        Some(Rule::WrongBlock)
+    } else if pushes_walked(scope, s) {
+        Some(Rule::LoopListChanged)
+    } else if tells_much(s) {
+        Some(Rule::BadSize)
+    } else {
+        None
+    }
+}
+
+/// The number of a statement's first token.
+pub fn place_of_stmt(s: &Stmt) -> u32
+    ensures { result ≡ stmt_place (stmt_of s.now) }
+{
+    match s {
+        Stmt::Assign(at, _, _) => *at,
+        Stmt::Cell(at, _, _, _) => *at,
+        Stmt::Push(at, _, _) => *at,
+        Stmt::If(at, _, _, _) => *at,
+        Stmt::For(at, _, _, _) => *at,
+        Stmt::Reject(at) => *at,
+        Stmt::Report(at, _, _) => *at,
+    }
+}

@@ -1,0 +1,6 @@
+-- What callers rest on: the causes of a refusal, the sums, the declared names, and what well-typedness says of a tree.
+pub mod Faults
+pub mod Sums
+pub mod NameTable
+pub mod Facts
+pub mod Fits

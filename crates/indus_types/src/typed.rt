@@ -1,0 +1,96 @@
+//! A property that is well typed.
+
+ghost use Rattle.std.specs.Prelude.{◌≡◌, IfErr, IfOk};
+ghost use Rattle.indus_tree.specs.Hops.{number_of};
+ghost use Rattle.indus_tree.specs.View.{property_of};
+ghost use Rattle.indus_rules.specs.Rules.{IsWellTyped};
+ghost use Rattle.indus_types.specs.Faults.{HasCause};
+ghost use Rattle.indus_types.specs.NameTable.{names_of, texts};
+ghost use Rattle.indus_types.specs.Sums.{cut, cut_wide, property_bits, property_weight, nth_lookups, IsControl};
+
+use crate::fault::TypeFault;
+use crate::names::name_table;
+use crate::{bits, reads, weight};
+use indexmap::IndexSet;
+use indus_rules::first_fault;
+use indus_tree::Property;
+use std::alloc::{AllocError, Global};
+
+/// A property that breaks no rule.
+#[derive(Drop)]
+pub struct TypedProperty {
+    pub property: Property,
+    /// The declared names, in the order in which they are first seen.
+    pub names: IndexSet<String>,
+    pub ghost typed: { IsWellTyped (property_of property) },
+    pub ghost named: { texts names.keys ≡ names_of (property_of property).decls },
+}
+
+/// The property itself, exactly where it breaks no rule.
+pub fn check_property(alloc: Global, p: Property) -> Result<TypedProperty, TypeFault>
+    ensures ok { IfOk result (λ t. property_of t.property ≡ property_of p) }
+    ensures typed { IfOk result (λ _. IsWellTyped (property_of p)) }
+    ensures cause { IfErr result (HasCause (property_of p)) }
+{
+    match first_fault(alloc, &p)? {
+        Some((place, rule)) => Err(TypeFault::Type_ { place, rule }),
+        None => Ok(with_names(alloc, p)?),
+    }
+}
+
+/// A property that breaks no rule, with the table of its names.
+fn with_names(alloc: Global, property: Property) -> Result<TypedProperty, AllocError>
+    requires { IsWellTyped (property_of property) }
+    ensures { IfOk result (λ t. property_of t.property ≡ property_of property) }
+{
+    let names = name_table(alloc, &property.decls)?;
+    Ok(TypedProperty { property, names })
+}
+
+impl TypedProperty {
+    /// The property.
+    pub fn property(&self) -> &Property
+        ensures same { result.now ≡ self.now.property }
+        ensures typed { IsWellTyped (property_of result.now) }
+    {
+        &self.property
+    }
+
+    /// An equal property with the same places.
+    pub fn copy(&self, alloc: Global) -> Result<TypedProperty, AllocError>
+        ensures { IfOk result (λ t. property_of t.property ≡ property_of self.now.property) }
+    {
+        let property = self.property.copy(alloc)?;
+        with_names(alloc, property)
+    }
+
+    /// The place of a name among the declarations.
+    pub fn number(&self, name: &str) -> Option<usize>
+        ensures { result ≡ number_of (property_of self.now.property).decls name.now }
+    {
+        self.names.get_index_of(name)
+    }
+
+    /// The bits of the telemetry, cut at the greatest number.
+    pub fn tele_bits(&self) -> u64
+        ensures { result ≡ cut_wide (property_bits (property_of self.now.property)) }
+    {
+        bits::property_bits(&self.property)
+    }
+
+    /// The weight, cut at the greatest number.
+    pub fn weight(&self) -> u32
+        ensures { result ≡ cut (property_weight (property_of self.now.property)) }
+    {
+        weight::property_weight(&self.property)
+    }
+
+    /// How often the control variable at this place among the declarations is read, cut at the
+    /// greatest number.
+    pub fn lookups(&self, variable: u32) -> u32
+        requires { IsControl (property_of self.now.property) variable }
+        ensures { result ≡ cut (nth_lookups (property_of self.now.property) variable) }
+    {
+        reads::lookups(&self.property, variable)
+    }
+}
