@@ -1,0 +1,8 @@
+//! What holds of spelling. The functions do nothing: each is there for its clauses.
+
+ghost use Rattle.indus_spelling.specs.Rising.{PlacesRise};
+
+/// The places of a tree rise, and lie among the words that spell it.
+pub fn places()
+    ensures { PlacesRise }
+{}
