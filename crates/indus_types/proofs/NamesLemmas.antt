@@ -74,9 +74,9 @@ table_step ds i d ks new k lt is same fresh named n =
     let more : i + 1 ≡ suc i = omega arith in
     let rest : drop i ds ≡ d ∷ drop (i + 1) ds = drop-cons ds i d lt ∙ ap (λ (x : code.Decl). x ∷ drop (suc i) ds) (sym is) ∙ ap (λ (m : ℕ). d ∷ drop m ds) (sym more) in
     let front : map decl_of (take (i + 1) ds) ≡ map decl_of (take i ds) ++ decl_of d ∷ [] =
-        ap (λ (m : ℕ). map decl_of (take m ds)) more ∙ ap (map decl_of) (take-suc ds i d lt) ∙ ap (λ (x : code.Decl). map decl_of (take i ds ++ x ∷ [])) (sym is) ∙ map-append decl_of (take i ds) (d ∷ []) in
+    ap (λ (m : ℕ). map decl_of (take m ds)) more ∙ ap (map decl_of) (take-suc ds i d lt) ∙ ap (λ (x : code.Decl). map decl_of (take i ds ++ x ∷ [])) (sym is) ∙ map-append decl_of (take i ds) (d ∷ []) in
     let next : AreNew (map decl_of (take i ds)) (decl_of d ∷ map decl_of (drop (i + 1) ds)) =
-        let P : List code.Decl → Type 0 = λ xs. AreNew (map decl_of (take i ds)) (map decl_of xs) in subst P rest fresh in
+    let P : List code.Decl → Type 0 = λ xs. AreNew (map decl_of (take i ds)) (map decl_of xs) in subst P rest fresh in
     let Q : List Decl → Type 0 = λ xs. (texts new ≡ names_of xs) × AreNew xs (map decl_of (drop (i + 1) ds)) in
     subst Q (sym front) (one_more ks new k (map decl_of (take i ds)) (decl_of d) same named next.0 n, next.1)
 
