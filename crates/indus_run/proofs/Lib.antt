@@ -1,0 +1,4 @@
+pub mod SeatLemmas
+pub mod StartLemmas
+pub mod ReportLemmas
+pub mod NameLemmas
