@@ -2,3 +2,4 @@ pub mod SeatLemmas
 pub mod StartLemmas
 pub mod ReportLemmas
 pub mod NameLemmas
+pub mod RunLemmas

@@ -1,5 +1,5 @@
 -- The lists at the start are those that the meaning begins with.
-use Rattle.std.proofs.Common.{◌≡◌, ℕ, zero, suc, ◌+◌, ◌<◌, ◌≤◌, ◌-◌, List, [], ◌∷◌, length, map, slice_get, Bool, true, false, cond, Option, Some, None, refl, sym, ap, ◌∙◌, arith, subst}
+use Rattle.std.proofs.Common.{◌≡◌, ℕ, zero, suc, ◌+◌, ◌<◌, ◌≤◌, List, [], ◌∷◌, ◌++◌, length, map, slice_get, Bool, true, false, cond, Option, Some, None, refl, sym, ap, ◌∙◌, arith, subst}
 use Rattle.bit_values.specs.Bits.{Word}
 use Rattle.lex_text.specs.Names.{same_text}
 use Rattle.indus_tree.specs.Tree.{Decl}
@@ -76,6 +76,7 @@ tele_count = count Tele start_of_decl
 pub sensor_count : (ds : List Decl) (ls : List Cells) → map cells_of ls ≡ sensor_lists ds → length ls ≡ seats Sensor ds
 sensor_count = count Sensor sensor_of_decl
 
--- of so many cells the first is split off
-pub cells_step : (n i : ℕ) (w : Word) → i < n → cells (n - i) w ≡ w ∷ cells (n - (i + 1)) w
-cells_step n i w h = let e : n - i ≡ suc (n - (i + 1)) = omega arith in ap (λ k. cells k w) e
+-- so many cells, and one behind them
+pub cells_more : (n : ℕ) (w : Word) → cells n w ++ w ∷ [] ≡ cells (n + 1) w
+cells_more zero w = refl
+cells_more (suc n) w = ap (λ z. w ∷ z) (cells_more n w) ∙ ap (λ k. cells k w) (let e : suc (n + 1) ≡ suc n + 1 = omega arith in e)

@@ -98,7 +98,6 @@ pub fn cells<'a>(
 }
 
 /// What a control variable was set to.
-#[tactic(auto, using(crate::proofs::NameLemmas::take_decls))]
 pub fn contents<'a>(env: &Env<'a>, name: &Name) -> Option<&'a ControlValue>
     ensures { or_no_members (option_map (λ c. contents_of c.now) result) ≡ (hop_of env.now).contents name.now }
 {

@@ -45,7 +45,6 @@ impl SensorState {
     }
 }
 
-#[tactic(auto, using(crate::proofs::StartLemmas::cells_step))]
 fn copies(alloc: Global, n: u8, w: Bits) -> Result<Vec<Bits>, AllocError>
     ensures { IfOk result (λ v. v.items ≡ cells n w) }
 {
