@@ -195,8 +195,8 @@ fn hold(lists: &[Vec<Bits>], n: usize, want: &[(u8, u128)]) -> bool {
 }
 
 /// The report at a place has this number and these values.
-fn reports(result: &HopResult, n: usize, number: u16, want: &[(u8, u128)]) -> bool {
-    match result.reports.get(n) {
+fn reports(hop: &HopResult, n: usize, number: u16, want: &[(u8, u128)]) -> bool {
+    match hop.reports.get(n) {
         None => false,
         Some(r) => r.number == number && are(r.values.as_slice(), want),
     }
