@@ -23,10 +23,8 @@ fn entry_part(
     requires shaped { IsShaped (map decl_of p.now.decls.items) tele.old sensors.old }
     requires short { HasShortReports (property_of p.now) }
     ensures shaped { OnOk result (IsShaped (map decl_of p.now.decls.items) tele.new sensors.new) }
-    ensures does {
-        let ds = map decl_of p.now.decls.items in
-        OnOk result (doing_of ds tele.new sensors.new out.new ≡ entry_part (property_of p.now) (hop_in ds view.now view.now.entry.items) (doing_of ds tele.old sensors.old out.old))
-    }
+    ensures does { let ds = map decl_of p.now.decls.items in
+        OnOk result (doing_of ds tele.new sensors.new out.new ≡ entry_part (property_of p.now) (hop_in ds view.now view.now.entry.items) (doing_of ds tele.old sensors.old out.old)) }
 {
     if view.first {
         run_block(alloc, p, &p.init, view, &view.entry, tele, sensors, out)
@@ -47,10 +45,8 @@ fn exit_part(
     requires shaped { IsShaped (map decl_of p.now.decls.items) tele.old sensors.old }
     requires short { HasShortReports (property_of p.now) }
     ensures shaped { OnOk result (IsShaped (map decl_of p.now.decls.items) tele.new sensors.new) }
-    ensures does {
-        let ds = map decl_of p.now.decls.items in
-        OnOk result (doing_of ds tele.new sensors.new out.new ≡ exit_part (property_of p.now) (hop_in ds view.now values.now) (doing_of ds tele.old sensors.old out.old))
-    }
+    ensures does { let ds = map decl_of p.now.decls.items in
+        OnOk result (doing_of ds tele.new sensors.new out.new ≡ exit_part (property_of p.now) (hop_in ds view.now values.now) (doing_of ds tele.old sensors.old out.old)) }
 {
     run_block(alloc, p, &p.tele, view, values, tele, sensors, out)?;
     if view.last {
@@ -73,10 +69,8 @@ pub fn hop_step(
     requires shaped { IsShaped (map decl_of p.now.decls.items) tele.old sensors.old }
     requires short { HasShortReports (property_of p.now) }
     ensures shaped { IfOk result (λ _. IsShaped (map decl_of p.now.decls.items) tele.new sensors.new) }
-    ensures does {
-        let ds = map decl_of p.now.decls.items in
-        IfOk result (λ r. doing_of ds tele.new sensors.new r ≡ hop_run (property_of p.now) (hop_in ds view.now view.now.entry.items) (exit_hop ds view.now) (begun ds tele.old sensors.old))
-    }
+    ensures does { let ds = map decl_of p.now.decls.items in
+        IfOk result (λ r. doing_of ds tele.new sensors.new r ≡ hop_run (property_of p.now) (hop_in ds view.now view.now.entry.items) (exit_hop ds view.now) (begun ds tele.old sensors.old)) }
 {
     let mut out = HopResult {
         rejected: false,

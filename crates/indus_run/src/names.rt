@@ -80,12 +80,7 @@ fn number(decls: &[Decl], name: &Name) -> Option<usize>
 }
 
 /// The list of a variable of a kind.
-pub fn cells<'a>(
-    kind: DeclKind,
-    decls: &[Decl],
-    lists: &'a [Vec<Bits>],
-    name: &Name,
-) -> &'a [Bits]
+pub fn cells<'a>(kind: DeclKind, decls: &[Decl], lists: &'a [Vec<Bits>], name: &Name) -> &'a [Bits]
     ensures { result.now ≡ cells_in kind (map decl_of decls.now) lists.now name.now }
 {
     match seat(kind, decls, name) {

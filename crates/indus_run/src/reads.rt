@@ -228,7 +228,11 @@ fn at_key_by_kind(
     match kind {
         DeclKind::Tele => nothing(w),
         DeclKind::Sensor => {
-            cell_at(cells(DeclKind::Sensor, env.decls, &sensors.cells, name), key, w)
+            cell_at(
+                cells(DeclKind::Sensor, env.decls, &sensors.cells, name),
+                key,
+                w,
+            )
         }
         DeclKind::Header => nothing(w),
         DeclKind::Control => found_in(contents(env, name), key, w),

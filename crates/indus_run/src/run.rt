@@ -35,10 +35,8 @@ pub fn run_block(
     requires shaped { IsShaped (map decl_of p.now.decls.items) tele.old sensors.old }
     requires short { AreShort (block_of block.now) }
     ensures shaped { OnOk result (IsShaped (map decl_of p.now.decls.items) tele.new sensors.new) }
-    ensures does {
-        let ds = map decl_of p.now.decls.items in
-        OnOk result (doing_of ds tele.new sensors.new out.new ≡ run_of (hop_in ds view.now values.now) (block_of block.now) (doing_of ds tele.old sensors.old out.old))
-    }
+    ensures does { let ds = map decl_of p.now.decls.items in
+        OnOk result (doing_of ds tele.new sensors.new out.new ≡ run_of (hop_in ds view.now values.now) (block_of block.now) (doing_of ds tele.old sensors.old out.old)) }
 {
     let env = Env {
         decls: &p.decls,

@@ -20,10 +20,8 @@ impl TeleState {
     #[tactic(auto, using(crate::proofs::StartLemmas::tele_starts, crate::proofs::StartLemmas::tele_count))]
     pub fn start(alloc: Global, p: &Property) -> Result<TeleState, AllocError>
         ensures shaped { IfOk result (λ t. length t.items.items ≡ seats Tele (map decl_of p.now.decls.items)) }
-        ensures start {
-            let ds = map decl_of p.now.decls.items in
-            IfOk result (λ t. (x : List ℕ) → is_kind Tele (lookup ds x) ≡ true → cells_in Tele ds t.items.items x ≡ tele_start ds x)
-        }
+        ensures start { let ds = map decl_of p.now.decls.items in
+            IfOk result (λ t. (x : List ℕ) → is_kind Tele (lookup ds x) ≡ true → cells_in Tele ds t.items.items x ≡ tele_start ds x) }
     {
         let items = tele_lists(alloc, &p.decls)?;
         Ok(TeleState { items })
@@ -35,10 +33,8 @@ impl SensorState {
     #[tactic(auto, using(crate::proofs::StartLemmas::sensor_starts, crate::proofs::StartLemmas::sensor_count))]
     pub fn start(alloc: Global, p: &Property) -> Result<SensorState, AllocError>
         ensures shaped { IfOk result (λ s. length s.cells.items ≡ seats Sensor (map decl_of p.now.decls.items)) }
-        ensures start {
-            let ds = map decl_of p.now.decls.items in
-            IfOk result (λ s. (x : List ℕ) → is_kind Sensor (lookup ds x) ≡ true → cells_in Sensor ds s.cells.items x ≡ sensors_start ds x)
-        }
+        ensures start { let ds = map decl_of p.now.decls.items in
+            IfOk result (λ s. (x : List ℕ) → is_kind Sensor (lookup ds x) ≡ true → cells_in Sensor ds s.cells.items x ≡ sensors_start ds x) }
     {
         let cells = sensor_lists(alloc, &p.decls)?;
         Ok(SensorState { cells })

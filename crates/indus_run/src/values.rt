@@ -33,10 +33,8 @@ pub fn eval_expr(
     sensors: &SensorState,
     items: &[(Name, Bits)],
 ) -> Result<Bits, AllocError>
-    ensures {
-        let ds = map decl_of p.now.decls.items in
-        IfOk result (λ v. v ≡ value_of (seen_in (hop_in ds view.now values.now) items.now tele.now sensors.now) (expr_of e.now) width)
-    }
+    ensures { let ds = map decl_of p.now.decls.items in
+        IfOk result (λ v. v ≡ value_of (seen_in (hop_in ds view.now values.now) items.now tele.now sensors.now) (expr_of e.now) width) }
 {
     let env = Env {
         decls: &p.decls,
