@@ -1,0 +1,5 @@
+pub mod SeatLemmas
+pub mod StartLemmas
+pub mod ReportLemmas
+pub mod NameLemmas
+pub mod RunLemmas

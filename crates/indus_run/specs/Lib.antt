@@ -1,0 +1,6 @@
+-- What callers rest on: what the states, views and results of the program stand for.
+pub mod View
+pub mod Reports
+-- What serves the proof.
+pub mod Operands
+pub mod Lists
