@@ -3,7 +3,8 @@
 ghost use Rattle.std.specs.Prelude.{codes, ◌≡◌, ◌∷◌, [], map, slice_get, IfOk};
 ghost use Rattle.std.specs.Option.{option_map};
 ghost use Rattle.indus_tree.specs.State.{held_width, lookup, nothing_of};
-ghost use Rattle.indus_tree.specs.Reads.{at_key, at_key_by_kind, built_in_word, cell_at, first_width, found, found_in, has, has_by_kind, has_first, has_item, has_key, held_in, index_widths, item_in, member_widths, name_word, or_word, other_widths, same_words, scalar, single_word, variable_word, widths, widths_for, word_by_kind};
+ghost use Rattle.indus_tree.specs.Keys.{at_key, at_key_by_kind, cell_at, first_width, found, found_in, has, has_by_kind, has_first, has_item, has_key, held_in, index_widths, member_widths, other_widths, same_words, widths, widths_for};
+ghost use Rattle.indus_tree.specs.Reads.{built_in_word, item_in, name_word, or_word, scalar, single_word, variable_word, word_by_kind};
 ghost use Rattle.indus_tree.specs.Hops.{headers_in};
 ghost use Rattle.indus_tree.specs.View.{decl_of, shape_of};
 ghost use Rattle.indus_run.specs.View.{cells_of, contents_of, decls_of, entry_of, hop_of, or_no_members, seen_of};

@@ -2,7 +2,7 @@
 
 ghost use Rattle.std.specs.Prelude.{◌≡◌, ◌≤◌, ◌<◌, ◌++◌, ℕ, map, length, true, IfOk, OnOk, Some};
 ghost use Rattle.indus_tree.specs.State.{lookup, push_item, pushed, put, put_cell, set_cell};
-ghost use Rattle.indus_tree.specs.Reads.{has_item};
+ghost use Rattle.indus_tree.specs.Keys.{has_item};
 ghost use Rattle.indus_tree.specs.Meaning.{block_run, index_for, named, reported, run_of, run_turns, shortest, stmt_run, turn_items, turns_of, value_for};
 ghost use Rattle.indus_tree.specs.Value.{values_of};
 ghost use Rattle.indus_tree.specs.View.{block_of, decl_of, expr_of, exprs_of, stmt_of};

@@ -1,5 +1,5 @@
 use Rattle.std.proofs.Common.{◌≡◌, map, drop}
-use Rattle.indus_tree.specs.Reads.{found}
+use Rattle.indus_tree.specs.Keys.{found}
 use Rattle.indus_run.specs.View.{entry_of}
 use Rattle.indus_run.proofs.reads.found.Given as goal
 

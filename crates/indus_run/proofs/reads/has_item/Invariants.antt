@@ -1,5 +1,5 @@
 use Rattle.std.proofs.Common.{◌≡◌, drop}
-use Rattle.indus_tree.specs.Reads.{has_item}
+use Rattle.indus_tree.specs.Keys.{has_item}
 use Rattle.indus_run.proofs.reads.has_item.Given as goal
 
 abbrev pub invariant-loop-x : goal.invariant-loop-x

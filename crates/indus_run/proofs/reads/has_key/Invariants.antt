@@ -1,5 +1,5 @@
 use Rattle.std.proofs.Common.{◌≡◌, map, drop}
-use Rattle.indus_tree.specs.Reads.{has_key}
+use Rattle.indus_tree.specs.Keys.{has_key}
 use Rattle.indus_run.specs.View.{cells_of}
 use Rattle.indus_run.proofs.reads.has_key.Given as goal
 

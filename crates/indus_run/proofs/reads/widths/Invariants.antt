@@ -1,5 +1,5 @@
 use Rattle.std.proofs.Common.{◌≡◌, ◌++◌, drop}
-use Rattle.indus_tree.specs.Reads.{widths}
+use Rattle.indus_tree.specs.Keys.{widths}
 use Rattle.indus_run.proofs.reads.widths.Given as goal
 
 abbrev pub invariant-loop-ty : goal.invariant-loop-ty
