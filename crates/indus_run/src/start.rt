@@ -69,7 +69,7 @@ fn start_word(start: &Option<Expr>, w: u8) -> Bits
         None => nothing(w),
         Some(e) => match e {
             Expr::Num(_, n) => cut(sound_width(w), n.value),
-            Expr::Flag(_, value) => truth(*value),
+            Expr::Flag(_, value) => cut(sound_width(w), truth(*value).value),
             Expr::Read(_, _) => nothing(w),
             Expr::Length(_, _) => nothing(w),
             Expr::Index(_, _, _) => nothing(w),
