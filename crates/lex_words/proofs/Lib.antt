@@ -9,3 +9,4 @@ pub mod KindsSeen
 pub mod Standing
 pub mod Locality
 pub mod Loops
+pub mod Spelled

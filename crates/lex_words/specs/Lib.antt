@@ -5,3 +5,4 @@ pub mod Written
 pub mod Laws
 -- What readers are made of.
 pub mod Reading
+pub mod Brackets
