@@ -1,0 +1,18 @@
+-- The pure readers' equations, and the turns of the code's loops.
+pub mod Layers
+pub mod Named
+pub mod Turns
+-- What is read rests on the words up to its end.
+pub mod Heads
+pub mod Locality
+-- What is spelled is read.
+pub mod Behind
+pub mod Balanced
+pub mod CompleteSteps
+pub mod Complete
+-- What is read is spelled so, and what was read up to a fault begins an expression.
+pub mod SoundSteps
+pub mod SoundLists
+pub mod SoundJoins
+pub mod SoundOperands
+pub mod Sound

@@ -1,0 +1,2 @@
+-- Reading expressions.
+pub mod Reading
