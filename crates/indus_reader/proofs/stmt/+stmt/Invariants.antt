@@ -1,0 +1,46 @@
+use Rattle.std.proofs.Common.{◌≡◌, ℕ, ◌+◌, ◌-◌, ◌*◌, ◌≤◌, length, map}
+use Rattle.lex_text.specs.declared.token.Words.TheVariants.{Indus}
+use Rattle.lex_words.specs.Seen.{words_of}
+use Rattle.lex_words.proofs.Loops.{Front}
+use Rattle.indus_tree.specs.Tree.{block_from}
+use Rattle.indus_tree.specs.View.{stmt_of}
+use Rattle.indus_spelling.specs.Properties.{block_reports}
+use Rattle.indus_reader.specs.Reading.{many_at, stmt_at}
+use Rattle.indus_reader.proofs.stmt.+stmt.Given as goal
+
+abbrev pub decreases-ifs : goal.decreases-ifs
+decreases-ifs l = l.height * 10
+
+abbrev pub decreases-statement : goal.decreases-statement
+decreases-statement l = l.height * 10 + 1
+
+abbrev pub decreases-statements : goal.decreases-statements
+decreases-statements l = l.height * 10 + 2
+
+abbrev pub decreases-block : goal.decreases-block
+decreases-block l = l.height * 10 + 3
+
+abbrev pub decreases-walk : goal.decreases-walk
+decreases-walk l = l.height * 10 + 4
+
+abbrev pub decreases-else_part : goal.decreases-else_part
+decreases-else_part l = l.height * 10 + 4
+
+abbrev pub decreases-choice : goal.decreases-choice
+decreases-choice l = l.height * 10 + 5
+
+abbrev pub invariant-statements-items : goal.invariant-statements-items
+invariant-statements-items l =
+    let ws = words_of Indus l.text l.list in
+    let n = length l.list + 1 in
+    let s = stmt_at ws n 256 l.height in
+    record {
+      goes_on : (k : ℕ) × (n ≤ k + l.next) × (many_at ws n 256 s n l.reports l.at ≡ Front (map stmt_of l.stmts.items) (many_at ws n 256 s k l.number l.next));
+      inside : l.next ≤ length l.list;
+      behind : l.at ≤ l.next;
+      counted : l.number ≡ l.reports + block_reports (block_from (map stmt_of l.stmts.items));
+      few : l.number ≤ l.next;
+    }
+
+abbrev pub decreases-statements-items : goal.decreases-statements-items
+decreases-statements-items l = length l.list + 1 - l.next

@@ -1,0 +1,73 @@
+//! Reading a whole text.
+
+ghost use Rattle.std.specs.Prelude.{◌≡◌, ◌+◌, ◌≤◌, length, IfOk, IfErr};
+ghost use Rattle.lex_text.specs.Tokens.{FaultOf};
+ghost use Rattle.lex_text.specs.declared.fault.LexFault.{LexFault as Fault};
+ghost use Rattle.lex_text.specs.Places.{AreIn};
+ghost use Rattle.lex_text.specs.declared.token.Words.TheVariants.{Indus};
+ghost use Rattle.lex_words.specs.Seen.{words_of};
+ghost use Rattle.lex_words.specs.Written.{AreWords};
+ghost use Rattle.lex_words.specs.Reading.{Gives};
+ghost use Rattle.indus_tree.specs.Tree.{Property as Tree};
+ghost use Rattle.indus_tree.specs.View.{property_of};
+ghost use Rattle.indus_reader.specs.Faults.{HasCause, IsAnswer, IsProperty, IsRefusal};
+ghost use Rattle.indus_reader.specs.Reading.{property_at};
+
+use crate::decl::declarations;
+use crate::fault::PropertyFault;
+use crate::stmt::block;
+use indus_tree::Property;
+use lex_text::{LexFault, Token, Words, tokens};
+use lex_words::Halt;
+use std::alloc::Global;
+
+/// The property that all tokens spell.
+#[tactic(auto, unfolding(crate::specs::Reading::property_at, crate::specs::Reading::whole_at))]
+fn property(alloc: Global, text: &[u8], list: &[Token]) -> Result<Property, Halt>
+    requires fits { AreIn text.now list.now }
+    requires fair { AreWords Indus (words_of Indus text.now list.now) }
+    requires short { length list.now ≤ 65536 }
+    ensures { Gives property_of result (property_at (words_of Indus text.now list.now) (length list.now + 1) 256 255) }
+{
+    let (decls, next) = declarations(alloc, text, list)?;
+    let init = block(alloc, text, list, next, 255, 0)?;
+    let tele = block(alloc, text, list, init.next, 255, init.reports)?;
+    let check = block(alloc, text, list, tele.next, 255, tele.reports)?;
+    if check.next < list.len() {
+        return Err(Halt::Wrong(check.next));
+    }
+    Ok(Property {
+        at: 0,
+        edition: 1,
+        decls,
+        init: init.stmts,
+        tele: tele.stmts,
+        check: check.stmts,
+    })
+}
+
+/// The property that a text spells.
+pub fn read_property(alloc: Global, text: &[u8]) -> Result<Property, PropertyFault>
+    requires { length text.now ≤ 65536 }
+    // What is given is spelled by the text, within the limits.
+    ensures found { IfOk result (λ p. IsProperty text.now (property_of p)) }
+    // A text that spells a property within the limits is refused for want of memory alone.
+    ensures only { (t : Tree) → IsProperty text.now t → IsAnswer result t }
+    // A text that has no tokens is refused for its first fault, or for want of memory.
+    ensures lexed { (f : Fault) → FaultOf Indus text.now f → IsRefusal result f }
+    // Each refusal has its cause in the text.
+    ensures cause { IfErr result (λ fault. HasCause text.now fault) }
+{
+    let list = match tokens(alloc, text, Words::Indus) {
+        Ok(list) => list,
+        Err(LexFault::NoMemory) => return Err(PropertyFault::NoMemory),
+        Err(fault) => return Err(PropertyFault::Lex(fault)),
+    };
+    match property(alloc, text, &list) {
+        Ok(found) => Ok(found),
+        Err(Halt::Wrong(at)) => Err(PropertyFault::Syntax { at: at as u32 }),
+        Err(Halt::High(at)) => Err(PropertyFault::TooDeep { at: at as u32 }),
+        Err(Halt::Deep(at)) => Err(PropertyFault::TooDeep { at: at as u32 }),
+        Err(Halt::NoMemory) => Err(PropertyFault::NoMemory),
+    }
+}
