@@ -1,5 +1,5 @@
 -- How many expressions a list has.
-use Rattle.std.proofs.Common.{◌≡◌, ℕ, ◌+◌, length, map, List, [], ◌∷◌, refl, arith}
+use Rattle.std.proofs.Common.{◌≡◌, length, map, List, [], ◌∷◌, refl, arith}
 use Rattle.indus_tree.specs.Tree.{exprs_from}
 use Rattle.indus_tree.specs.View.{expr_of}
 use Rattle.indus_tree.specs.declared.tree.Expr.{Expr}

@@ -1,16 +1,15 @@
 -- Variables of each kind, and rows on them: the first rule that a statement or a declaration breaks, with its place.
 -- The rows give places as they are counted from the first token of the statement, or of the declaration.
 use Rattle.std.specs.Prelude.{codes, ℕ, List, [], ◌∷◌, Bool, true, false, Option, Some, None}
-use Rattle.indus_tree.specs.Tree.{Shape, one, list, set, dict, Expr, Exprs, num, flag, read, exprs_from, Stmt, assign, binary, block_from, Decl, Property}
+use Rattle.indus_tree.specs.Tree.{Shape, one, list, set, dict, Expr, Exprs, num, read, exprs_from, Stmt, assign, binary, block_from, Decl, Property}
 use Rattle.indus_tree.specs.declared.tree.DeclKind.{DeclKind}
 use Rattle.indus_tree.specs.declared.tree.DeclKind.TheVariants.{Tele, Sensor, Header, Control}
 use Rattle.indus_tree.specs.declared.tree.Op.{Op}
-use Rattle.indus_tree.specs.declared.tree.Op.TheVariants as op
 use Rattle.indus_tree.specs.declared.tree.Ty.TheVariants.{Bit, Bool as Truth}
 use Rattle.indus_rules.specs.Sites.{decl_sites, block_sites, property_sites}
 use Rattle.indus_rules.specs.Rules.{first}
 use Rattle.indus_rules.specs.declared.rule.Rule.{Rule}
-use Rattle.indus_rules.specs.declared.scope.Block.{Block}
+use Rattle.indus_scopes.specs.declared.scope.Block.{Block}
 
 -- a number without a written width, and one with
 abbrev pub bare : (place value : ℕ) → Expr
@@ -53,10 +52,13 @@ first_in b ss = first (block_sites (record { decls = variables; loops = []; bloc
 abbrev pub first_of : List Decl → Option (ℕ × Rule)
 first_of ds = first (decl_sites variables ds)
 
--- the first rule that a property breaks
+-- a property of these declarations and statements
+abbrev pub property_from : List Decl → (init tele check : List Stmt) → Property
+property_from ds init tele check = record { place = 0; edition = 1; decls = ds; init = block_from init; tele = block_from tele; check = block_from check }
+
+-- the first rule that it breaks
 abbrev pub first_rule_of : List Decl → (init tele check : List Stmt) → Option (ℕ × Rule)
-first_rule_of ds init tele check =
-    first (property_sites (record { place = 0; edition = 1; decls = ds; init = block_from init; tele = block_from tele; check = block_from check }))
+first_rule_of ds init tele check = first (property_sites (property_from ds init tele check))
 
 -- a rule is broken at a place
 abbrev pub at : ℕ → Rule → Option (ℕ × Rule)

@@ -10,13 +10,13 @@ use Rattle.indus_tree.specs.declared.tree.Ty.{Ty}
 use Rattle.indus_tree.specs.declared.tree.Ty.TheVariants as ty
 use Rattle.indus_tree.specs.declared.tree.DeclKind.{DeclKind}
 use Rattle.indus_tree.specs.declared.tree.DeclKind.TheVariants.{Tele, Sensor, Header, Control}
-use Rattle.indus_rules.specs.Kinds.{kinds_differ, widths_differ, width_in}
-use Rattle.indus_rules.specs.Scopes.{Sight, Around, role_of, builtin_of, own}
+use Rattle.indus_scopes.specs.Kinds.{kinds_differ, widths_differ, width_in}
+use Rattle.indus_scopes.specs.Scopes.{Sight, Around, role_of, builtin_of, own}
 use Rattle.indus_rules.specs.Sites.{Site, at_expr, at_stmt, at_decl, property_sites}
-use Rattle.indus_rules.specs.Uses.{is_missing, is_hop, reads, counts, indexed, may_hold, may_index, writable}
-use Rattle.indus_rules.specs.declared.kind.Kind.{Kind}
-use Rattle.indus_rules.specs.declared.scope.Block.{Block}
-use Rattle.indus_rules.specs.declared.scope.Block.TheVariants as block
+use Rattle.indus_scopes.specs.Uses.{is_missing, is_hop, reads, counts, indexed, may_hold, may_index, writable}
+use Rattle.indus_scopes.specs.declared.kind.Kind.{Kind}
+use Rattle.indus_scopes.specs.declared.scope.Block.{Block}
+use Rattle.indus_scopes.specs.declared.scope.Block.TheVariants as block
 use Rattle.indus_rules.specs.declared.rule.Rule.{Rule}
 use Rattle.indus_rules.specs.declared.rule.Rule.TheVariants.{NameTwice, NoSuchName, WidthDiffers, KindDiffers, NotWritable, WrongBlock, LoopListChanged, BadSize}
 

@@ -4,12 +4,12 @@ use Rattle.std.specs.Prelude.{ℕ, List, [], ◌∷◌, ◌++◌, Option, Some, 
 use Rattle.rule_sites.specs.Sites.{Sites, nowhere, here, both}
 use Rattle.indus_tree.specs.Tree.{Expr, Exprs, none, more, num, flag, read, count, index, member, negation, inversion, binary, cast, Stmt, Stmts, done, next, assign, cell, push, choice, loop, reject, report, Shape, one, list, set, dict, Decl, Property}
 use Rattle.indus_tree.specs.declared.tree.Ty.{Ty}
-use Rattle.indus_rules.specs.Kinds.{kind_of, as_number, join, manner_of, left_want, right_want}
-use Rattle.indus_rules.specs.Scopes.{Sight, Stands, variable, shape_item, role_of, read_kind, index_kind, own}
-use Rattle.indus_rules.specs.declared.kind.Kind.{Kind}
-use Rattle.indus_rules.specs.declared.kind.Kind.TheVariants.{Number, Truth, Unknown}
-use Rattle.indus_rules.specs.declared.scope.Block.{Block}
-use Rattle.indus_rules.specs.declared.scope.Block.TheVariants as block
+use Rattle.indus_scopes.specs.Kinds.{kind_of, as_number, join, manner_of, left_want, right_want}
+use Rattle.indus_scopes.specs.Scopes.{Sight, Stands, variable, shape_item, role_of, read_kind, index_kind, own}
+use Rattle.indus_scopes.specs.declared.kind.Kind.{Kind}
+use Rattle.indus_scopes.specs.declared.kind.Kind.TheVariants.{Number, Truth, Unknown}
+use Rattle.indus_scopes.specs.declared.scope.Block.{Block}
+use Rattle.indus_scopes.specs.declared.scope.Block.TheVariants as block
 use Rattle.indus_rules.specs.declared.check.Wants as code_wants
 use Rattle.indus_rules.specs.declared.check.Wants.TheVariants.{AnyWidth, Keys, Each, Free}
 

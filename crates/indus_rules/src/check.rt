@@ -2,15 +2,15 @@
 
 ghost use Rattle.std.specs.Prelude.{◌≡◌, IfOk};
 ghost use Rattle.indus_tree.specs.View.{block_of, expr_of, exprs_of, shape_of, stmt_of};
-ghost use Rattle.indus_rules.specs.Scopes.{stands, scope_of};
+ghost use Rattle.indus_scopes.specs.Scopes.{stands, scope_of};
 ghost use Rattle.indus_rules.specs.Sites.{wants_of, head_want, tail_wants, index_wants, member_wants, push_want, shape_index_wants, shape_member_wants, expr_sites, all_sites, within, stmt_sites, block_sites};
 ghost use Rattle.indus_rules.specs.Rules.{first};
 
 use crate::expr_rules::{place_of_expr, rule_of_expr};
-use crate::kind::{Kind, as_number, join, kind_of, left_want, manner_of, right_want};
 use crate::rule::Rule;
-use crate::scope::{Loop, Role, Scope, index_kind, read_kind, shape_item};
 use crate::stmt_rules::{place_of_stmt, rule_of_stmt};
+use indus_scopes::kind::{Kind, as_number, join, kind_of, left_want, manner_of, right_want};
+use indus_scopes::scope::{Loop, Role, Scope, index_kind, read_kind, shape_item};
 use indus_tree::{Expr, Shape, Stmt, Ty};
 use lex_text::Name;
 use std::alloc::{AllocError, Global};

@@ -8,7 +8,7 @@ ghost use Rattle.indus_rules.specs.Rules.{rule_at, declared_twice, bad_width, ba
 
 use crate::expr_rules::bad_bits;
 use crate::rule::Rule;
-use crate::scope::{builtin_of, find, is};
+use indus_scopes::scope::{builtin_of, find, is};
 use indus_tree::{Decl, DeclKind, Expr, Shape, Ty};
 use lex_text::Name;
 

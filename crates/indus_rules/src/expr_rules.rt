@@ -2,14 +2,14 @@
 
 ghost use Rattle.std.specs.Prelude.{◌≡◌};
 ghost use Rattle.indus_tree.specs.View.{expr_of};
-ghost use Rattle.indus_rules.specs.Scopes.{scope_of};
+ghost use Rattle.indus_scopes.specs.Scopes.{scope_of};
 ghost use Rattle.indus_rules.specs.Sites.{at_expr};
 ghost use Rattle.indus_rules.specs.Rules.{is_init, number_width, too_wide, bad_bits, cites_missing, ill_used, hop_in_init, ill_sized, rule_at, expr_place};
 
-use crate::kind::{Kind, kinds_differ, width_in, widths_differ};
 use crate::rule::Rule;
-use crate::scope::{Block, Scope};
-use crate::uses::{counts, indexed, is_hop, is_missing, may_hold, reads};
+use indus_scopes::kind::{Kind, kinds_differ, width_in, widths_differ};
+use indus_scopes::scope::{Block, Scope};
+use indus_scopes::uses::{counts, indexed, is_hop, is_missing, may_hold, reads};
 use indus_tree::Expr;
 use lex_text::Literal;
 

@@ -8,9 +8,9 @@ ghost use Rattle.indus_rules.specs.Rules.{first};
 
 use crate::check::{check_block, check_expr};
 use crate::decl_rules::rule_of_decl;
-use crate::kind::{Kind, kind_of};
 use crate::rule::Rule;
-use crate::scope::{Block, Scope};
+use indus_scopes::kind::{Kind, kind_of};
+use indus_scopes::scope::{Block, Scope};
 use indus_tree::{Decl, Expr, Property, Shape, Stmt};
 use std::alloc::{AllocError, Global};
 

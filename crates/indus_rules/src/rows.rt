@@ -6,7 +6,7 @@ ghost use Rattle.indus_tree.specs.Tree.{one, list, set, dict, none, flag, count,
 ghost use Rattle.indus_tree.specs.declared.tree.DeclKind.TheVariants.{Tele, Sensor, Control};
 ghost use Rattle.indus_tree.specs.declared.tree.Op.TheVariants as op;
 ghost use Rattle.indus_tree.specs.declared.tree.Ty.TheVariants.{Bit, Bool as Truth};
-ghost use Rattle.indus_rules.specs.declared.scope.Block.TheVariants as block;
+ghost use Rattle.indus_scopes.specs.declared.scope.Block.TheVariants as block;
 ghost use Rattle.indus_rules.specs.declared.rule.Rule.TheVariants.{NameTwice, NoSuchName, WidthDiffers, KindDiffers, NotWritable, WrongBlock, LoopListChanged, BadSize};
 ghost use Rattle.indus_rules.specs.Examples.{bare, wide, these, declared, started, header, variables, first_in, first_of, first_rule_of, at, fine, name, sets_n, sets_t};
 
@@ -236,7 +236,7 @@ fn lists_sets_and_dicts_for_scalars()
     ensures reported { first_in block.Check (report 0 0 (these (name 2 (codes "l") ∷ [])) ∷ []) ≡ at 2 KindDiffers }
     // `l = 1;`
     ensures set_l { first_in block.Tele (assign 0 (codes "l") (bare 2 1) ∷ []) ≡ at 0 KindDiffers }
-    // A = 1;.
+    // `a = 1;`
     ensures set_a { first_in block.Tele (assign 0 (codes "a") (bare 2 1) ∷ []) ≡ at 0 KindDiffers }
     // `e = 1;`
     ensures set_e { first_in block.Tele (assign 0 (codes "e") (bare 2 1) ∷ []) ≡ at 0 KindDiffers }

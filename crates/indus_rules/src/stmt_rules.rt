@@ -2,13 +2,13 @@
 
 ghost use Rattle.std.specs.Prelude.{◌≡◌, map, nat_lt};
 ghost use Rattle.indus_tree.specs.View.{exprs_of, stmt_of};
-ghost use Rattle.indus_rules.specs.Scopes.{loop_of, scope_of};
+ghost use Rattle.indus_scopes.specs.Scopes.{loop_of, scope_of};
 ghost use Rattle.indus_rules.specs.Sites.{at_stmt};
 ghost use Rattle.indus_rules.specs.Rules.{is_check, any_missing, sets_missing, paired, same_count, all_count, ill_set, sets_fixed, answers_early, among, walked, pushes_walked, repeats, names_again, count_all, tells_much, rule_at, stmt_place};
 
 use crate::rule::Rule;
-use crate::scope::{Block, Loop, Scope, same};
-use crate::uses::{counts, is_missing, may_index, reads, writable};
+use indus_scopes::scope::{Block, Loop, Scope, same};
+use indus_scopes::uses::{counts, is_missing, may_index, reads, writable};
 use indus_tree::{Expr, Stmt};
 use lex_text::Name;
 

@@ -1,14 +1,13 @@
 -- A fine expression agrees with its place.
-use Rattle.std.proofs.Common.{◌≡◌, ℕ, List, Bool, true, false, Option, Some, None, IsSome, ◌⊎◌, inl, inr, refl}
+use Rattle.std.proofs.Common.{◌≡◌, true, false, Option, Some, None, IsSome, ◌⊎◌, inl, inr, refl}
 use Rattle.indus_tree.specs.Tree.{Expr, num, flag, read, count, index, member, negation, inversion, binary, cast, Decl}
 use Rattle.indus_tree.specs.State.{lookup}
-use Rattle.indus_rules.specs.Scopes.{Sight, role_from, item_of, builtin_of}
-use Rattle.indus_rules.specs.Uses.{is_missing}
-use Rattle.indus_rules.specs.Sites.{expr_sites}
-use Rattle.indus_rules.specs.Rules.{Fine, cites_missing}
+use Rattle.indus_scopes.specs.Scopes.{Sight, role_from, item_of, builtin_of}
+use Rattle.indus_scopes.specs.Uses.{is_missing}
+use Rattle.indus_rules.specs.Rules.{cites_missing}
 use Rattle.indus_rules.specs.declared.rule.Rule.TheVariants.{NoSuchName, WidthDiffers}
-use Rattle.indus_rules.specs.declared.kind.Kind.{Kind}
-use Rattle.indus_types.specs.Facts.{IsKnown, CitesKnown, Agrees, FineAgrees}
+use Rattle.indus_scopes.specs.declared.kind.Kind.{Kind}
+use Rattle.indus_types.specs.Facts.{CitesKnown, FineAgrees}
 use Rattle.indus_types.proofs.Widths.{head_fine, kind_fine}
 
 known_step : (i b : Option Kind) (d : Option Decl) → is_missing (role_from i b d) ≡ false → IsSome i ⊎ IsSome b ⊎ IsSome d

@@ -1,5 +1,5 @@
 -- What the first broken rule says of a property.
-use Rattle.std.proofs.Common.{◌≡◌, ℕ, Option, Some, None, refl, inl, inr}
+use Rattle.std.proofs.Common.{◌≡◌, ℕ, Some, None, refl, inl, inr}
 use Rattle.rule_sites.proofs.FirstBroken.{In, sound, complete, all_fine}
 use Rattle.indus_tree.specs.Tree.{Property}
 use Rattle.indus_rules.specs.Sites.{Site, property_sites}

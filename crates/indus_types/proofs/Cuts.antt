@@ -1,5 +1,5 @@
 -- Products of cut sums.
-use Rattle.std.proofs.Common.{◌≡◌, ℕ, zero, suc, ◌+◌, ◌*◌, ◌≤◌, ◌<◌, min, arith, refl, sym, ap, ◌∙◌, ◌⊎◌, inl, inr, Bool, true, false, nat_lt, mul-le-mul_right, mul-le-mul_left, mul-le-mul, mul_comm, mul-zero}
+use Rattle.std.proofs.Common.{◌≡◌, ℕ, zero, suc, ◌+◌, ◌*◌, ◌≤◌, ◌<◌, arith, refl, sym, ap, ◌∙◌, ◌⊎◌, inl, inr, Bool, true, false, nat_lt, mul-le-mul_right, mul-le-mul_left, mul-le-mul, mul_comm, mul-zero}
 use borrow.Author.Tests.{ltb-true, ltb-false}
 use Rattle.indus_types.specs.Sums.{cut}
 

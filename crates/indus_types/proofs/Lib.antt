@@ -4,3 +4,9 @@ pub mod Widths
 pub mod Agreement
 pub mod NamesLemmas
 pub mod Places
+pub mod ShortReports
+pub mod SoundSights
+pub mod StaticWidthsLemmas
+pub mod SeenWidths
+pub mod ValueWidths
+pub mod Served

@@ -1,5 +1,5 @@
 -- A table of names beside the list of declarations.
-use Rattle.std.proofs.Common.{◌≡◌, ℕ, zero, suc, ◌+◌, Bool, true, false, cond, not, ◌||◌, List, [], ◌∷◌, ◌++◌, map, length, Option, Some, None, String, Global, string_bytes, nat_lt, ◌<◌, ◌≤◌, refl, sym, ap, ◌∙◌, subst, get_or, take, drop, drop-cons, arith}
+use Rattle.std.proofs.Common.{◌≡◌, ℕ, suc, ◌+◌, Bool, true, false, cond, not, ◌||◌, List, [], ◌∷◌, ◌++◌, map, length, Option, Some, None, String, Global, string_bytes, nat_lt, ◌<◌, ◌≤◌, refl, sym, ap, ◌∙◌, subst, get_or, take, drop, drop-cons, arith}
 use Rattle.std.proofs.Math.Seq.{take-suc}
 use Rattle.std.proofs.lemmas.List.{map-append}
 use Rattle.std.proofs.lemmas.Bool.{lt-ltb, le-ltb, ltb-true, ltb-false}
@@ -12,7 +12,7 @@ use Rattle.indus_tree.specs.State.{lookup}
 use Rattle.indus_tree.specs.View.{decl_of}
 use Rattle.indus_tree.specs.declared.tree.Decl as code
 use Rattle.indus_tree.specs.Hops.{number_from, number_of}
-use Rattle.indus_rules.specs.Scopes.{builtin_of}
+use Rattle.indus_scopes.specs.Scopes.{builtin_of}
 use Rattle.indus_rules.specs.Sites.{decl_sites}
 use Rattle.indus_rules.specs.Rules.{Fine, is_some, IsWellTyped}
 use Rattle.indus_rules.specs.declared.rule.Rule.TheVariants.{NameTwice}

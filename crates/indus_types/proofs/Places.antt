@@ -1,5 +1,5 @@
 -- The declaration at a place.
-use Rattle.std.proofs.Common.{◌≡◌, ℕ, List, map, slice_get, Option}
+use Rattle.std.proofs.Common.{◌≡◌, ℕ, List, map, slice_get}
 use Rattle.std.specs.Option.{option_map}
 use Rattle.std.proofs.lemmas.Option.{slice_get-map}
 use Rattle.indus_tree.specs.View.{decl_of}

@@ -1,5 +1,5 @@
 -- The widths that the meaning finds are those of the rules, by induction on the expression.
-use Rattle.std.proofs.Common.{◌≡◌, ℕ, zero, suc, List, [], ◌∷◌, Bool, true, false, cond, not, ◌||◌, Option, Some, None, refl, sym, ap, ◌∙◌, nat_eq, arith}
+use Rattle.std.proofs.Common.{◌≡◌, ℕ, zero, suc, Bool, true, false, cond, not, ◌||◌, Option, Some, None, refl, sym, ap, ◌∙◌, nat_eq, arith}
 use borrow.Author.Tests.{eqb-true}
 use Rattle.bit_values.specs.Widths.{either_width}
 use Rattle.indus_tree.specs.Tree.{Expr, Exprs, num, flag, read, count, index, member, negation, inversion, binary, cast, Shape, one, list, set, dict, Decl}
@@ -11,20 +11,19 @@ use Rattle.indus_tree.specs.declared.tree.DeclKind.{DeclKind}
 use Rattle.indus_tree.specs.declared.tree.DeclKind.TheVariants.{Tele, Sensor, Header, Control}
 use Rattle.indus_tree.specs.State.{lookup, width_of, shape_width, held_width}
 use Rattle.indus_tree.specs.Operators.{Class, like, shift, compare, logic, class_of, own_of}
-use Rattle.indus_tree.specs.Reads.{Seen}
 use Rattle.indus_tree.specs.Value.{own_width}
-use Rattle.indus_rules.specs.Kinds.{kind_of, join, as_number, kinds_differ, manner_of, left_want, right_want, binary_kind}
-use Rattle.indus_rules.specs.Scopes.{Sight, role_of, role_from, read_kind, index_kind, element_kind, item_of, builtin_of, own}
-use Rattle.indus_rules.specs.Uses.{is_missing, indexed, shape_indexed}
+use Rattle.indus_scopes.specs.Kinds.{kind_of, join, as_number, kinds_differ, manner_of, left_want, right_want, binary_kind}
+use Rattle.indus_scopes.specs.Scopes.{Sight, role_from, index_kind, element_kind, item_of, builtin_of, own}
+use Rattle.indus_scopes.specs.Uses.{is_missing, indexed, shape_indexed}
 use Rattle.indus_rules.specs.Sites.{at_expr, expr_sites}
 use Rattle.indus_rules.specs.Rules.{Fine, broken}
 use Rattle.indus_rules.specs.declared.rule.Rule.{Rule}
 use Rattle.indus_rules.specs.declared.rule.Rule.TheVariants.{NoSuchName, KindDiffers}
-use Rattle.indus_rules.specs.declared.kind.Kind.{Kind}
-use Rattle.indus_rules.specs.declared.kind.Kind.TheVariants.{Number, Truth, Unknown}
-use Rattle.indus_rules.specs.declared.kind.Manner.{Manner}
-use Rattle.indus_rules.specs.declared.kind.Manner.TheVariants.{Like, Shift, Same, Order, Logic}
-use Rattle.indus_types.specs.Fits.{kind_width, Fits, KnowsWidths}
+use Rattle.indus_scopes.specs.declared.kind.Kind.{Kind}
+use Rattle.indus_scopes.specs.declared.kind.Kind.TheVariants.{Number, Truth, Unknown}
+use Rattle.indus_scopes.specs.declared.kind.Manner.{Manner}
+use Rattle.indus_scopes.specs.declared.kind.Manner.TheVariants.{Like, Shift, Same, Order, Logic}
+use Rattle.indus_types.specs.Fits.{kind_width, KnowsWidths}
 
 -- neither side of a false `or` holds
 pub neither : (a b : Bool) → (a || b) ≡ false → (a ≡ false) × (b ≡ false)
@@ -40,7 +39,7 @@ kind_of_width (ty.Bit w) = refl
 kind_of_width ty.Bool = refl
 
 -- the element that a key reads has the declared width
-element_width : (k : DeclKind) (h : Shape) (ks : Exprs) → shape_indexed k h ks ≡ true → shape_width h ≡ kind_width (element_kind k h)
+pub element_width : (k : DeclKind) (h : Shape) (ks : Exprs) → shape_indexed k h ks ≡ true → shape_width h ≡ kind_width (element_kind k h)
 element_width Sensor (list t n) ks e = sym (kind_of_width t)
 element_width Tele (list t n) ks e = absurd (let c : false ≡ true = e in cc)
 element_width Header (list t n) ks e = absurd (let c : false ≡ true = e in cc)
@@ -65,7 +64,7 @@ index_step None None (Some d) ks m h = element_width d.kind d.shape ks h
 index_step None None None ks m h = absurd (let c : true ≡ false = m in cc)
 
 -- where a number is wanted, what is no truth value keeps its width
-not_truth : (k want : Kind) → kinds_differ k (as_number want) ≡ false → kind_width (as_number k) ≡ kind_width k
+pub not_truth : (k want : Kind) → kinds_differ k (as_number want) ≡ false → kind_width (as_number k) ≡ kind_width k
 not_truth (Number w) want h = refl
 not_truth Truth (Number w) h = absurd (let c : true ≡ false = h in cc)
 not_truth Truth Truth h = absurd (let c : true ≡ false = h in cc)
@@ -93,7 +92,7 @@ truth_differs (Number w) = refl
 truth_differs Truth = refl
 truth_differs Unknown = refl
 
-nonzero : (w : ℕ) (b : Bool) → nat_eq (suc w) 0 ≡ b → b ≡ false
+pub nonzero : (w : ℕ) (b : Bool) → nat_eq (suc w) 0 ≡ b → b ≡ false
 nonzero w true e = absurd (let z : suc w ≡ 0 = eqb-true (suc w) 0 e in omega arith)
 nonzero w false e = refl
 
@@ -107,14 +106,14 @@ join_width Truth b want want' h k = absurd (let d : kinds_differ Truth (as_numbe
 join_width Unknown b want want' h k = sym (not_truth b want' k)
 
 -- how the meaning takes an operator's operands
-abbrev class_for : Manner → Class
+abbrev pub class_for : Manner → Class
 class_for Like = like
 class_for Shift = shift
 class_for Same = compare
 class_for Order = compare
 class_for Logic = logic
 
-class_is : (op : Op) → class_of op ≡ class_for (manner_of op)
+pub class_is : (op : Op) → class_of op ≡ class_for (manner_of op)
 class_is Mul = refl
 class_is Add = refl
 class_is Sub = refl

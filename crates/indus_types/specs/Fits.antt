@@ -4,12 +4,12 @@ use Rattle.std.specs.Prelude.{◌≡◌, ℕ, List, false, true}
 use Rattle.indus_tree.specs.Tree.{Expr}
 use Rattle.indus_tree.specs.Reads.{Seen, name_word}
 use Rattle.indus_tree.specs.Value.{own_width}
-use Rattle.indus_rules.specs.Scopes.{Sight, role_of, read_kind, own}
-use Rattle.indus_rules.specs.Uses.{is_missing, reads}
+use Rattle.indus_scopes.specs.Scopes.{Sight, role_of, read_kind, own}
+use Rattle.indus_scopes.specs.Uses.{is_missing, reads}
 use Rattle.indus_rules.specs.Sites.{expr_sites}
 use Rattle.indus_rules.specs.Rules.{Fine}
-use Rattle.indus_rules.specs.declared.kind.Kind.{Kind}
-use Rattle.indus_rules.specs.declared.kind.Kind.TheVariants.{Number, Truth, Unknown}
+use Rattle.indus_scopes.specs.declared.kind.Kind.{Kind}
+use Rattle.indus_scopes.specs.declared.kind.Kind.TheVariants.{Number, Truth, Unknown}
 
 -- the bits of a value of a kind; a truth value is one bit
 abbrev pub kind_width : Kind → ℕ

@@ -4,3 +4,4 @@ pub mod Sums
 pub mod NameTable
 pub mod Facts
 pub mod Fits
+pub mod StaticWidths

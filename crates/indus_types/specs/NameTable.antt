@@ -1,5 +1,5 @@
 -- The table of a property's names: those that it declares, in their order.
-use Rattle.std.specs.Prelude.{◌≡◌, ℕ, List, [], ◌∷◌, ◌++◌, map, Bool, false, String, string_bytes}
+use Rattle.std.specs.Prelude.{◌≡◌, ℕ, List, [], ◌∷◌, ◌++◌, map, false, String, string_bytes}
 use Rattle.std.specs.declared.alloc.Global.{Global}
 use Rattle.indus_tree.specs.Tree.{Decl}
 use Rattle.indus_tree.specs.State.{lookup}

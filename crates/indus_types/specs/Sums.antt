@@ -1,10 +1,10 @@
 -- The sums of a property: its weight, the bits of its telemetry, and how often a control variable is read.
 use Rattle.std.specs.Prelude.{◌≡◌, ℕ, ◌+◌, ◌*◌, min, List, [], ◌∷◌, slice_get, Bool, true, false, Option, Some, None, if◌then◌else◌}
 use Rattle.lex_text.specs.Names.{same_text}
-use Rattle.indus_tree.specs.Tree.{Expr, Exprs, none, more, num, flag, read, count, index, member, negation, inversion, binary, cast, Stmt, Stmts, done, next, assign, cell, push, choice, loop, reject, report, Shape, one, list, set, dict, Decl, Property}
+use Rattle.indus_tree.specs.Tree.{Expr, Exprs, none, more, num, flag, read, count, index, member, negation, inversion, binary, cast, Stmt, Stmts, done, next, assign, cell, push, choice, loop, reject, report, Shape, one, list, Decl, Property}
 use Rattle.indus_tree.specs.State.{lookup, shape_size, width_of}
 use Rattle.indus_tree.specs.declared.tree.DeclKind.{DeclKind}
-use Rattle.indus_tree.specs.declared.tree.DeclKind.TheVariants.{Tele, Sensor, Header, Control}
+use Rattle.indus_tree.specs.declared.tree.DeclKind.TheVariants.{Tele, Sensor, Control}
 
 -- the number, or the greatest of 32 bits where that is smaller
 abbrev pub cut : ℕ → ℕ

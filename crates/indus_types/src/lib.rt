@@ -5,7 +5,8 @@
 //! telemetry's bits, the weight and the reads of a control variable. `laws` says what well-typedness
 //! says of a tree.
 //!
-//! The rules are those of `indus_rules`; `specs/Sums`, `Facts` and `Fits` are the words of this crate.
+//! The rules are those of `indus_rules`; `specs/Sums`, `Facts`, `Fits` and `StaticWidths` are the words
+//! of this crate.
 //!
 //! Follows: "Hydra: Effective Runtime Network Verification", SIGCOMM 2023; grammar, rules and sums are
 //! this project's profile.
@@ -26,5 +27,7 @@ pub use typed::{TypedProperty, check_property};
 
 #[cfg(test)]
 mod rows;
+#[cfg(test)]
+mod samples;
 #[cfg(test)]
 mod tests;

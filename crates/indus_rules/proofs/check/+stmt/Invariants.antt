@@ -1,6 +1,6 @@
 use Rattle.std.proofs.Common.{◌≡◌, drop}
 use Rattle.indus_tree.specs.View.{block_of}
-use Rattle.indus_rules.specs.Scopes.{scope_of}
+use Rattle.indus_scopes.specs.Scopes.{scope_of}
 use Rattle.indus_rules.specs.Sites.{block_sites}
 use Rattle.indus_rules.specs.Rules.{first}
 use Rattle.indus_rules.proofs.check.+stmt.Given as goal

@@ -1,5 +1,5 @@
 use Rattle.std.proofs.Common.{◌≡◌, ◌∷◌, take, map}
-use Rattle.indus_rules.specs.Scopes.{Around, loop_of}
+use Rattle.indus_scopes.specs.Scopes.{loop_of}
 use Rattle.indus_rules.proofs.check.inside.Given as goal
 
 abbrev pub invariant-loop-l : goal.invariant-loop-l

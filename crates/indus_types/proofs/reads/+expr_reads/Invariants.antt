@@ -1,4 +1,4 @@
-use Rattle.std.proofs.Common.{◌≡◌, ◌≤◌, ◌+◌, map, drop}
+use Rattle.std.proofs.Common.{◌≡◌, ◌≤◌, ◌+◌, drop}
 use Rattle.indus_tree.specs.View.{exprs_of}
 use Rattle.indus_types.specs.Sums.{cut, exprs_reads}
 use Rattle.indus_types.proofs.reads.+expr_reads.Given as goal

@@ -5,7 +5,7 @@ ghost use Rattle.std.specs.Option.{option_map};
 ghost use Rattle.lex_text.specs.Names.{same_text};
 ghost use Rattle.indus_tree.specs.State.{lookup};
 ghost use Rattle.indus_tree.specs.View.{decl_of, expr_of, shape_of};
-ghost use Rattle.indus_rules.specs.Scopes.{item_in, item_of, builtin_of, role_of, stands, scope_of, loop_of, read_kind, index_kind, scalar_kind, element_kind, shape_item, list_item, own};
+ghost use Rattle.indus_scopes.specs.Scopes.{item_in, item_of, builtin_of, role_of, stands, scope_of, loop_of, read_kind, index_kind, scalar_kind, element_kind, shape_item, list_item, own};
 
 use crate::kind::{Kind, as_number, binary_kind, kind_of, manner_of};
 use indus_tree::{Decl, DeclKind, Expr, Shape};

@@ -4,10 +4,10 @@ use Rattle.indus_tree.specs.declared.tree.Ty.{Ty}
 use Rattle.indus_tree.specs.declared.tree.Ty.TheVariants as ty
 use Rattle.indus_tree.specs.declared.tree.Op.{Op}
 use Rattle.indus_tree.specs.declared.tree.Op.TheVariants.{Mul, Add, Sub, Shl, Shr, BitAnd, BitXor, BitOr, Less, LessEq, More, MoreEq, Equal, Differ, Both, Either}
-use Rattle.indus_rules.specs.declared.kind.Kind.{Kind}
-use Rattle.indus_rules.specs.declared.kind.Kind.TheVariants.{Number, Truth, Unknown}
-use Rattle.indus_rules.specs.declared.kind.Manner.{Manner}
-use Rattle.indus_rules.specs.declared.kind.Manner.TheVariants.{Like, Shift, Same, Order, Logic}
+use Rattle.indus_scopes.specs.declared.kind.Kind.{Kind}
+use Rattle.indus_scopes.specs.declared.kind.Kind.TheVariants.{Number, Truth, Unknown}
+use Rattle.indus_scopes.specs.declared.kind.Manner.{Manner}
+use Rattle.indus_scopes.specs.declared.kind.Manner.TheVariants.{Like, Shift, Same, Order, Logic}
 
 -- a value of a type
 abbrev pub kind_of : Ty → Kind

@@ -1,7 +1,7 @@
 //! What an expression is, and what its place wants.
 
 ghost use Rattle.std.specs.Prelude.{◌≡◌};
-ghost use Rattle.indus_rules.specs.Kinds.{kind_of, is_open, join, as_number, kinds_differ, widths_differ, manner_of, left_want, right_want, binary_kind, width_in};
+ghost use Rattle.indus_scopes.specs.Kinds.{kind_of, is_open, join, as_number, kinds_differ, widths_differ, manner_of, left_want, right_want, binary_kind, width_in};
 
 use indus_tree::{Op, Ty};
 

@@ -2,8 +2,8 @@
 
 ghost use Rattle.std.specs.Prelude.{◌≡◌};
 ghost use Rattle.indus_tree.specs.View.{exprs_of, shape_of};
-ghost use Rattle.indus_rules.specs.Scopes.{stands};
-ghost use Rattle.indus_rules.specs.Uses.{is_missing, is_hop, as_many, is_one, is_scalar, is_list, is_array, is_dict, reads, counts, shape_indexed, indexed, shape_holds, may_hold, may_index, kind_writable, writable};
+ghost use Rattle.indus_scopes.specs.Scopes.{stands};
+ghost use Rattle.indus_scopes.specs.Uses.{is_missing, is_hop, as_many, is_one, is_scalar, is_list, is_array, is_dict, reads, counts, shape_indexed, indexed, shape_holds, may_hold, may_index, kind_writable, writable};
 
 use crate::kind::Kind;
 use crate::scope::Role;

@@ -5,8 +5,8 @@ use Rattle.indus_tree.specs.Tree.{Exprs, none, more, Shape, one, list, set, dict
 use Rattle.indus_tree.specs.declared.tree.Ty.{Ty}
 use Rattle.indus_tree.specs.declared.tree.DeclKind.{DeclKind}
 use Rattle.indus_tree.specs.declared.tree.DeclKind.TheVariants.{Tele, Sensor, Header, Control}
-use Rattle.indus_rules.specs.Scopes.{Stands, missing, item, builtin, variable}
-use Rattle.indus_rules.specs.declared.kind.Kind.TheVariants.{Truth}
+use Rattle.indus_scopes.specs.Scopes.{Stands, missing, builtin, variable}
+use Rattle.indus_scopes.specs.declared.kind.Kind.TheVariants.{Truth}
 
 -- nothing
 abbrev pub is_missing : Stands → Bool

@@ -1,20 +1,20 @@
 -- What a name stands for at a place, and what an expression is of its own. Read `Kinds` before it.
-use Rattle.std.specs.Prelude.{ℕ, List, [], ◌∷◌, Bool, true, false, ◌||◌, Option, Some, None, if◌then◌else◌, map, codes}
+use Rattle.std.specs.Prelude.{ℕ, List, [], ◌∷◌, ◌||◌, Option, Some, None, if◌then◌else◌, map, codes}
 use Rattle.lex_text.specs.Names.{same_text}
 use Rattle.rule_sites.specs.Sites.{or_else}
-use Rattle.indus_tree.specs.Tree.{Expr, num, flag, read, count, index, member, negation, inversion, binary, cast, Shape, one, list, set, dict, Decl}
+use Rattle.indus_tree.specs.Tree.{Expr, num, flag, read, count, index, member, negation, inversion, binary, cast, Shape, one, list, dict, Decl}
 use Rattle.indus_tree.specs.State.{lookup}
 use Rattle.indus_tree.specs.View.{decl_of}
 use Rattle.indus_tree.specs.declared.tree.DeclKind.{DeclKind}
 use Rattle.indus_tree.specs.declared.tree.DeclKind.TheVariants.{Sensor}
-use Rattle.indus_rules.specs.Kinds.{kind_of, as_number, binary_kind, manner_of}
-use Rattle.indus_rules.specs.declared.kind.Kind.{Kind}
-use Rattle.indus_rules.specs.declared.kind.Kind.TheVariants.{Number, Truth, Unknown}
-use Rattle.indus_rules.specs.declared.scope.Block.{Block}
-use Rattle.indus_rules.specs.declared.scope.Scope as code
-use Rattle.indus_rules.specs.declared.scope.Loop as code_loop
-use Rattle.indus_rules.specs.declared.scope.Role as code_role
-use Rattle.indus_rules.specs.declared.scope.Role.TheVariants.{Missing, Item, Builtin, Variable}
+use Rattle.indus_scopes.specs.Kinds.{kind_of, as_number, binary_kind, manner_of}
+use Rattle.indus_scopes.specs.declared.kind.Kind.{Kind}
+use Rattle.indus_scopes.specs.declared.kind.Kind.TheVariants.{Number, Truth, Unknown}
+use Rattle.indus_scopes.specs.declared.scope.Block.{Block}
+use Rattle.indus_scopes.specs.declared.scope.Scope as code
+use Rattle.indus_scopes.specs.declared.scope.Loop as code_loop
+use Rattle.indus_scopes.specs.declared.scope.Role as code_role
+use Rattle.indus_scopes.specs.declared.scope.Role.TheVariants.{Missing, Item, Builtin, Variable}
 
 -- a surrounding loop: the names of its items, and the lists that it walks
 pub record Around : Type 0 where

@@ -1,0 +1,15 @@
+//! What names stand for in Indus properties, and what expressions are.
+//!
+//! The layer above gets `Scope`, which is what is in sight at a place: `role` is what a name stands for
+//! there, and `own` what an expression is, whatever its place wants. `kind` has what places want of
+//! operands, `uses` as what a name may be used, and `find` is the declaration of a name.
+//!
+//! `specs/Kinds`, `Scopes` and `Uses` are read in this order. No rule is told here.
+//!
+//! Follows: "Hydra: Effective Runtime Network Verification", SIGCOMM 2023; grammar and rules are this
+//! project's profile.
+#![tactic(auto)]
+
+pub mod kind;
+pub mod scope;
+pub mod uses;
