@@ -1,9 +1,10 @@
 -- What the tests of reports say.
-use Rattle.std.proofs.Common.{◌≡◌, ◌≤◌, ◌+◌, ◌↔◌, IsTrue, Bool, true, false, ◌&&◌, leb-true, le-leb, arith, List, [], ◌∷◌, length, ℕ, ap, refl}
+use Rattle.std.proofs.Common.{◌≡◌, ◌↔◌, IsTrue, Bool, true, false, ◌&&◌, leb-true, le-leb, arith, List, [], ◌∷◌, length, refl}
 use Rattle.indus_tree.specs.Tree.{Stmt, Stmts, assign, cell, push, choice, loop, reject, report, done, next, Property}
 use Rattle.indus_tree.specs.View.{exprs_of}
 use Rattle.indus_tree.specs.declared.tree.Expr as code_expr
-use Rattle.indus_run.specs.Reports.{HasShortReports, IsShort, all_short, AreShort, is_short, are_short, exprs_count}
+use Rattle.indus_values.specs.Values.{exprs_count}
+use Rattle.indus_run.specs.Reports.{HasShortReports, IsShort, all_short, AreShort, is_short, are_short}
 
 both : (a b : Bool) → (a && b) ≡ true → (a ≡ true) × (b ≡ true)
 both true b h = (refl, h)

@@ -1,6 +1,2 @@
--- What callers rest on: what the states, views and results of the program stand for.
-pub mod View
+-- What callers rest on: which reports are short.
 pub mod Reports
--- What serves the proof.
-pub mod Operands
-pub mod Lists

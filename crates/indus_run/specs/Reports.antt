@@ -1,11 +1,7 @@
 -- Reports of at most eight values, which is a rule of types.
-use Rattle.std.specs.Prelude.{◌≡◌, ℕ, ◌+◌, ◌≤◌, Bool, true, ◌&&◌, nat_le}
-use Rattle.indus_tree.specs.Tree.{Exprs, none, more, Stmt, Stmts, assign, cell, push, choice, loop, reject, report, done, next, Property}
-
--- how many expressions there are
-abbrev pub exprs_count : Exprs → ℕ
-exprs_count none = 0
-exprs_count (more e es) = exprs_count es + 1
+use Rattle.std.specs.Prelude.{◌≤◌, Bool, true, ◌&&◌, nat_le}
+use Rattle.indus_values.specs.Values.{exprs_count}
+use Rattle.indus_tree.specs.Tree.{Stmt, Stmts, assign, cell, push, choice, loop, reject, report, done, next, Property}
 
 abbrev mutual
   -- no report in a statement has more values

@@ -4,12 +4,12 @@ ghost use Rattle.std.specs.Prelude.{◌≡◌, map, IfOk, OnOk};
 ghost use Rattle.indus_tree.specs.Meaning.{entry_part, exit_part, hop_run};
 ghost use Rattle.indus_tree.specs.View.{decl_of, property_of};
 ghost use Rattle.indus_run.specs.Reports.{HasShortReports};
-ghost use Rattle.indus_run.specs.View.{IsShaped, begun, doing_of, exit_hop, hop_in};
+ghost use Rattle.indus_values.specs.View.{IsShaped, begun, doing_of, exit_hop, hop_in};
 
 use crate::run::run_block;
-use crate::state::{HopResult, HopView, SensorState, TeleState};
 use bit_values::Bits;
 use indus_tree::Property;
+use indus_values::{HopResult, HopView, SensorState, TeleState};
 use std::alloc::{AllocError, Global};
 
 fn entry_part(

@@ -7,16 +7,16 @@ ghost use Rattle.indus_tree.specs.Meaning.{block_run, index_for, named, reported
 ghost use Rattle.indus_tree.specs.Value.{values_of};
 ghost use Rattle.indus_tree.specs.View.{block_of, decl_of, expr_of, exprs_of, stmt_of};
 ghost use Rattle.indus_tree.specs.declared.tree.DeclKind.TheVariants.{Tele};
-ghost use Rattle.indus_run.specs.Reports.{AreShort, IsShort, exprs_count};
-ghost use Rattle.indus_run.specs.View.{IsShaped, cells_at, cells_in, cells_of, decls_of, doing_of, hop_in, hop_of, is_kind, seats, seen_of};
+ghost use Rattle.indus_values.specs.Values.{exprs_count};
+ghost use Rattle.indus_run.specs.Reports.{AreShort, IsShort};
+ghost use Rattle.indus_values.specs.View.{IsShaped, cells_at, cells_in, cells_of, decls_of, doing_of, hop_in, hop_of, is_kind, seats, seen_of};
 
-use crate::names::{cells, find, seat};
-use crate::reads::held_width;
-use crate::state::{Env, HopResult, HopView, Report, SensorState, TeleState};
-use crate::values::{own_width, value_of, values_of};
-use crate::words::{either_width, holds, shape_size, sound_width, word_at};
 use bit_values::Bits;
 use indus_tree::{Decl, DeclKind, Expr, Property, Stmt};
+use indus_values::{
+    Env, HopResult, HopView, Report, SensorState, TeleState, cells, either_width, find, held_width,
+    holds, own_width, seat, shape_size, sound_width, value_of, values_of, word_at,
+};
 use lex_text::Name;
 use std::alloc::{AllocError, Global};
 
@@ -74,7 +74,7 @@ fn push_cell(lists: &mut Vec<Vec<Bits>>, n: usize, size: u8, v: Bits) -> Result<
 }
 
 /// Writes a cell of a variable of a kind.
-#[tactic(auto, using(crate::proofs::SeatLemmas::within, crate::proofs::SeatLemmas::seated))]
+#[tactic(auto, using(indus_values::proofs::SeatLemmas::within, indus_values::proofs::SeatLemmas::seated))]
 fn write_at(
     kind: DeclKind,
     decls: &[Decl],
@@ -95,7 +95,7 @@ fn write_at(
 }
 
 /// Pushes onto a list that travels with the packet.
-#[tactic(auto, using(crate::proofs::SeatLemmas::within, crate::proofs::SeatLemmas::seated))]
+#[tactic(auto, using(indus_values::proofs::SeatLemmas::within, indus_values::proofs::SeatLemmas::seated))]
 fn push_at(
     decls: &[Decl],
     lists: &mut Vec<Vec<Bits>>,

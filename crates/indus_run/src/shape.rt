@@ -2,12 +2,12 @@
 
 ghost use Rattle.std.specs.Prelude.{◌≡◌, ◌↔◌, map, IsTrue};
 ghost use Rattle.indus_tree.specs.View.{block_of, decl_of, exprs_of, property_of, stmt_of};
-ghost use Rattle.indus_run.specs.Reports.{HasShortReports, all_short, are_short, exprs_count, is_short};
-ghost use Rattle.indus_run.specs.View.{IsShaped};
+ghost use Rattle.indus_values.specs.Values.{exprs_count};
+ghost use Rattle.indus_run.specs.Reports.{HasShortReports, all_short, are_short, is_short};
+ghost use Rattle.indus_values.specs.View.{IsShaped};
 
-use crate::names::seats;
-use crate::state::{SensorState, TeleState};
 use indus_tree::{DeclKind, Expr, Property, Stmt};
+use indus_values::{SensorState, TeleState, seats};
 
 /// Whether the states have a list for each variable of their kind.
 pub fn is_shaped(p: &Property, tele: &TeleState, sensors: &SensorState) -> bool

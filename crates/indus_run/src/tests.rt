@@ -1,6 +1,7 @@
 use super::*;
 use bit_values::Bits;
 use indus_tree::{Decl, DeclKind, Expr, Op, Property, Shape, Stmt, Ty};
+use indus_values::{ControlValue, HopResult, HopView, SensorState, TeleState};
 use lex_text::{Literal, Name};
 use std::alloc::{AllocError, Global};
 use std::test::Fail;
@@ -11,11 +12,6 @@ fn number(value: u128) -> Expr {
     Expr::Num(0, Literal { width: 0, value })
 }
 
-/// A number with a written width.
-fn wide(width: u8, value: u128) -> Expr {
-    Expr::Num(0, Literal { width, value })
-}
-
 fn read(alloc: Global, name: &str) -> Result<Expr, AllocError> {
     Ok(Expr::Read(0, Name::new(alloc, name)?))
 }
@@ -24,14 +20,6 @@ fn binary(alloc: Global, op: Op, a: Expr, b: Expr) -> Result<Expr, AllocError> {
     let a = Box::new(alloc, a)?;
     let b = Box::new(alloc, b)?;
     Ok(Expr::Bin(0, op, a, b))
-}
-
-fn not(alloc: Global, a: Expr) -> Result<Expr, AllocError> {
-    Ok(Expr::Not(0, Box::new(alloc, a)?))
-}
-
-fn inverted(alloc: Global, a: Expr) -> Result<Expr, AllocError> {
-    Ok(Expr::Invert(0, Box::new(alloc, a)?))
 }
 
 fn cast(alloc: Global, width: u8, a: Expr) -> Result<Expr, AllocError> {
@@ -119,11 +107,6 @@ fn tele(alloc: Global, name: &str, shape: Shape) -> Result<Decl, AllocError> {
 
 // ---- hops
 
-/// The width and the number.
-fn shown(b: Bits) -> (u8, u128) {
-    (b.width, b.value)
-}
-
 fn view(alloc: Global, switch: u16, first: bool, last: bool) -> HopView {
     HopView {
         switch,
@@ -202,125 +185,7 @@ fn reports(hop: &HopResult, n: usize, number: u16, want: &[(u8, u128)]) -> bool 
     }
 }
 
-/// The value of an expression without variables.
-fn value(alloc: Global, e: &Expr, width: u8) -> Result<Bits, Fail> {
-    let p = empty(alloc);
-    let tele = TeleState {
-        items: Vec::new(alloc),
-    };
-    let sensors = SensorState {
-        cells: Vec::new(alloc),
-    };
-    let hop = view(alloc, 7, true, false);
-    Ok(eval_expr(alloc, &p, e, width, &hop, &[], &tele, &sensors, &[])?)
-}
-
-// ---- expressions
-
 const TOP: u128 = 340282366920938463463374607431768211455;
-
-// an operator, the width of both numbers, the numbers; the width and the value of the result
-const OPERATORS: [(Op, u8, u128, u128, u8, u128); 48] = [
-    (Op::Mul, 1, 1, 1, 1, 1),
-    (Op::Add, 1, 1, 1, 1, 0),
-    (Op::Sub, 1, 0, 1, 1, 1),
-    (Op::Shl, 1, 1, 1, 1, 0),
-    (Op::Shr, 1, 1, 0, 1, 1),
-    (Op::BitAnd, 1, 1, 0, 1, 0),
-    (Op::BitXor, 1, 1, 0, 1, 1),
-    (Op::BitOr, 1, 1, 0, 1, 1),
-    (Op::Less, 1, 0, 1, 1, 1),
-    (Op::LessEq, 1, 1, 0, 1, 0),
-    (Op::More, 1, 1, 0, 1, 1),
-    (Op::MoreEq, 1, 1, 1, 1, 1),
-    (Op::Equal, 1, 1, 0, 1, 0),
-    (Op::Differ, 1, 1, 0, 1, 1),
-    (Op::Both, 1, 1, 0, 1, 0),
-    (Op::Either, 1, 1, 0, 1, 1),
-    (Op::Mul, 8, 20, 13, 8, 4),
-    (Op::Add, 8, 250, 6, 8, 0),
-    (Op::Sub, 8, 3, 5, 8, 254),
-    (Op::Shl, 8, 129, 1, 8, 2),
-    (Op::Shl, 8, 255, 8, 8, 0),
-    (Op::Shr, 8, 129, 1, 8, 64),
-    (Op::Shr, 8, 255, 9, 8, 0),
-    (Op::BitAnd, 8, 12, 10, 8, 8),
-    (Op::BitXor, 8, 12, 10, 8, 6),
-    (Op::BitOr, 8, 12, 10, 8, 14),
-    (Op::Less, 8, 127, 128, 1, 1),
-    (Op::LessEq, 8, 128, 127, 1, 0),
-    (Op::More, 8, 255, 1, 1, 1),
-    (Op::MoreEq, 8, 1, 255, 1, 0),
-    (Op::Equal, 8, 200, 200, 1, 1),
-    (Op::Differ, 8, 200, 200, 1, 0),
-    (Op::Mul, 128, TOP, TOP, 128, 1),
-    (Op::Add, 128, TOP, 1, 128, 0),
-    (Op::Sub, 128, 0, 1, 128, TOP),
-    (
-        Op::Shl,
-        128,
-        1,
-        127,
-        128,
-        170141183460469231731687303715884105728,
-    ),
-    (Op::Shl, 128, TOP, 128, 128, 0),
-    (Op::Shr, 128, TOP, 127, 128, 1),
-    (Op::Shr, 128, TOP, 1000, 128, 0),
-    (Op::BitAnd, 128, TOP, 9, 128, 9),
-    (Op::BitXor, 128, TOP, TOP, 128, 0),
-    (Op::BitOr, 128, TOP, 9, 128, TOP),
-    (Op::Less, 128, 1, TOP, 1, 1),
-    (Op::LessEq, 128, TOP, 1, 1, 0),
-    (Op::More, 128, TOP, 1, 1, 1),
-    (Op::MoreEq, 128, 1, TOP, 1, 0),
-    (Op::Equal, 128, TOP, TOP, 1, 1),
-    (Op::Differ, 128, TOP, 1, 1, 1),
-];
-
-#[test]
-fn operators(rt: HostRuntime) -> Result<(), Fail> {
-    let alloc = rt.alloc();
-    for (op, width, a, b, wide_result, want) in OPERATORS {
-        let e = binary(alloc, op, wide(width, a), wide(width, b))?;
-        assert_eq!(rt; shown(value(alloc, &e, 0)?), (wide_result, want));
-    }
-    Ok(())
-}
-
-/// Bare numbers take the width of the other operand, else that of the place; a shift's right operand
-/// has 128 bits of its own.
-#[test]
-fn widths_of_bare_numbers(rt: HostRuntime) -> Result<(), Fail> {
-    let alloc = rt.alloc();
-    let sum = binary(alloc, Op::Add, number(255), wide(8, 1))?;
-    assert_eq!(rt; shown(value(alloc, &sum, 0)?), (8, 0));
-    let sum = binary(alloc, Op::Add, number(255), number(1))?;
-    assert_eq!(rt; shown(value(alloc, &sum, 9)?), (9, 256));
-    let shift = binary(alloc, Op::Shl, wide(8, 1), number(256))?;
-    assert_eq!(rt; shown(value(alloc, &shift, 0)?), (8, 0));
-    let turned = inverted(alloc, wide(4, 5))?;
-    assert_eq!(rt; shown(value(alloc, &turned, 0)?), (4, 10));
-    let smaller = cast(alloc, 3, wide(8, 13))?;
-    assert_eq!(rt; shown(value(alloc, &smaller, 0)?), (3, 5));
-    let wider = cast(alloc, 9, wide(3, 5))?;
-    assert_eq!(rt; shown(value(alloc, &wider, 0)?), (9, 5));
-    let denied = not(alloc, Expr::Flag(0, true))?;
-    assert_eq!(rt; shown(value(alloc, &denied, 0)?), (1, 0));
-    Ok(())
-}
-
-#[test]
-fn names_without_a_declaration(rt: HostRuntime) -> Result<(), Fail> {
-    let alloc = rt.alloc();
-    assert_eq!(rt; shown(value(alloc, &read(alloc, "first_hop")?, 0)?), (1, 1));
-    assert_eq!(rt; shown(value(alloc, &read(alloc, "last_hop")?, 0)?), (1, 0));
-    assert_eq!(rt;
-        shown(value(alloc, &read(alloc, "switch_id")?, 0)?),
-        (16, 7)
-    );
-    Ok(())
-}
 
 // ---- paths
 
@@ -364,24 +229,22 @@ fn a_sensor_wraps(rt: HostRuntime) -> Result<(), Fail> {
 
 /// ```text
 /// tele bit<8>[3] a; tele bit<8>[2] b; tele bit<8> n; tele bit<8> m;
-/// {a.push(1); a.push(2); a.push(3); b.push(10); b.push(20);}
+/// {a.push(1); ..; b.push(10); ..}
 /// {for (x, y in a, b) {m = m + x * y; for (z in a) {n = n + z;}}} {}
 /// ```
 ///
-/// Two turns: m is 1 * 10 + 2 * 20, and n is twice 1 + 2 + 3.
-#[test]
-fn loops_over_lists_of_different_length(rt: HostRuntime) -> Result<(), Fail> {
-    let alloc = rt.alloc();
+/// As many numbers are pushed as `a_count` and `b_count` say.
+fn nested_loops(alloc: Global, a_count: u8, b_count: u8) -> Result<Property, AllocError> {
     let mut p = empty(alloc);
     p.decls.push(tele(alloc, "a", Shape::List(Ty::Bit(8), 3))?)?;
     p.decls.push(tele(alloc, "b", Shape::List(Ty::Bit(8), 2))?)?;
     p.decls.push(tele(alloc, "n", Shape::One(Ty::Bit(8)))?)?;
     p.decls.push(tele(alloc, "m", Shape::One(Ty::Bit(8)))?)?;
-    for v in [1, 2, 3] {
-        p.init.push(push(alloc, "a", number(v))?)?;
+    for k in 0..a_count {
+        p.init.push(push(alloc, "a", number(k as u128 + 1))?)?;
     }
-    for v in [10, 20] {
-        p.init.push(push(alloc, "b", number(v))?)?;
+    for k in 0..b_count {
+        p.init.push(push(alloc, "b", number(k as u128 * 10 + 10))?)?;
     }
     let mut inner = Vec::new(alloc);
     inner.push(adds(alloc, "n", read(alloc, "z")?)?)?;
@@ -394,32 +257,63 @@ fn loops_over_lists_of_different_length(rt: HostRuntime) -> Result<(), Fail> {
     let x_and_y = names(alloc, &["x", "y"])?;
     let a_and_b = names(alloc, &["a", "b"])?;
     p.tele.push(Stmt::For(0, x_and_y, a_and_b, body))?;
-    let (tele, _sensors, _last) = over(alloc, &p, 1)?;
-    assert!(rt; hold(&tele.items, 2, &[(8, 12)]));
-    assert!(rt; hold(&tele.items, 3, &[(8, 50)]));
+    Ok(p)
+}
+
+/// As many turns as the shortest list has items. In two turns m is 1 * 10 + 2 * 20, and n is twice
+/// the sum of a.
+#[test]
+fn loops_over_lists_of_different_length(rt: HostRuntime) -> Result<(), Fail> {
+    let alloc = rt.alloc();
+    let rows = [
+        (3, 2, 12, 50),
+        (2, 2, 6, 50),
+        (1, 2, 1, 10),
+        (3, 1, 6, 10),
+        (0, 2, 0, 0),
+        (3, 0, 0, 0),
+    ];
+    for (a_count, b_count, n, m) in rows {
+        let p = nested_loops(alloc, a_count, b_count)?;
+        let (tele, _sensors, _last) = over(alloc, &p, 1)?;
+        assert!(rt; hold(&tele.items, 2, &[(8, n)]));
+        assert!(rt; hold(&tele.items, 3, &[(8, m)]));
+    }
     Ok(())
 }
 
 /// `sensor bit<8>[3] a = 9; tele bit<8> n; tele bit<8> m; {}`
-/// `{a[2] = 5; a[3] = 6; n = a[3]; m = a[1];} {}`
+/// `{a[2] = 5; a[place] = 6; n = a[place]; m = a[1];} {}`
+///
+/// No index is cut: 2 ^ 64 + 1 is not 1, and 2 ^ 128 - 1 is out of range too.
 #[test]
 fn cells_out_of_range(rt: HostRuntime) -> Result<(), Fail> {
     let alloc = rt.alloc();
-    let mut p = empty(alloc);
-    let array = Shape::List(Ty::Bit(8), 3);
-    p.decls.push(variable(alloc, DeclKind::Sensor, "a", array, Some(number(9)))?)?;
-    p.decls.push(tele(alloc, "n", Shape::One(Ty::Bit(8)))?)?;
-    p.decls.push(tele(alloc, "m", Shape::One(Ty::Bit(8)))?)?;
-    p.tele.push(cell(alloc, "a", 2, 5)?)?;
-    p.tele.push(cell(alloc, "a", 3, 6)?)?;
-    let outside = index(alloc, "a", one(alloc, number(3))?)?;
-    p.tele.push(assign(alloc, "n", outside)?)?;
-    let inside = index(alloc, "a", one(alloc, number(1))?)?;
-    p.tele.push(assign(alloc, "m", inside)?)?;
-    let (tele, sensors, _last) = over(alloc, &p, 1)?;
-    assert!(rt; hold(&sensors.cells, 0, &[(8, 9), (8, 9), (8, 5)]));
-    assert!(rt; hold(&tele.items, 0, &[(8, 0)]));
-    assert!(rt; hold(&tele.items, 1, &[(8, 9)]));
+    let rows = [
+        (0, 6, 6, 5),
+        (2, 6, 9, 6),
+        (3, 0, 9, 5),
+        (256, 0, 9, 5),
+        (18446744073709551617, 0, 9, 5),
+        (TOP, 0, 9, 5),
+    ];
+    for (place, read, first, third) in rows {
+        let mut p = empty(alloc);
+        let array = Shape::List(Ty::Bit(8), 3);
+        p.decls.push(variable(alloc, DeclKind::Sensor, "a", array, Some(number(9)))?)?;
+        p.decls.push(tele(alloc, "n", Shape::One(Ty::Bit(8)))?)?;
+        p.decls.push(tele(alloc, "m", Shape::One(Ty::Bit(8)))?)?;
+        p.tele.push(cell(alloc, "a", 2, 5)?)?;
+        p.tele.push(cell(alloc, "a", place, 6)?)?;
+        let there = index(alloc, "a", one(alloc, number(place))?)?;
+        p.tele.push(assign(alloc, "n", there)?)?;
+        let inside = index(alloc, "a", one(alloc, number(1))?)?;
+        p.tele.push(assign(alloc, "m", inside)?)?;
+        let (tele, sensors, _last) = over(alloc, &p, 1)?;
+        assert!(rt; hold(&sensors.cells, 0, &[(8, first), (8, 9), (8, third)]));
+        assert!(rt; hold(&tele.items, 0, &[(8, read)]));
+        assert!(rt; hold(&tele.items, 1, &[(8, 9)]));
+    }
     Ok(())
 }
 

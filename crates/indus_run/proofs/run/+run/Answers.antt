@@ -6,7 +6,7 @@ use Rattle.indus_tree.specs.Tree.{Stmt, loop}
 use Rattle.indus_tree.specs.declared.tree.Stmt as code_stmt
 use Rattle.indus_tree.specs.declared.tree.Stmt.TheViews.{the_lemmas}
 use Rattle.indus_tree.specs.declared.tree.Stmt.TheFolds.{fold_out-Stmt}
-use Rattle.indus_run.specs.View.{Cells, cells_in, cells_of, decls_of, doing_of, hop_of}
+use Rattle.indus_values.specs.View.{Cells, cells_in, cells_of, decls_of, doing_of, hop_of}
 use Rattle.indus_run.proofs.RunLemmas.{on_ok, same_turns}
 use Rattle.indus_run.proofs.run.+run.Goals as goal
 

@@ -3,7 +3,7 @@ use Rattle.bit_values.specs.Bits.{Word}
 use Rattle.indus_tree.specs.State.{pushed}
 use Rattle.indus_tree.specs.View.{decl_of}
 use Rattle.indus_tree.specs.declared.tree.DeclKind.TheVariants.{Tele}
-use Rattle.indus_run.proofs.SeatLemmas.{written}
+use Rattle.indus_values.proofs.SeatLemmas.{written}
 use Rattle.indus_run.proofs.run.push_at.Goals as goal
 
 pub returns-clause-put : goal.returns-clause-put

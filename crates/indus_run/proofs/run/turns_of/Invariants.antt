@@ -1,6 +1,6 @@
 use Rattle.std.proofs.Common.{◌≡◌, map}
 use Rattle.indus_tree.specs.Meaning.{first_turns}
-use Rattle.indus_run.specs.View.{cells_of}
+use Rattle.indus_values.specs.View.{cells_of}
 use Rattle.indus_run.proofs.run.turns_of.Given as goal
 
 abbrev pub invariant-loop-k : goal.invariant-loop-k

@@ -1,7 +1,7 @@
 use Rattle.std.proofs.Common.{◌≡◌, map, take}
 use Rattle.indus_tree.specs.View.{decl_of}
 use Rattle.indus_tree.specs.declared.tree.DeclKind.TheVariants.{Tele}
-use Rattle.indus_run.specs.View.{cells_in, cells_of}
+use Rattle.indus_values.specs.View.{cells_in, cells_of}
 use Rattle.indus_run.proofs.run.walked.Given as goal
 
 abbrev pub invariant-loop-x : goal.invariant-loop-x

@@ -2,7 +2,7 @@ use Rattle.std.proofs.Common.{map, List}
 use Rattle.bit_values.specs.Bits.{Word}
 use Rattle.indus_tree.specs.State.{put_cell}
 use Rattle.indus_tree.specs.View.{decl_of}
-use Rattle.indus_run.proofs.SeatLemmas.{written}
+use Rattle.indus_values.proofs.SeatLemmas.{written}
 use Rattle.indus_run.proofs.run.write_at.Goals as goal
 
 pub returns-clause-put : goal.returns-clause-put

@@ -1,8 +1,0 @@
-use Rattle.std.proofs.Common.{◌≡◌, ◌++◌, map, drop}
-use Rattle.indus_tree.specs.View.{decl_of}
-use Rattle.indus_run.specs.Lists.{tele_lists}
-use Rattle.indus_run.specs.View.{cells_of}
-use Rattle.indus_run.proofs.start.tele_lists.Given as goal
-
-abbrev pub invariant-loop-d : goal.invariant-loop-d
-invariant-loop-d l = map cells_of l.lists.items ++ tele_lists (map decl_of (drop l.d-index l.decls)) ≡ tele_lists (map decl_of l.decls)

@@ -1,0 +1,8 @@
+use Rattle.std.proofs.Common.{◌≡◌, ◌++◌, map, drop}
+use Rattle.indus_tree.specs.View.{decl_of}
+use Rattle.indus_values.specs.Lists.{tele_lists}
+use Rattle.indus_values.specs.View.{cells_of}
+use Rattle.indus_values.proofs.start.tele_lists.Given as goal
+
+abbrev pub invariant-loop-d : goal.invariant-loop-d
+invariant-loop-d l = map cells_of l.lists.items ++ tele_lists (map decl_of (drop l.d-index l.decls)) ≡ tele_lists (map decl_of l.decls)
