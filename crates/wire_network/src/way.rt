@@ -136,7 +136,8 @@ fn travel(
     requires joined { AreJoined links.now (length switches.old.items) }
     requires short { length at.frame.items ≤ 65791 }
     requires limit { limit ≤ 65791 }
-    ensures { IfOk result (λ fate. record { 0 = net_of (map machine_of switches.new.items) told.new.items; 1 = fate_of fate } ≡ travel left links.now limit (net_of (map machine_of switches.old.items) told.old.items) at.switch at.port at.frame.items) }
+    ensures way { IfOk result (λ fate. record { 0 = net_of (map machine_of switches.new.items) told.new.items; 1 = fate_of fate } ≡ travel left links.now limit (net_of (map machine_of switches.old.items) told.old.items) at.switch at.port at.frame.items) }
+    ensures many { length switches.new.items ≡ length switches.old.items }
 {
     let out = pass_at(alloc, switches, at.switch, at.port, &at.frame, told)?;
     let fate = go_on(alloc, switches, links, at.switch, out, left, limit, told)?;
@@ -157,7 +158,8 @@ fn go_on(
 ) -> Result<Fate, AllocError>
     requires joined { AreJoined links.now (length switches.old.items) }
     requires limit { limit ≤ 65791 }
-    ensures { IfOk result (λ fate. record { 0 = net_of (map machine_of switches.new.items) told.new.items; 1 = fate_of fate } ≡ behind (over left links.now limit) links.now limit (net_of (map machine_of switches.old.items) told.old.items) switch (frame_in out)) }
+    ensures way { IfOk result (λ fate. record { 0 = net_of (map machine_of switches.new.items) told.new.items; 1 = fate_of fate } ≡ behind (over left links.now limit) links.now limit (net_of (map machine_of switches.old.items) told.old.items) switch (frame_in out)) }
+    ensures many { length switches.new.items ≡ length switches.old.items }
 {
     match out {
         None => Ok(Fate::Dropped),
@@ -195,7 +197,8 @@ fn go_over(
     requires joined { AreJoined links.now (length switches.old.items) }
     requires short { length at.frame.items ≤ 65791 }
     requires limit { limit ≤ 65791 }
-    ensures { IfOk result (λ fate. record { 0 = net_of (map machine_of switches.new.items) told.new.items; 1 = fate_of fate } ≡ over left links.now limit (net_of (map machine_of switches.old.items) told.old.items) at.switch at.port at.frame.items) }
+    ensures way { IfOk result (λ fate. record { 0 = net_of (map machine_of switches.new.items) told.new.items; 1 = fate_of fate } ≡ over left links.now limit (net_of (map machine_of switches.old.items) told.old.items) at.switch at.port at.frame.items) }
+    ensures many { length switches.new.items ≡ length switches.old.items }
 {
     if left == 0 {
         Ok(Fate::Lost)
@@ -211,7 +214,8 @@ fn go_over(
 /// port it is lost where the packet has then passed `hops` switches, or where the frame has more
 /// than `link_limit` bytes; else it goes on at the other end.
 ///
-/// After want of memory the registers of switches may have changed in part.
+/// Whatever the answer, there are as many switches as before. After want of memory their registers
+/// may have changed in part.
 pub fn carry(
     alloc: Global,
     switches: &mut Vec<Switch>,
@@ -226,7 +230,8 @@ pub fn carry(
     requires short { length arrival.frame.items ≤ 65791 }
     requires limit { link_limit ≤ 65791 }
     requires one { 1 ≤ hops }
-    ensures { IfOk result (λ fate. record { 0 = net_of (map machine_of switches.new.items) told.new.items; 1 = fate_of fate } ≡ travel (hops - 1) links.now link_limit (net_of (map machine_of switches.old.items) told.old.items) arrival.switch arrival.port arrival.frame.items) }
+    ensures way { IfOk result (λ fate. record { 0 = net_of (map machine_of switches.new.items) told.new.items; 1 = fate_of fate } ≡ travel (hops - 1) links.now link_limit (net_of (map machine_of switches.old.items) told.old.items) arrival.switch arrival.port arrival.frame.items) }
+    ensures many { length switches.new.items ≡ length switches.old.items }
 {
     travel(alloc, switches, links, arrival, hops - 1, link_limit, told)
 }
