@@ -6,6 +6,8 @@ use Rattle.std.specs.declared.alloc.Global.{Global}
 use Rattle.indus_tree.specs.Small.{IsSmall}
 use Rattle.indus_tree.specs.Tree.{Property}
 use Rattle.indus_tree.specs.View.{property_of}
+use Rattle.indus_rules.specs.Rules.{IsWellTyped}
+use Rattle.indus_types.specs.declared.typed.TypedProperty.{TypedProperty}
 use Rattle.hydra_cli.specs.declared.job.Job as code
 use Rattle.hydra_cli.specs.declared.job.Job.TheVariants as variants
 use Rattle.hydra_cli.specs.declared.job.Output.{Output}
@@ -13,14 +15,22 @@ use Rattle.hydra_cli.specs.declared.job.Output.{Output}
 pub data Job : Type 0 where
   -- a property, a raw frame, and the front of the names of what is written
   wire : (property : Property) (frame out : List ℕ) → Job
+  -- a property that breaks no rule of types
+  check : (property : Property) → Job
+
+-- the tree of a typed property
+abbrev pub typed_of : TypedProperty → Property
+typed_of t = property_of t.property
 
 -- the job that a value of the program stands for
 abbrev pub job_of : code.Job → Job
 job_of (variants.Wire w) = wire (property_of w.property) w.frame.items (string_bytes w.out)
+job_of (variants.Check t) = check (typed_of t)
 
--- what is known of a job that was read: its property is of the first small grammar
+-- what is known of a job that was read: its property is of the first small grammar, or well typed
 abbrev pub IsRead : Job → Type 0
 IsRead (wire p f o) = IsSmall p
+IsRead (check p) = IsWellTyped p
 
 -- files in the order in which they are written, and the bytes for the sink
 pub record Out : Type 0 where

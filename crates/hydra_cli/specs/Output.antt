@@ -1,8 +1,9 @@
 -- What a command's job writes, and what it hands to the sink. Read `Line` and `Linkage` of the wire linkage before.
-use Rattle.std.specs.Prelude.{◌≡◌, ℕ, ◌-◌, List, [], ◌∷◌, ◌++◌, length, map, sum_by, count_by, codes}
+use Rattle.std.specs.Prelude.{◌≡◌, ℕ, ◌+◌, ◌-◌, ◌/◌, List, [], ◌∷◌, ◌++◌, length, map, sum_by, count_by, codes}
 use Rattle.std.specs.Fmt.{decimal}
 use Rattle.bit_values.specs.Bits.{cast}
 use Rattle.indus_tree.specs.Tree.{Property}
+use Rattle.indus_types.specs.Sums.{cut, cut_wide, property_bits, property_weight}
 use Rattle.p4_tree.specs.Tree.{Program}
 use Rattle.p4_tree.specs.Statements.{cell_at}
 use Rattle.p4_tree.specs.Pass.{Registers, Queued}
@@ -13,7 +14,7 @@ use Rattle.wire_printer.specs.Text.{text_of}
 use Rattle.wire_printer.specs.Programs.{words_of_program}
 use Rattle.wire_linkage.specs.Line.{program_at, run_of_frame}
 use Rattle.wire_linkage.specs.Linkage.{IsWireLinkage}
-use Rattle.hydra_cli.specs.Job.{Job, wire, Out}
+use Rattle.hydra_cli.specs.Job.{Job, wire, check, Out}
 
 -- the file of a switch's linked program: its words, each with a line feed behind it
 unfoldable pub program_file : (out switch : List ℕ) → Program → List ℕ × List ℕ
@@ -65,5 +66,18 @@ pub record IsWireOutput (p : Property) (frame out : List ℕ) (given : Out) : Ty
   pub files : given.files ≡ linked_files out p ++ frame_files out (run_of_frame p frame)
   pub text : given.text ≡ summary_of_run (run_of_frame p frame)
 
+-- the bytes that so many bits need
+abbrev pub bytes_of : ℕ → ℕ
+bytes_of bits = (bits + 7) / 8
+
+-- of `check`: no file, and a line with the bytes of the telemetry and the weight, each cut at the greatest number
+abbrev pub ok_line : (bytes weight : ℕ) → List ℕ
+ok_line b w = codes "ok bytes " ++ (decimal b ++ (codes " weight " ++ (decimal w ++ 10 ∷ [])))
+
+pub record IsCheckOutput (p : Property) (given : Out) : Type 0 where
+  pub files : given.files ≡ []
+  pub text : given.text ≡ ok_line (bytes_of (cut_wide (property_bits p))) (cut (property_weight p))
+
 abbrev pub Outputs : Job → Out → Type 0
 Outputs (wire p f o) out = IsWireOutput p f o out
+Outputs (check p) out = IsCheckOutput p out

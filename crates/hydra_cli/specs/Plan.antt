@@ -6,7 +6,7 @@ use Rattle.hydra_cli.specs.declared.command.Command.TheVariants as variants
 use Rattle.hydra_cli.specs.declared.job.Output.{Output}
 use Rattle.hydra_cli.specs.declared.status.Stop.{Stop}
 use Rattle.hydra_cli.specs.declared.status.Stop.TheVariants.{Refused, Starved}
-use Rattle.hydra_cli.specs.Command.{Command, wire}
+use Rattle.hydra_cli.specs.Command.{Command, wire, check}
 use Rattle.hydra_cli.specs.Course.{Course}
 use Rattle.hydra_cli.specs.Job.{Job, Out, out_of}
 use Rattle.hydra_cli.specs.Output.{Outputs}
@@ -15,6 +15,7 @@ use Rattle.hydra_cli.specs.Steps.{OnlyRead, Finds, Stops}
 -- the command that a value says
 abbrev pub said_by : said.Command → Command
 said_by (variants.Wire p f o) = wire p.now f.now o.now
+said_by (variants.Check p) = check p.now
 
 -- the one job that the course gives, and what it writes
 pub record Makes (c : Course Job) (old new : StoreState) (out : Out) : Type 0 where

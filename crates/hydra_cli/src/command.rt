@@ -1,12 +1,13 @@
 //! What each command reads and makes.
 
 ghost use Rattle.std.specs.Prelude.{◌≡◌, IfOk, MatchOption, None, Some, map, string_bytes};
-ghost use Rattle.hydra_cli.specs.Command.{command_of, course_of, wire};
+ghost use Rattle.hydra_cli.specs.Command.{check, command_of, course_of, wire};
 ghost use Rattle.hydra_cli.specs.Job.{IsRead, job_of, out_of};
 ghost use Rattle.hydra_cli.specs.Output.{Outputs};
 ghost use Rattle.hydra_cli.specs.Plan.{Plans, said_by};
 ghost use Rattle.hydra_cli.specs.Steps.{Follows};
 
+use crate::check::{load_typed, sums};
 use crate::job::{Job, Output, WireJob};
 use crate::reading::{load_frame, load_property};
 use crate::status::Stop;
@@ -19,6 +20,8 @@ use std::alloc::{AllocError, Global};
 pub enum Command<'a> {
     /// `wire PROPERTY FRAME OUT`
     Wire(&'a str, &'a str, &'a str),
+    /// `check PROPERTY`
+    Check(&'a str),
 }
 
 /// The command that the words are, if they are one.
@@ -29,6 +32,13 @@ pub fn read_words<'a>(words: &'a [String]) -> Option<Command<'a>>
         [word, property, frame, out] => {
             if word.as_str() == "wire" {
                 Some(Command::Wire(property.as_str(), frame.as_str(), out.as_str()))
+            } else {
+                None
+            }
+        }
+        [word, property] => {
+            if word.as_str() == "check" {
+                Some(Command::Check(property.as_str()))
             } else {
                 None
             }
@@ -51,6 +61,7 @@ fn read_job<S: Store>(alloc: Global, store: &mut S, command: Command<'_>) -> Res
 {
     match command {
         Command::Wire(property, frame, out) => read_wire(alloc, store, property, frame, out),
+        Command::Check(property) => read_check(alloc, store, property),
     }
 }
 
@@ -74,11 +85,20 @@ fn read_wire<S: Store>(
     }))
 }
 
+fn read_check<S: Store>(alloc: Global, store: &mut S, property: &str) -> Result<Job, Stop>
+    ensures follows { Follows (course_of (check property.now)) job_of (S.state store.old) (S.state store.new) result }
+    ensures read { IfOk result (λ j. IsRead (job_of j)) }
+{
+    let property = load_typed(alloc, store, property)?;
+    Ok(Job::Check(property))
+}
+
 fn run(alloc: Global, job: Job) -> Result<Output, AllocError>
     requires read { IsRead (job_of job) }
     ensures { IfOk result (λ o. Outputs (job_of job) (out_of o)) }
 {
     match job {
         Job::Wire(job) => run_wire(alloc, job),
+        Job::Check(property) => sums(alloc, &property),
     }
 }

@@ -3,11 +3,14 @@
 ghost use Rattle.std.specs.Prelude.{◌≤◌, length};
 
 use indus_tree::Property;
+use indus_types::TypedProperty;
 
 /// What a command is to do.
 #[derive(Drop)]
 pub enum Job {
     Wire(WireJob),
+    /// A property that breaks no rule of types.
+    Check(TypedProperty),
 }
 
 /// A property, a raw frame, and the front of the names of what is written.

@@ -2,8 +2,9 @@
 //!
 //! `hydra` does what the words of a command line say, over a store of files and a sink of bytes, and
 //! `main` calls it over the system's files and standard output. So far it does
-//! `wire PROPERTY FRAME OUT`: it links the property into the built-in wire program on three switches
-//! and carries one raw frame through them.
+//! `wire PROPERTY FRAME OUT`, which links the property into the built-in wire program on three
+//! switches and carries one raw frame through them, and `check PROPERTY`, which reads a property of
+//! the whole language and says what it needs.
 //!
 //! Not promised: what the system's files and standard output hold.
 #![tactic(auto)]
@@ -12,9 +13,14 @@ ghost use Rattle.std.specs.Prelude.{map, string_bytes};
 ghost use Rattle.hydra_cli.specs.Command.{command_of};
 ghost use Rattle.hydra_cli.specs.Ending.{Answers, IsComplete};
 
+mod check;
+#[cfg(test)]
+mod check_tests;
 mod command;
 mod delivery;
 mod job;
+#[cfg(test)]
+mod parts_tests;
 mod reading;
 mod status;
 #[cfg(test)]

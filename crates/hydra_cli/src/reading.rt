@@ -3,7 +3,7 @@
 ghost use Rattle.std.specs.Prelude.{◌≡◌, ◌≤◌, length, IfOk, string_bytes};
 ghost use Rattle.indus_tree.specs.Small.{IsSmall};
 ghost use Rattle.indus_tree.specs.View.{property_of};
-ghost use Rattle.hydra_cli.specs.Command.{IsNotBuilt, IsSpelled, frame, property};
+ghost use Rattle.hydra_cli.specs.Command.{IsNotBuilt, IsSpelled, frame, small_property};
 ghost use Rattle.hydra_cli.specs.Course.{file};
 ghost use Rattle.hydra_cli.specs.Lines.{long_line, not_built_line};
 ghost use Rattle.hydra_cli.specs.Steps.{Follows, Judged};
@@ -14,14 +14,14 @@ use outside::{Store, StoreStop};
 use std::alloc::{AllocError, Global};
 use wire_reader::{SmallFault, read_small};
 
-/// The greatest length of a property's file, in bytes.
+/// The greatest length of the file of a property of the small grammar, in bytes.
 const PROPERTY_LIMIT: u64 = 4096;
 
 /// The greatest length of a frame, in bytes.
 const FRAME_LIMIT: u64 = 65535;
 
 /// A file of at most `limit` bytes. A longer one is refused in its area.
-fn read_file<S: Store>(
+pub fn read_file<S: Store>(
     alloc: Global,
     store: &mut S,
     name: &str,
@@ -54,7 +54,7 @@ fn long_text(alloc: Global, area: Area, name: &str) -> Result<String, AllocError
 
 /// A property's file, whose text has to be of the small grammar.
 pub fn load_property<S: Store>(alloc: Global, store: &mut S, name: &str) -> Result<Property, Stop>
-    ensures follows { Follows (property name.now) property_of (S.state store.old) (S.state store.new) result }
+    ensures follows { Follows (small_property name.now) property_of (S.state store.old) (S.state store.new) result }
     ensures small { IfOk result (λ p. IsSmall (property_of p)) }
 {
     let text = read_file(alloc, store, name, PROPERTY_LIMIT, Area::Property)?;
