@@ -2,6 +2,7 @@
 use Rattle.std.specs.Prelude.{ℕ, List, map, Option, Some, None}
 use Rattle.std.specs.Global.{Vec}
 use Rattle.p4_tree.specs.Statements.{Digest}
+use Rattle.p4_tree.specs.Parts.{Parts}
 use Rattle.wire_machine.specs.Machine.{Machine}
 use Rattle.wire_statements.specs.Runs.{digest_of}
 use Rattle.wire_network.specs.Travel as travel
@@ -27,3 +28,7 @@ net_of switches told = record { switches = switches; told = map told_of told }
 abbrev pub frame_in : Option (ℕ × Vec ℕ) → Option (ℕ × List ℕ)
 frame_in None = None
 frame_in (Some o) = Some (o.0, o.1.items)
+
+-- what switches run: the parts of their programs
+abbrev pub programs_of : List Machine → List Parts
+programs_of switches = map (λ s. s.parts) switches

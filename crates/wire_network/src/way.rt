@@ -5,7 +5,7 @@ ghost use Rattle.std.specs.Option.{option_map};
 ghost use Rattle.wire_machine.specs.Machine.{machine_of, queued_of};
 ghost use Rattle.wire_statements.specs.Runs.{digest_of};
 ghost use Rattle.wire_network.specs.Travel.{AreJoined, at_edge, behind, far_end, left_from, no_machine, over, passage, passed, travel};
-ghost use Rattle.wire_network.specs.Fates.{fate_of, frame_in, net_of, told_of};
+ghost use Rattle.wire_network.specs.Fates.{fate_of, frame_in, net_of, programs_of, told_of};
 
 use crate::link::{Arrival, Fate, Link, Told};
 use std::alloc::{AllocError, Global};
@@ -38,6 +38,7 @@ fn leave(
     queued: Option<Queued>,
     digests: &mut Vec<Digest>,
 ) -> Result<Option<(u16, Vec<u8>)>, AllocError>
+    ensures kept { (machine_of switch.new).parts ≡ (machine_of switch.old).parts }
     ensures machine { OnOk result (machine_of switch.new ≡ (left_from (machine_of switch.old) (machine_of switch.old).registers (map digest_of digests.old.items) (option_map queued_of queued)).machine) }
     ensures digests { OnOk result (map digest_of digests.new.items ≡ (left_from (machine_of switch.old) (machine_of switch.old).registers (map digest_of digests.old.items) (option_map queued_of queued)).digests) }
     ensures out { IfOk result (λ o. frame_in o ≡ (left_from (machine_of switch.old) (machine_of switch.old).registers (map digest_of digests.old.items) (option_map queued_of queued)).out) }
@@ -61,6 +62,7 @@ fn pass(
 ) -> Result<Option<(u16, Vec<u8>)>, AllocError>
     requires short { length frame.now ≤ 65791 }
     requires none { digests.old.items ≡ [] }
+    ensures kept { (machine_of switch.new).parts ≡ (machine_of switch.old).parts }
     ensures machine { OnOk result (machine_of switch.new ≡ (passage (machine_of switch.old) port frame.now).machine) }
     ensures digests { OnOk result (map digest_of digests.new.items ≡ (passage (machine_of switch.old) port frame.now).digests) }
     ensures out { IfOk result (λ o. frame_in o ≡ (passage (machine_of switch.old) port frame.now).out) }
@@ -92,6 +94,7 @@ fn pass_at(
     requires short { length frame.now ≤ 65791 }
     ensures net { OnOk result (net_of (map machine_of switches.new.items) told.new.items ≡ passed (net_of (map machine_of switches.old.items) told.old.items) switch (passage (get_or (map machine_of switches.old.items) switch no_machine) port frame.now)) }
     ensures out { IfOk result (λ o. frame_in o ≡ (passage (get_or (map machine_of switches.old.items) switch no_machine) port frame.now).out) }
+    ensures kept { programs_of (map machine_of switches.new.items) ≡ programs_of (map machine_of switches.old.items) }
     ensures many { length switches.new.items ≡ length switches.old.items }
 {
     let mut digests = Vec::new(alloc);
@@ -137,6 +140,7 @@ fn travel(
     requires short { length at.frame.items ≤ 65791 }
     requires limit { limit ≤ 65791 }
     ensures way { IfOk result (λ fate. record { 0 = net_of (map machine_of switches.new.items) told.new.items; 1 = fate_of fate } ≡ travel left links.now limit (net_of (map machine_of switches.old.items) told.old.items) at.switch at.port at.frame.items) }
+    ensures kept { programs_of (map machine_of switches.new.items) ≡ programs_of (map machine_of switches.old.items) }
     ensures many { length switches.new.items ≡ length switches.old.items }
 {
     let out = pass_at(alloc, switches, at.switch, at.port, &at.frame, told)?;
@@ -159,6 +163,7 @@ fn go_on(
     requires joined { AreJoined links.now (length switches.old.items) }
     requires limit { limit ≤ 65791 }
     ensures way { IfOk result (λ fate. record { 0 = net_of (map machine_of switches.new.items) told.new.items; 1 = fate_of fate } ≡ behind (over left links.now limit) links.now limit (net_of (map machine_of switches.old.items) told.old.items) switch (frame_in out)) }
+    ensures kept { programs_of (map machine_of switches.new.items) ≡ programs_of (map machine_of switches.old.items) }
     ensures many { length switches.new.items ≡ length switches.old.items }
 {
     match out {
@@ -198,6 +203,7 @@ fn go_over(
     requires short { length at.frame.items ≤ 65791 }
     requires limit { limit ≤ 65791 }
     ensures way { IfOk result (λ fate. record { 0 = net_of (map machine_of switches.new.items) told.new.items; 1 = fate_of fate } ≡ over left links.now limit (net_of (map machine_of switches.old.items) told.old.items) at.switch at.port at.frame.items) }
+    ensures kept { programs_of (map machine_of switches.new.items) ≡ programs_of (map machine_of switches.old.items) }
     ensures many { length switches.new.items ≡ length switches.old.items }
 {
     if left == 0 {
@@ -214,8 +220,8 @@ fn go_over(
 /// port it is lost where the packet has then passed `hops` switches, or where the frame has more
 /// than `link_limit` bytes; else it goes on at the other end.
 ///
-/// Whatever the answer, there are as many switches as before. After want of memory their registers
-/// may have changed in part.
+/// Whatever the answer, there are as many switches as before, and each runs the same program. After
+/// want of memory their registers may have changed in part.
 pub fn carry(
     alloc: Global,
     switches: &mut Vec<Switch>,
@@ -231,6 +237,7 @@ pub fn carry(
     requires limit { link_limit ≤ 65791 }
     requires one { 1 ≤ hops }
     ensures way { IfOk result (λ fate. record { 0 = net_of (map machine_of switches.new.items) told.new.items; 1 = fate_of fate } ≡ travel (hops - 1) links.now link_limit (net_of (map machine_of switches.old.items) told.old.items) arrival.switch arrival.port arrival.frame.items) }
+    ensures kept { programs_of (map machine_of switches.new.items) ≡ programs_of (map machine_of switches.old.items) }
     ensures many { length switches.new.items ≡ length switches.old.items }
 {
     travel(alloc, switches, links, arrival, hops - 1, link_limit, told)
