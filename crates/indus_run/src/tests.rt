@@ -132,6 +132,21 @@ fn step(
     Ok(hop_step(alloc, p, view, tele, sensors)?)
 }
 
+/// The telemetry block by itself, in states that the property has shaped.
+fn telemetry(
+    alloc: Global,
+    p: &Property,
+    tele: &mut TeleState,
+    sensors: &mut SensorState,
+    out: &mut HopResult,
+) -> Result<(), Fail> {
+    if !has_short_reports(p) || !is_shaped(p, tele, sensors) {
+        return Err(Fail::new("the property or its states are not as they should be"));
+    }
+    let hop = view(alloc, 0, true, true);
+    Ok(run_block(alloc, p, &p.tele, &hop, &[], tele, sensors, out)?)
+}
+
 /// The states behind a path over the switches 0, 1 .., and what came of its last hop.
 fn over(
     alloc: Global,
@@ -208,6 +223,34 @@ fn three_pushes_onto_a_list_of_two(rt: HostRuntime) -> Result<(), Fail> {
     assert!(rt; hold(&tele.items, 0, &[(9, 0), (9, 1)]));
     assert!(rt; reports(&last, 0, 0, &[(8, 2), (1, 0), (1, 1)]));
     assert_eq!(rt; last.reports.len(), 1);
+    Ok(())
+}
+
+/// A block with `n = n + 200; report(n); reject;` runs twice: 200, and 400 less 256.
+///
+/// The flag and the reports are added to what is there.
+#[test]
+fn a_block_by_itself(rt: HostRuntime) -> Result<(), Fail> {
+    let alloc = rt.alloc();
+    let mut p = empty(alloc);
+    p.decls.push(tele(alloc, "n", Shape::One(Ty::Bit(8)))?)?;
+    p.tele.push(adds(alloc, "n", number(200))?)?;
+    p.tele
+        .push(Stmt::Report(0, 3, one(alloc, read(alloc, "n")?)?))?;
+    p.tele.push(Stmt::Reject(0))?;
+    let mut values = TeleState::start(alloc, &p)?;
+    let mut sensors = SensorState::start(alloc, &p)?;
+    let mut out = HopResult {
+        rejected: false,
+        reports: Vec::new(alloc),
+    };
+    for (n, want) in [200, 144].into_iter().enumerate() {
+        telemetry(alloc, &p, &mut values, &mut sensors, &mut out)?;
+        assert!(rt; hold(&values.items, 0, &[(8, want)]));
+        assert!(rt; out.rejected);
+        assert!(rt; reports(&out, n, 3, &[(8, want)]));
+    }
+    assert_eq!(rt; out.reports.len(), 2);
     Ok(())
 }
 
