@@ -136,11 +136,11 @@ module _ (h : Hop) where
     stmt_keeps (reject p) i d k = record { tele = k.tele; sensors = k.sensors }
     stmt_keeps (report p n es) i d k = record { tele = k.tele; sensors = k.sensors }
 
-    block_keeps : (ss : Stmts) (i : Items) (d : Doing) → AreShaped h.decls d → AreShaped h.decls (block_run h i ss d)
+    pub block_keeps : (ss : Stmts) (i : Items) (d : Doing) → AreShaped h.decls d → AreShaped h.decls (block_run h i ss d)
     block_keeps done i d k = k
     block_keeps (next s ss) i d k = block_keeps ss i (stmt_run h i s d) (stmt_keeps s i d k)
 
-  pub run_keeps : (ss : Stmts) (d : Doing) → AreShaped h.decls d → AreShaped h.decls (run_of h ss d)
+  run_keeps : (ss : Stmts) (d : Doing) → AreShaped h.decls d → AreShaped h.decls (run_of h ss d)
   run_keeps ss d k = block_keeps ss [] d k
 
 -- ---- the parts of a property

@@ -5,8 +5,8 @@ ghost use Rattle.bit_values.specs.Bits.{IsWord};
 ghost use Rattle.indus_tree.specs.Tree.{Decl, Expr, Property, Stmts};
 ghost use Rattle.indus_tree.specs.State.{Doing, Hop};
 ghost use Rattle.indus_tree.specs.Start.{sensors_start, tele_start};
-ghost use Rattle.indus_tree.specs.Meaning.{exit_part, entry_part, fresh, run_of};
-ghost use Rattle.indus_tree.specs.Reads.{Seen};
+ghost use Rattle.indus_tree.specs.Meaning.{block_run, exit_part, entry_part, fresh};
+ghost use Rattle.indus_tree.specs.Reads.{Items, Seen};
 ghost use Rattle.indus_tree.specs.Shapes.{AreShaped};
 ghost use Rattle.indus_tree.specs.Value.{value_of};
 ghost use Rattle.indus_tree.specs.Words.{SeesWords};
@@ -17,12 +17,13 @@ pub fn values_are_words()
     ensures { (s : Seen) (e : Expr) (w : ℕ) → SeesWords s → IsWord (value_of s e w) }
 {}
 
-/// What variables hold keeps to their declarations, whatever a block does, also one that breaks a
-/// rule of types: words of the declared width, one in a scalar, and no more than a list has room for.
+/// What variables hold keeps to their declarations, whatever a block does, also one in a loop and one
+/// that breaks a rule of types: words of the declared width, one in a scalar, and no more than a list
+/// has room for.
 pub fn variables_keep_their_shapes()
     ensures start { (ds : List Decl) → AreShaped ds (fresh (tele_start ds) (sensors_start ds)) }
-    ensures blocks { (h : Hop) (ss : Stmts) (d : Doing) →
-        AreShaped h.decls d → AreShaped h.decls (run_of h ss d) }
+    ensures blocks { (h : Hop) (items : Items) (ss : Stmts) (d : Doing) →
+        AreShaped h.decls d → AreShaped h.decls (block_run h items ss d) }
     ensures entry { (p : Property) (h : Hop) (d : Doing) →
         AreShaped h.decls d → AreShaped h.decls (entry_part p h d) }
     ensures exit { (p : Property) (h : Hop) (d : Doing) →

@@ -8,5 +8,6 @@ pub mod ShortReports
 pub mod SoundSights
 pub mod StaticWidthsLemmas
 pub mod SeenWidths
+pub mod ShownWidths
 pub mod ValueWidths
 pub mod Served

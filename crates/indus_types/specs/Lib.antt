@@ -5,3 +5,4 @@ pub mod NameTable
 pub mod Facts
 pub mod Fits
 pub mod StaticWidths
+pub mod Views

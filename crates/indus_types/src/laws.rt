@@ -3,6 +3,7 @@
 ghost use Rattle.indus_types.specs.Facts.{EachFine, FineAgrees, ReportsAreShort};
 ghost use Rattle.indus_types.specs.Fits.{KnowsWidths};
 ghost use Rattle.indus_types.specs.StaticWidths.{SightsAreSound, SightsAreSeen, ValuesHaveStaticWidths, PartsAreServed};
+ghost use Rattle.indus_types.specs.Views.{HopsShowDeclared};
 
 /// Of a well-typed property each site is fine by itself.
 pub fn each_is_fine()
@@ -43,4 +44,10 @@ pub fn values_have_static_widths()
 /// The widths that the meaning hands to parts are those that the rules want there.
 pub fn parts_are_served()
     ensures { PartsAreServed }
+{}
+
+/// Where a view has a word of the declared width for each header variable, and a switch contents of
+/// the declared width for each control variable, a hop shows what is declared.
+pub fn hops_show_declared()
+    ensures { HopsShowDeclared }
 {}
