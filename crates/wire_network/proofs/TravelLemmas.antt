@@ -1,9 +1,11 @@
 -- A passage of one switch, in the way of a packet.
-use Rattle.std.proofs.Common.{◌≡◌, ℕ, zero, suc, ◌<◌, List, length, Option, get_or, refl, sym, ap, ap₂, ◌∙◌}
+use Rattle.std.proofs.Common.{◌≡◌, ℕ, zero, suc, ◌<◌, List, length, map, Option, get_or, refl, sym, ap, ap₂, ◌∙◌}
 use Rattle.std.specs.Prelude.{slice_get, slice_set}
 use Rattle.std.proofs.Math.Seq.{map-set_same}
+use Rattle.std.proofs.lemmas.List.{map-set, get_or-map}
 use Rattle.std.proofs.lemmas.Option.{slice_get-get_or}
-use Rattle.wire_machine.specs.Machine.{Machine}
+use Rattle.wire_machine.specs.Machine.{Machine, machine_of}
+use Rattle.wire_machine.specs.declared.switch.Switch.{Switch}
 use Rattle.wire_network.specs.Fates.{programs_of}
 use Rattle.wire_network.specs.Travel.{Net, passage, passed, behind, at_switch, over, travel, no_machine}
 use Rattle.wire_network.specs.declared.link.Link.{Link}
@@ -18,6 +20,13 @@ goes_on k links limit n n' i port frame out lt net goes =
     ap₂ (λ (n : Net) (o : Option (ℕ × List ℕ)). behind (over k links limit) links limit n i o) net goes
     ∙ sym (at_here k links limit n i port frame ∙ ap (at_switch (over k links limit) links limit n i port frame) (slice_get-get_or n.switches i no_machine lt))
 
--- a switch that keeps its program leaves all programs as they are
-pub set_keeps : (ms : List Machine) (i : ℕ) (m : Machine) → m.parts ≡ (get_or ms i no_machine).parts → programs_of (slice_set ms i m) ≡ programs_of ms
-set_keeps ms i m e = map-set_same (λ (s : Machine). s.parts) ms i m no_machine e
+module _ (switches : List Switch) (i : ℕ) (s : Switch) (is : s ≡ get_or switches i s) (lt : i < length switches) where
+  -- the switch at a place, as a machine
+  pub machine_at : machine_of s ≡ get_or (map machine_of switches) i no_machine
+  machine_at = ap machine_of is ∙ sym (get_or-map machine_of switches i s no_machine lt)
+
+  -- another there with the same program leaves all programs as they are
+  pub set_keeps : (t : Switch) → (machine_of t).parts ≡ (machine_of s).parts → programs_of (map machine_of (slice_set switches i t)) ≡ programs_of (map machine_of switches)
+  set_keeps t e =
+      ap programs_of (map-set machine_of switches i t)
+      ∙ map-set_same (λ (m : Machine). m.parts) (map machine_of switches) i (machine_of t) no_machine (e ∙ ap (λ (m : Machine). m.parts) machine_at)
