@@ -1,12 +1,8 @@
 -- Which names a property declares, and which the language keeps for itself.
 use Rattle.std.specs.Prelude.{ℕ, Bool, false, ◌||◌, List, [], ◌∷◌, codes}
 use Rattle.lex_text.specs.Names.{same_text}
+use Rattle.lex_text.specs.Marks.{is_one_of}
 use Rattle.indus_tree.specs.Tree.{Decl}
-
--- the text is one of these
-abbrev pub is_one_of : List (List ℕ) → List ℕ → Bool
-is_one_of [] x = false
-is_one_of (w ∷ ws) x = same_text x w || is_one_of ws x
 
 -- the name is declared
 abbrev pub is_declared : List Decl → List ℕ → Bool

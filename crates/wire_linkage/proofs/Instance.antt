@@ -8,7 +8,7 @@ use Rattle.p4_tree.specs.Parsing.{Field, Reading, Turned, ends, leads, parser_en
 use Rattle.p4_tree.specs.Parts.{Roots, Parts, path_under, expr_under, stmt_under, stmts_under, else_under, case_under, field_of, parts_of}
 use Rattle.p4_tree.specs.declared.statement.Op.TheVariants as p4
 use Rattle.indus_tree.specs.Tree as indus
-use Rattle.indus_tree.specs.Names as names
+use Rattle.lex_text.specs.Marks.{is_one_of as is_name_of}
 use Rattle.wire_linker.specs.WireProgram.{number, send_by, wire_ingress, wire_program}
 use Rattle.wire_linker.specs.Monitor.{tele_header, tele_name, rejected_name, count_name, rejects_register, lowered_op, lowered, lowered_stmt, lowered_block, lowered_else, is_one_of, entry_stmts, entry_stmt, end_stmts, check_stmts, check_stmt, exit_stmts, exit_stmt}
 use Rattle.wire_linker.specs.Linked as program
@@ -157,7 +157,7 @@ joined_names indus.done b = refl
 joined_names (indus.next s ss) b = ap₂ (λ (x y : List (List ℕ)). x ++ y) (stmt_names s) (joined_names ss b)
 
 abbrev IsKnown : List ℕ → Type 0
-IsKnown x = (names.is_one_of (names_of wire_program) x || is_mine x) ≡ true
+IsKnown x = (is_name_of (names_of wire_program) x || is_mine x) ≡ true
 
 field_names : (ds : List indus.Decl) (rest : List (List ℕ)) → AllByRecursion IsKnown rest → AllByRecursion IsKnown (map (λ f. f.1) (map program.tele_field ds) ++ rest)
 field_names [] rest h = h
