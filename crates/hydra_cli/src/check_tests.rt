@@ -3,6 +3,7 @@
 use super::*;
 use outside::{MemSink, MemStore};
 use std::alloc::AllocError;
+use std::process::Abort;
 use std::test::Fail;
 
 /// What `check p` answers and puts, where the store's and the sink's calls of these numbers fail.
@@ -24,59 +25,61 @@ fn checked(
 /// No call fails.
 const NONE: (&[u64], &[u64]) = (&[], &[]);
 
-#[test]
-fn properties_need_so_much(rt: HostRuntime) -> Result<(), Fail> {
-    let rows = [
-        ("{} {} {}", "ok bytes 1 weight 0\n"),
-        (
-            "tele bit<8> n; {} {n = n + 1;} {if (n == 3) {reject;}}",
-            "ok bytes 2 weight 9\n",
-        ),
-        (
-            "tele bit<8> tenant; tele bit<9>[4] ports; tele bool seen; {} {} {}",
-            "ok bytes 8 weight 0\n",
-        ),
-        (
-            "sensor bit<8>[5] cells; sensor bool b = true; {} {} {report();}",
-            "ok bytes 1 weight 7\n",
-        ),
-        (
-            "tele bit<1>[255] a; tele bit<8> n; {} {for (x in a) {for (y in a) {n = n + 1;}}} {}",
-            "ok bytes 35 weight 325636\n",
-        ),
-    ];
-    for (property, line) in rows {
-        let (status, out) = checked(rt.alloc(), property.as_bytes(), NONE)?;
+/// Each row of a table is a property and what is said of it, with ` => ` between.
+fn rows(rt: &impl Abort, alloc: Global, wanted: Status, table: &str) -> Result<(), Fail> {
+    for row in table.lines() {
+        let (property, said) = match row.split_once(" => ") {
+            Some(sides) => sides,
+            None => return Err(Fail::new("a row has one side")),
+        };
+        let (status, out) = checked(alloc, property.as_bytes(), NONE)?;
+        let line = format!(in alloc; "{said}\n")?;
         assert_eq!(rt; out.taken(), line.as_bytes());
-        assert_eq!(rt; status, Status::Done);
+        assert_eq!(rt; status, wanted);
     }
     Ok(())
 }
 
 #[test]
+fn properties_need_so_much(rt: HostRuntime) -> Result<(), Fail> {
+    rows(
+        &rt,
+        rt.alloc(),
+        Status::Done,
+        "\
+{} {} {} => ok bytes 1 weight 0
+tele bit<8> n; {} {n = n + 1;} {if (n == 3) {reject;}} => ok bytes 2 weight 9
+tele bit<8> tenant; tele bit<9>[4] ports; tele bool seen; {} {} {} => ok bytes 8 weight 0
+sensor bit<8>[5] cells; sensor bool b = true; {} {} {report();} => ok bytes 1 weight 7
+tele bit<1>[255] a; tele bit<8> n; {} {for (x in a) {for (y in a) {n = n + 1;}}} {} => ok bytes 35 weight 325636",
+    )
+}
+
+#[test]
 fn refusals_name_their_place(rt: HostRuntime) -> Result<(), Fail> {
-    let rows: [(&[u8], &str); 11] = [
-        (b"tele bit<8> n {}", "Syntax 6"),
-        (b"tele bit<8>", "Syntax 5"),
-        (b"tele bit<8> n; {m = 1;} {} {}", "Type 8 NoSuchName"),
-        (b"tele bit<8> n; {reject;} {} {}", "Type 8 WrongBlock"),
-        (b"tele bit<8> n; {n = 256;} {} {}", "Type 10 BadSize"),
-        (
-            b"tele bit<8> n; {n = switch_id;} {} {}",
-            "Type 10 WidthDiffers",
-        ),
-        (b"control bit<8> c; {c = 1;} {} {}", "Type 8 NotWritable"),
-        (b"tele \"n\"; {} {} {}", "Lex BadChar 5"),
-        (b"{} {} {} /*", "Lex OpenComment 9"),
-        (b"{} \xff", "Lex NotUtf8 3"),
-        (b"tele bit<129w1> n; {} {} {}", "Lex NumberTooWide 9"),
-    ];
-    for (property, cause) in rows {
-        let line = format!(in rt.alloc(); "hydra: property p {cause}\n")?;
-        let (status, out) = checked(rt.alloc(), property, NONE)?;
-        assert_eq!(rt; out.taken(), line.as_bytes());
-        assert_eq!(rt; status, Status::BadProperty);
-    }
+    let alloc = rt.alloc();
+    rows(
+        &rt,
+        alloc,
+        Status::BadProperty,
+        "\
+tele bit<8> n {} => hydra: property p Syntax 6
+tele bit<8> => hydra: property p Syntax 5
+tele bit<8> n; {m = 1;} {} {} => hydra: property p Type 8 NoSuchName
+tele bit<8> n; {reject;} {} {} => hydra: property p Type 8 WrongBlock
+tele bit<8> n; {n = 256;} {} {} => hydra: property p Type 10 BadSize
+tele bit<8> n; {n = switch_id;} {} {} => hydra: property p Type 10 WidthDiffers
+control bit<8> c; {c = 1;} {} {} => hydra: property p Type 8 NotWritable
+tele \"n\"; {} {} {} => hydra: property p Lex BadChar 5
+{} {} {} /* => hydra: property p Lex OpenComment 9
+tele bit<129w1> n; {} {} {} => hydra: property p Lex NumberTooWide 9",
+    )?;
+    let (status, out) = checked(alloc, b"{} \xff", NONE)?;
+    assert_eq!(rt;
+        out.taken(),
+        b"hydra: property p Lex NotUtf8 3\n".as_slice()
+    );
+    assert_eq!(rt; status, Status::BadProperty);
     Ok(())
 }
 

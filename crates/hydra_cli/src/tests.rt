@@ -237,51 +237,46 @@ fn statuses_are_the_numbers_from_0_on(rt: HostRuntime) {
 }
 
 /// The words of s2's linked program for `LEAVES`, typed from the grammar of P4.
-const S2: [&str; 27] = [
-    "header hydra_tele_t { bit < 8 > hydra_mark ; bit < 8 > hydra_v_n ; }",
-    "register < bit < 32 > > ( 1 ) hydra_rejects ;",
-    "struct metadata { } struct headers { hydra_tele_t hydra_tele ; }",
-    "parser WireParser ( packet_in packet , out headers hdr , inout metadata meta ,",
-    "inout standard_metadata_t standard_metadata ) {",
-    "state start { transition select ( standard_metadata . ingress_port ) {",
-    "1 : hydra_taken ; 2 : hydra_taken ; default : hydra_start ; } }",
-    "state hydra_taken { packet . extract ( hdr . hydra_tele ) ; transition hydra_start ; }",
-    "state hydra_start { transition accept ; } }",
-    "control WireVerify ( inout headers hdr , inout metadata meta ) { apply { } }",
-    "control WireIngress ( inout headers hdr , inout metadata meta ,",
-    "inout standard_metadata_t standard_metadata ) { apply {",
-    "if ( ( ! ( ( standard_metadata . ingress_port == 1 ) ||",
-    "( ( standard_metadata . ingress_port == 2 ) || false ) ) ) ) {",
-    "hdr . hydra_tele . setValid ( ) ; hdr . hydra_tele . hydra_mark = 8w72 ; }",
-    "if ( ( standard_metadata . ingress_port == 1 ) ) { standard_metadata . egress_spec = 2 ; }",
-    "else { standard_metadata . egress_spec = 1 ; } } }",
-    "control WireEgress ( inout headers hdr , inout metadata meta ,",
-    "inout standard_metadata_t standard_metadata ) { apply {",
-    "if ( ( standard_metadata . egress_spec != 511 ) ) {",
-    "hdr . hydra_tele . hydra_v_n = ( hdr . hydra_tele . hydra_v_n + 8w1 ) ;",
-    "if ( ( ! ( ( standard_metadata . egress_port == 1 ) ||",
-    "( ( standard_metadata . egress_port == 2 ) || false ) ) ) ) {",
-    "bool hydra_rejected = false ;",
-    "if ( ( hdr . hydra_tele . hydra_v_n == 8w2 ) ) { hydra_rejected = true ; }",
-    "hdr . hydra_tele . setInvalid ( ) ; if ( hydra_rejected ) {",
-    "bit < 32 > hydra_count ; hydra_rejects . read ( hydra_count , 0 ) ;",
-];
-
-/// The words that follow.
-const S2_END: [&str; 6] = [
-    "hydra_rejects . write ( 0 , ( hydra_count + 1 ) ) ; mark_to_drop ( standard_metadata ) ; }",
-    "} } } } control WireCompute ( inout headers hdr , inout metadata meta ) { apply { } }",
-    "control WireDeparser ( packet_out packet , in headers hdr ) {",
-    "apply { packet . emit ( hdr . hydra_tele ) ; } }",
-    "V1Switch ( WireParser ( ) , WireVerify ( ) , WireIngress ( ) , WireEgress ( ) ,",
-    "WireCompute ( ) , WireDeparser ( ) ) main ;",
-];
+const S2: &str = "\
+header hydra_tele_t { bit < 8 > hydra_mark ; bit < 8 > hydra_v_n ; }
+register < bit < 32 > > ( 1 ) hydra_rejects ;
+struct metadata { } struct headers { hydra_tele_t hydra_tele ; }
+parser WireParser ( packet_in packet , out headers hdr , inout metadata meta ,
+inout standard_metadata_t standard_metadata ) {
+state start { transition select ( standard_metadata . ingress_port ) {
+1 : hydra_taken ; 2 : hydra_taken ; default : hydra_start ; } }
+state hydra_taken { packet . extract ( hdr . hydra_tele ) ; transition hydra_start ; }
+state hydra_start { transition accept ; } }
+control WireVerify ( inout headers hdr , inout metadata meta ) { apply { } }
+control WireIngress ( inout headers hdr , inout metadata meta ,
+inout standard_metadata_t standard_metadata ) { apply {
+if ( ( ! ( ( standard_metadata . ingress_port == 1 ) ||
+( ( standard_metadata . ingress_port == 2 ) || false ) ) ) ) {
+hdr . hydra_tele . setValid ( ) ; hdr . hydra_tele . hydra_mark = 8w72 ; }
+if ( ( standard_metadata . ingress_port == 1 ) ) { standard_metadata . egress_spec = 2 ; }
+else { standard_metadata . egress_spec = 1 ; } } }
+control WireEgress ( inout headers hdr , inout metadata meta ,
+inout standard_metadata_t standard_metadata ) { apply {
+if ( ( standard_metadata . egress_spec != 511 ) ) {
+hdr . hydra_tele . hydra_v_n = ( hdr . hydra_tele . hydra_v_n + 8w1 ) ;
+if ( ( ! ( ( standard_metadata . egress_port == 1 ) ||
+( ( standard_metadata . egress_port == 2 ) || false ) ) ) ) {
+bool hydra_rejected = false ;
+if ( ( hdr . hydra_tele . hydra_v_n == 8w2 ) ) { hydra_rejected = true ; }
+hdr . hydra_tele . setInvalid ( ) ; if ( hydra_rejected ) {
+bit < 32 > hydra_count ; hydra_rejects . read ( hydra_count , 0 ) ;
+hydra_rejects . write ( 0 , ( hydra_count + 1 ) ) ; mark_to_drop ( standard_metadata ) ; }
+} } } } control WireCompute ( inout headers hdr , inout metadata meta ) { apply { } }
+control WireDeparser ( packet_out packet , in headers hdr ) {
+apply { packet . emit ( hdr . hydra_tele ) ; } }
+V1Switch ( WireParser ( ) , WireVerify ( ) , WireIngress ( ) , WireEgress ( ) ,
+WireCompute ( ) , WireDeparser ( ) ) main ;";
 
 #[test]
 fn linked_text_is_the_words_of_the_grammar(rt: HostRuntime) -> Result<(), Fail> {
     let alloc = rt.alloc();
     let mut text = String::new(alloc);
-    for line in S2.iter().chain(S2_END.iter()) {
+    for line in S2.lines() {
         for word in line.split(' ') {
             text.push_str(word)?;
             text.push('\n')?;

@@ -19,8 +19,3 @@ mod stmt_rules;
 pub use indus_scopes::scope::{find, same};
 pub use property::first_fault;
 pub use rule::Rule;
-
-#[cfg(test)]
-mod places;
-#[cfg(test)]
-mod rows;

@@ -17,6 +17,3 @@ mod shape;
 pub use hop::hop_step;
 pub use run::run_block;
 pub use shape::{has_short_reports, is_shaped};
-
-#[cfg(test)]
-mod tests;

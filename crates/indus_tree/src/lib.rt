@@ -18,8 +18,3 @@ mod tree;
 
 pub use laws::{values_are_words, variables_keep_their_shapes};
 pub use tree::{Decl, DeclKind, Expr, Op, Property, Shape, Stmt, Ty};
-
-#[cfg(test)]
-mod rows;
-#[cfg(test)]
-mod tests;

@@ -5,7 +5,7 @@
 //! telemetry's bits, the weight and the reads of a control variable. `laws` says what well-typedness
 //! says of a tree.
 //!
-//! The rules are those of `indus_rules`; `specs/Sums`, `Facts`, `Fits` and `StaticWidths` are the words
+//! The rules are those of `indus_rules`; `specs/Sums`, `Facts`, `Fits`, `StaticWidths` and `Views` are the words
 //! of this crate.
 //!
 //! Follows: "Hydra: Effective Runtime Network Verification", SIGCOMM 2023; grammar, rules and sums are
@@ -24,10 +24,3 @@ mod weight;
 pub use fault::TypeFault;
 pub use indus_rules::Rule;
 pub use typed::{TypedProperty, check_property};
-
-#[cfg(test)]
-mod rows;
-#[cfg(test)]
-mod samples;
-#[cfg(test)]
-mod tests;

@@ -24,6 +24,3 @@ pub use reads::held_width;
 pub use state::{ControlValue, Env, HopResult, HopView, Report, SensorState, TeleState};
 pub use values::{eval_expr, own_width, value_of, values_of};
 pub use words::{either_width, holds, shape_size, sound_width, word_at};
-
-#[cfg(test)]
-mod tests;

@@ -20,6 +20,3 @@ mod seen;
 pub use halt::{Halt, expect};
 pub use key::{Key, mark, reserved};
 pub use seen::{is_inclusion, is_key, is_named, is_text, key_at, name_at, number_at};
-
-#[cfg(test)]
-mod tests;

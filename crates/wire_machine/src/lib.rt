@@ -20,8 +20,6 @@ mod rest;
 mod select;
 mod states;
 mod switch;
-#[cfg(test)]
-mod tests;
 mod write;
 mod writer;
 

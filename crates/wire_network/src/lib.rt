@@ -11,8 +11,6 @@
 #![tactic(auto)]
 
 mod link;
-#[cfg(test)]
-mod tests;
 mod way;
 
 pub use link::{Arrival, Fate, Link, Told};

@@ -18,6 +18,3 @@ mod statement;
 mod word;
 
 pub use program::program_words;
-
-#[cfg(test)]
-mod tests;

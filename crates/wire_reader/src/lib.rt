@@ -19,6 +19,3 @@ mod token;
 
 pub use fault::SmallFault;
 pub use read::read_small;
-
-#[cfg(test)]
-mod tests;

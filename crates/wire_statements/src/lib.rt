@@ -17,8 +17,6 @@ mod fields;
 mod registers;
 mod run;
 mod statements;
-#[cfg(test)]
-mod tests;
 
 pub use calls::{assign, standard_path};
 pub use eval::{value_of, values_of, width};

@@ -2,10 +2,10 @@
 
 ghost use Rattle.lex_text.specs.Places.{AreIn};
 
-use crate::{
+use lex_text::{Literal, Token, Words, tokens};
+use lex_words::{
     Key, is_inclusion, is_key, is_named, is_text, key_at, mark, name_at, number_at, reserved,
 };
-use lex_text::{Literal, Token, Words, tokens};
 use std::process::Abort;
 use std::test::Fail;
 

@@ -1,6 +1,6 @@
 //! Tables of texts, with their tokens or their fault worked out by hand.
 
-use super::*;
+use lex_text::{LexFault, Literal, Name, Token, TokenKind, Words, tokens};
 use std::alloc::Global;
 use std::process::Abort;
 use std::test::Fail;

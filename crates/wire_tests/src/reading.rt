@@ -1,10 +1,10 @@
 //! Texts that are of the grammar and texts that are not, and a tree with its places.
 
-use crate::{SmallFault, read_small};
 use indus_tree::{Decl, Expr, Op, Property, Stmt};
 use std::alloc::Global;
 use std::process::Abort;
 use std::test::Fail;
+use wire_reader::{SmallFault, read_small};
 
 /// Whether the text is read.
 fn is_read(rt: &impl Abort, alloc: Global, text: &[u8]) -> Result<bool, Fail> {
@@ -21,20 +21,21 @@ fn is_read(rt: &impl Abort, alloc: Global, text: &[u8]) -> Result<bool, Fail> {
 #[test]
 fn texts_of_the_grammar(rt: HostRuntime) -> Result<(), Fail> {
     let alloc = rt.alloc();
-    for text in [
-        "{}{}{}",
-        " {\t}\r{\n} {} ",
-        "{}{}{reject;reject;}",
-        "tele bit<8> n;{}{n=n+1;}{if(n==3){reject;}}",
-        "tele bit < 8 > n ; { } { n = n + 1 ; } { if ( n == 3 ) { reject ; } }",
-        "tele bit<8> n; {n = 255;} {} {}",
-        "tele bit<8> n; {n = 007;} {} {}",
-        "tele bit<8> n; {n = 0000000000000000000000000000000000000000255 + n;} {} {}",
-        "tele bit<8> _N9; {_N9 = _N9;} {} {}",
-        "tele bit<8> bits; tele bit<8> ifs; {bits = ifs;} {} {}",
-        "tele bit<8> n; {if (n == n + 1 + n) {}} {n = 1; n = 2;} {if (n == 0) {if (n == 1) {n = 2;} reject;}}",
-        "tele bit<8> a; tele bit<8> b; tele bit<8> c; tele bit<8> d; tele bit<8> e; tele bit<8> f; tele bit<8> g; {}{}{}",
-    ] {
+    assert!(rt; is_read(&rt, alloc, b" {\t}\r{\n} {} ")?);
+    for text in "\
+{}{}{}
+{}{}{reject;reject;}
+tele bit<8> n;{}{n=n+1;}{if(n==3){reject;}}
+tele bit < 8 > n ; { } { n = n + 1 ; } { if ( n == 3 ) { reject ; } }
+tele bit<8> n; {n = 255;} {} {}
+tele bit<8> n; {n = 007;} {} {}
+tele bit<8> n; {n = 0000000000000000000000000000000000000000255 + n;} {} {}
+tele bit<8> _N9; {_N9 = _N9;} {} {}
+tele bit<8> bits; tele bit<8> ifs; {bits = ifs;} {} {}
+tele bit<8> n; {if (n == n + 1 + n) {}} {n = 1; n = 2;} {if (n == 0) {if (n == 1) {n = 2;} reject;}}
+tele bit<8> a; tele bit<8> b; tele bit<8> c; tele bit<8> d; tele bit<8> e; tele bit<8> f; tele bit<8> g; {}{}{}"
+        .lines()
+    {
         assert!(rt; is_read(&rt, alloc, text.as_bytes())?, "{text}");
     }
     Ok(())
@@ -43,57 +44,58 @@ fn texts_of_the_grammar(rt: HostRuntime) -> Result<(), Fail> {
 #[test]
 fn texts_outside_the_grammar(rt: HostRuntime) -> Result<(), Fail> {
     let alloc = rt.alloc();
-    for text in [
-        "",
-        "{}{}",
-        "{}{}{}{}",
-        "{}{}{};",
-        "{}{}{} n",
-        "{}{}{}\u{a0}",
-        "{}{}{} // a comment",
-        "/* a comment */ {}{}{}",
-        "tele bit<08> n; {}{}{}",
-        "tele bit<16> n; {}{}{}",
-        "tele bit<8>= n; {}{}{}",
-        "tele bit<<8> n; {}{}{}",
-        "tele bit<8>> n; {}{}{}",
-        "telebit<8> n; {}{}{}",
-        "tele bit<8> 8n; {}{}{}",
-        "tele bit<8> n {}{}{}",
-        "tele bit<8> n; tele bit<8> n; {}{}{}",
-        "tele bit<8> a; tele bit<8> b; tele bit<8> c; tele bit<8> d; tele bit<8> e; tele bit<8> f; tele bit<8> g; tele bit<8> h; {}{}{}",
-        "sensor bit<8> s; {} {} {}",
-        "tele bit<8> if; {}{}{}",
-        "tele bit<8> sensor; {}{}{}",
-        "tele bit<8> edition; {}{}{}",
-        "tele bit<8> first_hop; {}{}{}",
-        "tele bit<8> switch_id; {}{}{}",
-        "{reject;}{}{}",
-        "{}{reject;}{}",
-        "{m = 1;}{}{}",
-        "tele bit<8> n; {m = 1;} {} {}",
-        "tele bit<8> n; {n = m;} {} {}",
-        "tele bit<8> n; {if (m == 1) {}} {} {}",
-        "tele bit<8> n; {n = 256;} {} {}",
-        "tele bit<8> n; {n = 1_0;} {} {}",
-        "tele bit<8> n; {n = 8w1;} {} {}",
-        "tele bit<8> n; {n = 0x1;} {} {}",
-        "tele bit<8> n; {n = 1 - 1;} {} {}",
-        "tele bit<8> n; {n = n ++ n;} {} {}",
-        "tele bit<8> n; {n = + 1;} {} {}",
-        "tele bit<8> n; {n = (1);} {} {}",
-        "tele bit<8> n; {n = ;} {} {}",
-        "tele bit<8> n; {n == 1;} {} {}",
-        "tele bit<8> n; {n = 1} {} {}",
-        "tele bit<8> n; {if (n = 1) {}} {} {}",
-        "tele bit<8> n; {if (n = = 1) {}} {} {}",
-        "tele bit<8> n; {if (n === 1) {}} {} {}",
-        "tele bit<8> n; {if (1 == n) {}} {} {}",
-        "tele bit<8> n; {if n == 1 {}} {} {}",
-        "tele bit<8> n; {if (n == 1) {} else {}} {} {}",
-        "tele bit<8> n; {if (n == 1) n = 2;} {} {}",
-        "{} tele bit<8> n; {} {}",
-    ] {
+    for text in "\
+{}{}
+
+{}{}{}{}
+{}{}{};
+{}{}{} n
+{}{}{}\u{a0}
+{}{}{} // a comment
+/* a comment */ {}{}{}
+tele bit<08> n; {}{}{}
+tele bit<16> n; {}{}{}
+tele bit<8>= n; {}{}{}
+tele bit<<8> n; {}{}{}
+tele bit<8>> n; {}{}{}
+telebit<8> n; {}{}{}
+tele bit<8> 8n; {}{}{}
+tele bit<8> n {}{}{}
+tele bit<8> n; tele bit<8> n; {}{}{}
+tele bit<8> a; tele bit<8> b; tele bit<8> c; tele bit<8> d; tele bit<8> e; tele bit<8> f; tele bit<8> g; tele bit<8> h; {}{}{}
+sensor bit<8> s; {} {} {}
+tele bit<8> if; {}{}{}
+tele bit<8> sensor; {}{}{}
+tele bit<8> edition; {}{}{}
+tele bit<8> first_hop; {}{}{}
+tele bit<8> switch_id; {}{}{}
+{reject;}{}{}
+{}{reject;}{}
+{m = 1;}{}{}
+tele bit<8> n; {m = 1;} {} {}
+tele bit<8> n; {n = m;} {} {}
+tele bit<8> n; {if (m == 1) {}} {} {}
+tele bit<8> n; {n = 256;} {} {}
+tele bit<8> n; {n = 1_0;} {} {}
+tele bit<8> n; {n = 8w1;} {} {}
+tele bit<8> n; {n = 0x1;} {} {}
+tele bit<8> n; {n = 1 - 1;} {} {}
+tele bit<8> n; {n = n ++ n;} {} {}
+tele bit<8> n; {n = + 1;} {} {}
+tele bit<8> n; {n = (1);} {} {}
+tele bit<8> n; {n = ;} {} {}
+tele bit<8> n; {n == 1;} {} {}
+tele bit<8> n; {n = 1} {} {}
+tele bit<8> n; {if (n = 1) {}} {} {}
+tele bit<8> n; {if (n = = 1) {}} {} {}
+tele bit<8> n; {if (n === 1) {}} {} {}
+tele bit<8> n; {if (1 == n) {}} {} {}
+tele bit<8> n; {if n == 1 {}} {} {}
+tele bit<8> n; {if (n == 1) {} else {}} {} {}
+tele bit<8> n; {if (n == 1) n = 2;} {} {}
+{} tele bit<8> n; {} {}"
+        .lines()
+    {
         assert!(rt; !is_read(&rt, alloc, text.as_bytes())?, "{text}");
     }
     Ok(())

@@ -1,5 +1,8 @@
-use super::*;
 use lex_text::{Literal, Name};
+use p4_tree::{
+    Arg, Control, Expr, Keyset, Local, Op, PTy, Param, Parser, ParserState, Program, Register,
+    Stmt, Top, Transition, Way,
+};
 use std::alloc::{AllocError, Global};
 use std::test::Fail;
 

@@ -1,61 +1,27 @@
 //! Two switches and a cable, by hand. Each switch sends all frames out by port 2, and tells the port
 //! by which a frame came.
 
-use crate::{Arrival, Fate, Link, Told, carry};
+use crate::nodes::{control, digest, number, param, program, read, set};
 use bit_values::Bits;
-use lex_text::{Literal, Name};
-use p4_tree::{Arg, Control, Expr, PTy, Param, Program, Stmt, Top, Way};
+use p4_tree::{Program, Way};
 use std::alloc::{AllocError, Global};
 use std::test::Fail;
 use wire_machine::Switch;
-
-fn path(alloc: Global, names: &[&str]) -> Result<Vec<Name>, AllocError> {
-    let mut path = Vec::new(alloc);
-    for name in names {
-        path.push(Name::new(alloc, name)?)?;
-    }
-    Ok(path)
-}
-
-fn num(value: u128) -> Expr {
-    Expr::Num(0, Literal { width: 0, value })
-}
-
-fn param(alloc: Global, name: &str) -> Result<Param, AllocError> {
-    let name = Name::new(alloc, name)?;
-    Ok(Param {
-        at: 0,
-        way: Way::Both,
-        ty: PTy::Bool,
-        name,
-    })
-}
+use wire_network::{Arrival, Fate, Link, Told, carry};
 
 fn all_by_port_two(alloc: Global) -> Result<Program, AllocError> {
     let mut params = Vec::new(alloc);
-    params.push(param(alloc, "h")?)?;
-    params.push(param(alloc, "m")?)?;
-    params.push(param(alloc, "std")?)?;
-    let mut apply = Vec::new(alloc);
-    apply.push(Stmt::Assign(0, path(alloc, &["std", "egress_spec"])?, num(2)))?;
+    for name in "h m std".split(' ') {
+        params.push(param(alloc, Way::Both, "any", name)?)?;
+    }
     let mut values = Vec::new(alloc);
-    values.push(Expr::Path(0, path(alloc, &["std", "ingress_port"])?))?;
-    let mut args = Vec::new(alloc);
-    args.push(Arg::One(0, num(1)))?;
-    args.push(Arg::Many(0, values))?;
-    apply.push(Stmt::Call(0, path(alloc, &["digest"])?, args))?;
-    let name = Name::new(alloc, "Ing")?;
-    let ingress = Control {
-        at: 0,
-        name,
-        params,
-        locals: Vec::new(alloc),
-        apply,
-    };
+    values.push(read(alloc, "std.ingress_port")?)?;
+    let mut apply = Vec::new(alloc);
+    apply.push(set(alloc, "std.egress_spec", number(2))?)?;
+    apply.push(digest(alloc, number(1), values)?)?;
     let mut tops = Vec::new(alloc);
-    tops.push(Top::Ctl(0, ingress))?;
-    let main = path(alloc, &["", "", "Ing", "", "", ""])?;
-    Ok(Program { at: 0, tops, main })
+    tops.push(control(alloc, "Ing", params, apply)?)?;
+    program(alloc, tops, "  Ing   ")
 }
 
 // The switch at which a frame arrives, by port 1; the frame's length; the hop limit and the link's

@@ -1,0 +1,13 @@
+//! Worked rows of the rules of types of Indus and of the sums, and tests of `check_property`.
+#![tactic(auto)]
+
+#[cfg(test)]
+mod checks;
+#[cfg(test)]
+mod place_rows;
+#[cfg(test)]
+mod rule_rows;
+#[cfg(test)]
+mod samples;
+#[cfg(test)]
+mod sum_rows;

@@ -1,0 +1,19 @@
+//! Tests of P4 trees and of the wire program: its reader, linker, printer and machine.
+#![tactic(auto)]
+
+#[cfg(test)]
+mod linking;
+#[cfg(test)]
+mod machine;
+#[cfg(test)]
+mod network;
+#[cfg(test)]
+mod nodes;
+#[cfg(test)]
+mod printing;
+#[cfg(test)]
+mod reading;
+#[cfg(test)]
+mod statements;
+#[cfg(test)]
+mod trees;

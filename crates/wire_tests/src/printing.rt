@@ -1,0 +1,262 @@
+//! Texts of programs, written by hand from the grammar.
+
+use crate::nodes::{
+    binary, call, control, digest, if_else, named, number, param, path, program, read, set, two,
+};
+use lex_text::{Literal, Name};
+use p4_tree::{
+    Control, Expr, Keyset, Local, Op, PTy, Parser, ParserState, Program, Register, Stmt, Top,
+    Transition, Way,
+};
+use std::alloc::{AllocError, Global};
+use wire_printer::program_words;
+
+/// The words of a line of words, which have one blank between.
+fn text_of_line(alloc: Global, line: &str) -> Result<String, AllocError> {
+    let mut text = String::new(alloc);
+    for word in line.split(' ') {
+        text.push_str(word)?;
+        text.push_str("\n")?;
+    }
+    Ok(text)
+}
+
+fn wide(width: u8, value: u128) -> Expr {
+    Expr::Num(0, Literal { width, value })
+}
+
+fn operation(alloc: Global, op: Op) -> Result<Expr, AllocError> {
+    binary(alloc, op, read(alloc, "a")?, read(alloc, "b")?)
+}
+
+/// A program of one control that does one statement.
+fn one_statement(alloc: Global, s: Stmt) -> Result<Program, AllocError> {
+    let mut apply = Vec::new(alloc);
+    apply.push(s)?;
+    let mut tops = Vec::new(alloc);
+    tops.push(control(alloc, "c", Vec::new(alloc), apply)?)?;
+    program(alloc, tops, "c")
+}
+
+/// Whether the statement's words are those of the line.
+fn gives(alloc: Global, s: Stmt, line: &str) -> Result<bool, AllocError> {
+    let mut want = text_of_line(alloc, "control c ( ) { apply {")?;
+    want.push_str(text_of_line(alloc, line)?.as_str())?;
+    want.push_str(text_of_line(alloc, "} } V1Switch ( c ( ) ) main ;")?.as_str())?;
+    let text = program_words(alloc, &one_statement(alloc, s)?)?;
+    Ok(text.as_str() == want.as_str())
+}
+
+const OPERATORS: [Op; 17] = [
+    Op::Mul,
+    Op::Add,
+    Op::Sub,
+    Op::Concat,
+    Op::Shl,
+    Op::Shr,
+    Op::BitAnd,
+    Op::BitXor,
+    Op::BitOr,
+    Op::Less,
+    Op::LessEq,
+    Op::More,
+    Op::MoreEq,
+    Op::Equal,
+    Op::Differ,
+    Op::Both,
+    Op::Either,
+];
+
+#[test]
+fn operators(rt: HostRuntime) -> Result<(), AllocError> {
+    let alloc = rt.alloc();
+    let signs = "* + - ++ << >> & ^ | < <= > >= == != && ||".split(' ');
+    for (op, sign) in OPERATORS.into_iter().zip(signs) {
+        let s = set(alloc, "x", operation(alloc, op)?)?;
+        let line = format!(in alloc; "x = ( a {sign} b ) ;")?;
+        assert!(rt; gives(alloc, s, line.as_str())?, "{line}");
+    }
+    Ok(())
+}
+
+#[test]
+fn assignments(rt: HostRuntime) -> Result<(), AllocError> {
+    let alloc = rt.alloc();
+    let cast = Expr::Cast(0, PTy::Bit(9), Box::new(alloc, operation(alloc, Op::Add)?)?);
+    let s = set(alloc, "m.f", cast)?;
+    assert!(rt; gives(alloc, s, "m . f = ( ( bit < 9 > ) ( a + b ) ) ;")?);
+    let not = Expr::Not(0, Box::new(alloc, Expr::Flag(0, false))?);
+    assert!(rt; gives(alloc, set(alloc, "f", not)?, "f = ( ! false ) ;")?);
+    Ok(())
+}
+
+#[test]
+fn variables(rt: HostRuntime) -> Result<(), AllocError> {
+    let alloc = rt.alloc();
+    let most = wide(128, 340282366920938463463374607431768211455);
+    let s = Stmt::Var(0, PTy::Bit(128), Name::new(alloc, "x")?, Some(most));
+    let line = "bit < 128 > x = 128w340282366920938463463374607431768211455 ;";
+    assert!(rt; gives(alloc, s, line)?);
+    let s = Stmt::Var(0, PTy::Bool, Name::new(alloc, "y")?, None);
+    assert!(rt; gives(alloc, s, "bool y ;")?);
+    let s = Stmt::Var(
+        0,
+        named(alloc, "t")?,
+        Name::new(alloc, "z")?,
+        Some(number(10)),
+    );
+    assert!(rt; gives(alloc, s, "t z = 10 ;")?);
+    Ok(())
+}
+
+#[test]
+fn branches(rt: HostRuntime) -> Result<(), AllocError> {
+    let alloc = rt.alloc();
+    assert!(rt; gives(alloc, Stmt::Nothing(0), ";")?);
+    let mut list = Vec::new(alloc);
+    list.push(Stmt::Return(0))?;
+    list.push(Stmt::Nothing(0))?;
+    let valid = Expr::Valid(0, path(alloc, "hdr.h")?);
+    let s = if_else(alloc, valid, Stmt::Block(0, list), Stmt::Exit(0))?;
+    let line = "if ( hdr . h . isValid ( ) ) { return ; ; } else exit ;";
+    assert!(rt; gives(alloc, s, line)?);
+    let inner = if_else(alloc, Expr::Flag(0, false), Stmt::Nothing(0), Stmt::Exit(0))?;
+    let s = Stmt::If(0, Expr::Flag(0, true), Box::new(alloc, inner)?, None);
+    assert!(rt; gives(alloc, s, "if ( true ) if ( false ) ; else exit ;")?);
+    Ok(())
+}
+
+#[test]
+fn calls(rt: HostRuntime) -> Result<(), AllocError> {
+    let alloc = rt.alloc();
+    let values = two(alloc, read(alloc, "x")?, read(alloc, "hdr.h.a")?)?;
+    let s = digest(alloc, wide(32, 7), values)?;
+    assert!(rt; gives(alloc, s, "digest ( 32w7 , { x , hdr . h . a } ) ;")?);
+    let s = call(alloc, "t.apply", Vec::new(alloc))?;
+    assert!(rt; gives(alloc, s, "t . apply ( ) ;")?);
+    Ok(())
+}
+
+// ---- declarations
+
+fn cases(alloc: Global) -> Result<Vec<(Vec<Keyset>, Name)>, AllocError> {
+    let mut both = Vec::new(alloc);
+    both.push(Keyset::One(0, wide(8, 72)))?;
+    both.push(Keyset::Masked(0, number(1), number(3)))?;
+    let mut either = Vec::new(alloc);
+    either.push(Keyset::Any(0))?;
+    let mut list = Vec::new(alloc);
+    list.push((both, Name::new(alloc, "more")?))?;
+    list.push((either, Name::new(alloc, "accept")?))?;
+    Ok(list)
+}
+
+fn start_state(alloc: Global) -> Result<ParserState, AllocError> {
+    let mut packet = Vec::new(alloc);
+    packet.push(read(alloc, "hdr.h")?)?;
+    let mut body = Vec::new(alloc);
+    body.push(call(alloc, "packet.extract", packet)?)?;
+    let values = two(alloc, read(alloc, "hdr.h.a")?, read(alloc, "meta.b")?)?;
+    Ok(ParserState {
+        at: 0,
+        name: Name::new(alloc, "start")?,
+        body,
+        next: Transition::Select(0, values, cases(alloc)?),
+    })
+}
+
+fn state(alloc: Global, name: &str, next: Transition) -> Result<ParserState, AllocError> {
+    Ok(ParserState {
+        at: 0,
+        name: Name::new(alloc, name)?,
+        body: Vec::new(alloc),
+        next,
+    })
+}
+
+fn parser(alloc: Global) -> Result<Parser, AllocError> {
+    let mut params = Vec::new(alloc);
+    params.push(param(alloc, Way::Plain, "packet_in", "packet")?)?;
+    params.push(param(alloc, Way::Out, "H", "hdr")?)?;
+    let mut states = Vec::new(alloc);
+    states.push(start_state(alloc)?)?;
+    let to = Transition::To(0, Name::new(alloc, "last")?);
+    states.push(state(alloc, "more", to)?)?;
+    states.push(state(alloc, "last", Transition::None(0))?)?;
+    Ok(Parser {
+        at: 0,
+        name: Name::new(alloc, "P")?,
+        params,
+        states,
+    })
+}
+
+fn with_locals(alloc: Global) -> Result<Control, AllocError> {
+    let mut params = Vec::new(alloc);
+    params.push(param(alloc, Way::Both, "H", "hdr")?)?;
+    params.push(param(alloc, Way::Into, "M", "meta")?)?;
+    let mut locals = Vec::new(alloc);
+    let seen = Name::new(alloc, "seen")?;
+    locals.push(Local::Var(0, PTy::Bool, seen, Some(Expr::Flag(0, false))))?;
+    let mut apply = Vec::new(alloc);
+    apply.push(Stmt::Nothing(0))?;
+    apply.push(Stmt::Exit(0))?;
+    Ok(Control {
+        at: 0,
+        name: Name::new(alloc, "C")?,
+        params,
+        locals,
+        apply,
+    })
+}
+
+fn types(alloc: Global) -> Result<Vec<Top>, AllocError> {
+    let mut fields = Vec::new(alloc);
+    fields.push((PTy::Bit(8), Name::new(alloc, "a")?))?;
+    fields.push((PTy::Bit(16), Name::new(alloc, "b")?))?;
+    let mut headers = Vec::new(alloc);
+    headers.push((named(alloc, "h_t")?, Name::new(alloc, "h")?))?;
+    let mut tops = Vec::new(alloc);
+    tops.push(Top::Header(0, Name::new(alloc, "h_t")?, fields))?;
+    tops.push(Top::Struct(0, Name::new(alloc, "H")?, headers))?;
+    Ok(tops)
+}
+
+fn every_declaration(alloc: Global) -> Result<Program, AllocError> {
+    let mut tops = types(alloc)?;
+    let register = Register {
+        at: 0,
+        ty: PTy::Bit(32),
+        count: 4194304,
+        name: Name::new(alloc, "r")?,
+    };
+    tops.push(Top::Reg(0, register))?;
+    tops.push(Top::Pars(0, parser(alloc)?))?;
+    tops.push(Top::Ctl(0, with_locals(alloc)?))?;
+    program(alloc, tops, "P C")
+}
+
+const DECLARATIONS: &str = "\
+header h_t { bit < 8 > a ; bit < 16 > b ; }
+struct H { h_t h ; }
+register < bit < 32 > > ( 4194304 ) r ;
+parser P ( packet_in packet , out H hdr ) {
+state start { packet . extract ( hdr . h ) ;
+transition select ( hdr . h . a , meta . b ) {
+( 8w72 , 1 &&& 3 ) : more ; default : accept ; } }
+state more { transition last ; } state last { } }
+control C ( inout H hdr , in M meta ) {
+bool seen = false ; apply { ; exit ; } }
+V1Switch ( P ( ) , C ( ) ) main ;";
+
+#[test]
+fn declarations(rt: HostRuntime) -> Result<(), AllocError> {
+    let alloc = rt.alloc();
+    let mut wanted = String::new(alloc);
+    for line in DECLARATIONS.lines() {
+        wanted.push_str(text_of_line(alloc, line)?.as_str())?;
+    }
+    let text = program_words(alloc, &every_declaration(alloc)?)?;
+    assert!(rt; text.as_str() == wanted.as_str());
+    Ok(())
+}
