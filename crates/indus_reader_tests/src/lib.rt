@@ -4,6 +4,8 @@
 #[cfg(test)]
 mod faults;
 #[cfg(test)]
+mod joins;
+#[cfg(test)]
 mod show;
 #[cfg(test)]
 mod trees;

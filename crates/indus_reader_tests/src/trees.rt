@@ -43,10 +43,10 @@ fn same(rt: &impl Abort, alloc: Global, text: &str, wanted: &str) -> Result<(), 
 /// Each line of a table is a text and its answer, with ` => ` between.
 pub fn each(rt: &impl Abort, alloc: Global, table: &str) -> Result<(), Fail> {
     for row in table.lines() {
-        match row.split_once(" => ") {
-            Some((text, wanted)) => same(rt, alloc, text, wanted)?,
-            None => return Err(Fail::new("a row has no answer")),
-        }
+        let Some((text, wanted)) = row.split_once(" => ") else {
+            return Err(Fail::new("a row has no answer"));
+        };
+        same(rt, alloc, text, wanted)?;
     }
     Ok(())
 }
@@ -185,9 +185,8 @@ _ => _@3";
 fn expressions(rt: HostRuntime) -> Result<(), Fail> {
     let alloc = rt.alloc();
     for row in EXPRESSIONS.lines() {
-        let (text, tree) = match row.split_once(" => ") {
-            Some(pair) => pair,
-            None => return Err(Fail::new("a row has no tree")),
+        let Some((text, tree)) = row.split_once(" => ") else {
+            return Err(Fail::new("a row has no tree"));
         };
         let wanted = format!(in alloc; "{{(set@1 n {tree})}} {{}} {{}}")?;
         assert_eq!(rt; answer_expr(&rt, alloc, text)?, wanted, "{text}");

@@ -1,6 +1,7 @@
 //! Properties that keep the rules, with their sums, and one that breaks a rule.
 
 use indus_reader::read_property;
+use indus_rules::first_fault;
 use indus_tree::{DeclKind, Property};
 use indus_types::{Rule, TypeFault, TypedProperty, check_property};
 use std::alloc::Global;
@@ -25,6 +26,34 @@ fn reads_of(t: &TypedProperty, variable: u32) -> Option<u32> {
         },
         None => None,
     }
+}
+
+/// Each rule, broken at the place that is counted by hand, and a property that breaks none.
+const RULES: &str = "\
+tele bit<8> n; tele bool n; {} {} {} => 7 NameTwice
+tele bit<8> n; {m = 1;} {} {} => 8 NoSuchName
+tele bit<8> n; {n = switch_id;} {} {} => 10 WidthDiffers
+tele bit<8> n; {n = true;} {} {} => 10 KindDiffers
+control bit<8> c; {c = 1;} {} {} => 8 NotWritable
+tele bit<8> n; {reject;} {} {} => 8 WrongBlock
+tele bit<8>[2] l; {for (x in l) {l.push(1);}} {} {} => 18 LoopListChanged
+tele bit<8> n; {n = 256;} {} {} => 10 BadSize
+tele bit<8> n; {n = 255;} {} {} => none";
+
+#[test]
+fn each_rule_is_broken(rt: HostRuntime) -> Result<(), Fail> {
+    let alloc = rt.alloc();
+    for row in RULES.lines() {
+        let Some((text, wanted)) = row.split_once(" => ") else {
+            return Err(Fail::new("a row has one side"));
+        };
+        let found = match first_fault(alloc, &read(alloc, text)?)? {
+            Some((at, rule)) => format!(in alloc; "{at} {rule:?}")?,
+            None => String::from_str(alloc, "none")?,
+        };
+        assert_eq!(rt; found.as_str(), wanted, "{text}");
+    }
+    Ok(())
 }
 
 #[test]
