@@ -19,7 +19,6 @@ ghost use Rattle.indus_run.specs.Reports.{HasShortReports};
 ghost use Rattle.indus_path.specs.Silence.{AnswersLast, NeverRejects, NeverReports};
 ghost use Rattle.indus_path.specs.Agreement.{DropAgrees, EntryAgrees, ExitAgrees, HopAgrees, PassageAgrees, StartAgrees};
 
-
 /// The law's parts are the meaning's parts: the start and the entry part of every property, the exit
 /// part where telemetry never rejects, and the whole hop where init does not reject or report either.
 pub fn parts_agree()
