@@ -1,7 +1,7 @@
 //! Trees as texts, for tests.
 
 use indus_tree::{Decl, DeclKind, Expr, Op, Property, Shape, Stmt, Ty};
-use lex_text::Name;
+use lex_text::{Literal, Name};
 use std::alloc::{AllocError, Global};
 
 /// How an operator is written.
@@ -26,6 +26,33 @@ fn sign(op: Op) -> &'static str {
     }
 }
 
+/// `word@at`
+fn put(alloc: Global, out: &mut String, word: &str, at: u32) -> Result<(), AllocError> {
+    out.push_str(word)?;
+    out.push_str(&format!(in alloc; "@{at}")?)
+}
+
+/// `word@at name`
+fn open(
+    alloc: Global,
+    out: &mut String,
+    word: &str,
+    at: u32,
+    name: &Name,
+) -> Result<(), AllocError> {
+    put(alloc, out, word, at)?;
+    out.push_str(" ")?;
+    out.push_str(name.as_str())
+}
+
+/// `8w5@at`, or `5@at` where no width is written.
+fn put_number(alloc: Global, out: &mut String, n: Literal, at: u32) -> Result<(), AllocError> {
+    if n.width > 0 {
+        out.push_str(&format!(in alloc; "{}w", n.width)?)?;
+    }
+    out.push_str(&format!(in alloc; "{}@{at}", n.value)?)
+}
+
 /// A space, and then each expression as `show` writes it.
 #[cycle(show)]
 fn show_all(alloc: Global, out: &mut String, list: &[Expr]) -> Result<(), AllocError> {
@@ -36,53 +63,55 @@ fn show_all(alloc: Global, out: &mut String, list: &[Expr]) -> Result<(), AllocE
     Ok(())
 }
 
+/// A space, an expression and the closing bracket.
+#[cycle(show)]
+fn show_last(alloc: Global, out: &mut String, expr: &Expr) -> Result<(), AllocError> {
+    out.push_str(" ")?;
+    show(alloc, out, expr)?;
+    out.push_str(")")
+}
+
 /// An expression with its operator first, and `@` with its place behind the first word.
 #[cycle(show)]
 fn show(alloc: Global, out: &mut String, expr: &Expr) -> Result<(), AllocError> {
     match expr {
-        Expr::Num(at, n) => {
-            if n.width > 0 {
-                out.push_str(&format!(in alloc; "{}w", n.width)?)?;
-            }
-            out.push_str(&format!(in alloc; "{}@{at}", n.value)?)
+        Expr::Num(at, n) => put_number(alloc, out, *n, *at),
+        Expr::Flag(at, value) => put(alloc, out, if *value { "true" } else { "false" }, *at),
+        Expr::Read(at, name) => put(alloc, out, name.as_str(), *at),
+        Expr::Length(at, name) => {
+            open(alloc, out, "(length", *at, name)?;
+            out.push_str(")")
         }
-        Expr::Flag(at, value) => out.push_str(&format!(in alloc; "{value}@{at}")?),
-        Expr::Read(at, name) => out.push_str(&format!(in alloc; "{}@{at}", name.as_str())?),
-        Expr::Length(at, name) => out.push_str(&format!(in alloc;
-            "(length@{at} {})",
-            name.as_str()
-        )?),
         Expr::Index(at, name, keys) => {
-            out.push_str(&format!(in alloc; "({}@{at}", name.as_str())?)?;
+            out.push_str("(")?;
+            put(alloc, out, name.as_str(), *at)?;
             show_all(alloc, out, keys)?;
             out.push_str(")")
         }
         Expr::Member(at, keys, name) => {
-            out.push_str(&format!(in alloc; "(in@{at} {}", name.as_str())?)?;
+            open(alloc, out, "(in", *at, name)?;
             show_all(alloc, out, keys)?;
             out.push_str(")")
         }
         Expr::Not(at, inner) => {
-            out.push_str(&format!(in alloc; "(!@{at} ")?)?;
-            show(alloc, out, inner)?;
-            out.push_str(")")
+            put(alloc, out, "(!", *at)?;
+            show_last(alloc, out, inner)
         }
         Expr::Invert(at, inner) => {
-            out.push_str(&format!(in alloc; "(~@{at} ")?)?;
-            show(alloc, out, inner)?;
-            out.push_str(")")
+            put(alloc, out, "(~", *at)?;
+            show_last(alloc, out, inner)
         }
         Expr::Bin(at, op, a, b) => {
-            out.push_str(&format!(in alloc; "({}@{at} ", sign(*op))?)?;
-            show(alloc, out, a)?;
+            out.push_str("(")?;
+            put(alloc, out, sign(*op), *at)?;
             out.push_str(" ")?;
-            show(alloc, out, b)?;
-            out.push_str(")")
+            show(alloc, out, a)?;
+            show_last(alloc, out, b)
         }
         Expr::Cast(at, width, inner) => {
-            out.push_str(&format!(in alloc; "(cast@{at} {width} ")?)?;
-            show(alloc, out, inner)?;
-            out.push_str(")")
+            put(alloc, out, "(cast", *at)?;
+            out.push_str(&format!(in alloc; " {width}")?)?;
+            show_last(alloc, out, inner)
         }
     }
 }
@@ -102,7 +131,15 @@ fn show_block(alloc: Global, out: &mut String, list: &[Stmt]) -> Result<(), Allo
     out.push_str("}")
 }
 
-/// A space, and then names with commas between them.
+/// A space, statements in braces and the closing bracket.
+#[cycle(show_stmt)]
+fn show_last_block(alloc: Global, out: &mut String, list: &[Stmt]) -> Result<(), AllocError> {
+    out.push_str(" ")?;
+    show_block(alloc, out, list)?;
+    out.push_str(")")
+}
+
+/// A space, and then names with a text between them.
 fn show_names(out: &mut String, list: &[Name], between: &str) -> Result<(), AllocError> {
     let mut first = true;
     for item in list {
@@ -118,41 +155,44 @@ fn show_names(out: &mut String, list: &[Name], between: &str) -> Result<(), Allo
 fn show_stmt(alloc: Global, out: &mut String, stmt: &Stmt) -> Result<(), AllocError> {
     match stmt {
         Stmt::Assign(at, name, value) => {
-            out.push_str(&format!(in alloc; "(set@{at} {} ", name.as_str())?)?;
-            show(alloc, out, value)?;
+            open(alloc, out, "(set", *at, name)?;
+            show_last(alloc, out, value)
         }
         Stmt::Cell(at, name, index, value) => {
-            out.push_str(&format!(in alloc; "(cell@{at} {} ", name.as_str())?)?;
-            show(alloc, out, index)?;
+            open(alloc, out, "(cell", *at, name)?;
             out.push_str(" ")?;
-            show(alloc, out, value)?;
+            show(alloc, out, index)?;
+            show_last(alloc, out, value)
         }
         Stmt::Push(at, name, value) => {
-            out.push_str(&format!(in alloc; "(push@{at} {} ", name.as_str())?)?;
-            show(alloc, out, value)?;
+            open(alloc, out, "(push", *at, name)?;
+            show_last(alloc, out, value)
         }
         Stmt::If(at, test, yes, no) => {
-            out.push_str(&format!(in alloc; "(if@{at} ")?)?;
+            put(alloc, out, "(if", *at)?;
+            out.push_str(" ")?;
             show(alloc, out, test)?;
             out.push_str(" ")?;
             show_block(alloc, out, yes)?;
-            out.push_str(" ")?;
-            show_block(alloc, out, no)?;
+            show_last_block(alloc, out, no)
         }
         Stmt::For(at, items, lists, body) => {
-            out.push_str(&format!(in alloc; "(for@{at}")?)?;
+            put(alloc, out, "(for", *at)?;
             show_names(out, items, ",")?;
             show_names(out, lists, ",")?;
-            out.push_str(" ")?;
-            show_block(alloc, out, body)?;
+            show_last_block(alloc, out, body)
         }
-        Stmt::Reject(at) => out.push_str(&format!(in alloc; "(reject@{at}")?)?,
+        Stmt::Reject(at) => {
+            put(alloc, out, "(reject", *at)?;
+            out.push_str(")")
+        }
         Stmt::Report(at, number, values) => {
-            out.push_str(&format!(in alloc; "(report@{at} #{number}")?)?;
+            put(alloc, out, "(report", *at)?;
+            out.push_str(&format!(in alloc; " #{number}")?)?;
             show_all(alloc, out, values)?;
+            out.push_str(")")
         }
     }
-    out.push_str(")")
 }
 
 /// A type.
@@ -160,6 +200,34 @@ fn show_type(alloc: Global, out: &mut String, item: Ty) -> Result<(), AllocError
     match item {
         Ty::Bool => out.push_str(" bool"),
         Ty::Bit(width) => out.push_str(&format!(in alloc; " bit{width}")?),
+    }
+}
+
+/// Types, each behind a space.
+fn show_types(alloc: Global, out: &mut String, list: &[Ty]) -> Result<(), AllocError> {
+    for item in list {
+        show_type(alloc, out, *item)?;
+    }
+    Ok(())
+}
+
+fn show_shape(alloc: Global, out: &mut String, shape: &Shape) -> Result<(), AllocError> {
+    match shape {
+        Shape::One(item) => show_type(alloc, out, *item),
+        Shape::List(item, size) => {
+            show_type(alloc, out, *item)?;
+            out.push_str(&format!(in alloc; "[{size}]")?)
+        }
+        Shape::SetOf(key) => {
+            out.push_str(" set")?;
+            show_types(alloc, out, key)
+        }
+        Shape::DictOf(key, value) => {
+            out.push_str(" dict")?;
+            show_types(alloc, out, key)?;
+            out.push_str(" to")?;
+            show_type(alloc, out, *value)
+        }
     }
 }
 
@@ -171,28 +239,8 @@ fn show_decl(alloc: Global, out: &mut String, decl: &Decl) -> Result<(), AllocEr
         DeclKind::Header => "header",
         DeclKind::Control => "control",
     };
-    out.push_str(&format!(in alloc; "{kind}@{} {}", decl.at, decl.name.as_str())?)?;
-    match &decl.shape {
-        Shape::One(item) => show_type(alloc, out, *item)?,
-        Shape::List(item, size) => {
-            show_type(alloc, out, *item)?;
-            out.push_str(&format!(in alloc; "[{size}]")?)?;
-        }
-        Shape::SetOf(key) => {
-            out.push_str(" set")?;
-            for part in key {
-                show_type(alloc, out, *part)?;
-            }
-        }
-        Shape::DictOf(key, value) => {
-            out.push_str(" dict")?;
-            for part in key {
-                show_type(alloc, out, *part)?;
-            }
-            out.push_str(" to")?;
-            show_type(alloc, out, *value)?;
-        }
-    }
+    open(alloc, out, kind, decl.at, &decl.name)?;
+    show_shape(alloc, out, &decl.shape)?;
     if let Some(start) = &decl.start {
         out.push_str(" = ")?;
         show(alloc, out, start)?;

@@ -142,7 +142,7 @@ fn types(alloc: Global) -> Result<Vec<Top>, AllocError> {
     Ok(tops)
 }
 
-fn small_program(alloc: Global) -> Result<Program, AllocError> {
+pub fn small_program(alloc: Global) -> Result<Program, AllocError> {
     let mut tops = types(alloc)?;
     let cells = Register {
         at: 0,

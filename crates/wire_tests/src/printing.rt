@@ -222,7 +222,7 @@ fn types(alloc: Global) -> Result<Vec<Top>, AllocError> {
     Ok(tops)
 }
 
-fn every_declaration(alloc: Global) -> Result<Program, AllocError> {
+pub fn every_declaration(alloc: Global) -> Result<Program, AllocError> {
     let mut tops = types(alloc)?;
     let register = Register {
         at: 0,

@@ -79,26 +79,20 @@ fn statements_run(rt: HostRuntime) -> Result<(), Fail> {
     let alloc = rt.alloc();
     let mut run = start(alloc)?;
     let kind = path(alloc, "h.one.kind")?;
-    assert_eq!(rt; run.fields.read(&kind), byte(0));
-    assert_eq!(rt; run.fields.value(&kind), byte(7));
-    assert_eq!(rt; run_stmts(alloc, &statements(alloc)?, &mut run)?, Flow::Go);
-    assert_eq!(rt; run_stmts(alloc, &last(alloc)?, &mut run)?, Flow::Exit);
-    assert_eq!(rt; run.fields.header(&path(alloc, "h.one")?), Some(true));
-    assert_eq!(rt; run.fields.read(&path(alloc, "x")?), byte(4));
-    assert_eq!(rt; run.fields.read(&path(alloc, "m.other")?), byte(1));
+    assert!(rt; run.fields.read(&kind) == byte(0));
+    assert!(rt; run.fields.value(&kind) == byte(7));
+    assert!(rt; run_stmts(alloc, &statements(alloc)?, &mut run)? == Flow::Go);
+    assert!(rt; run_stmts(alloc, &last(alloc)?, &mut run)? == Flow::Exit);
+    assert!(rt; run.fields.header(&path(alloc, "h.one")?) == Some(true));
+    assert!(rt; run.fields.read(&path(alloc, "x")?) == byte(4));
+    assert!(rt; run.fields.read(&path(alloc, "m.other")?) == byte(1));
     let spec = standard_path(alloc, "egress_spec")?;
-    assert_eq!(rt; run.fields.read(&spec), Bits::new(9, 511));
-    assert_eq!(rt;
-        cells_of(&run.registers, "count"),
-        [byte(0), byte(4)].as_slice()
-    );
-    assert_eq!(rt; cells_of(&run.registers, "other").len(), 0);
-    assert_eq!(rt; run.digests.len(), 1);
-    assert_eq!(rt; run.digests[0].receiver, 7);
-    assert_eq!(rt;
-        run.digests[0].values.as_slice(),
-        [byte(8), byte(4)].as_slice()
-    );
+    assert!(rt; run.fields.read(&spec) == Bits::new(9, 511));
+    assert!(rt; cells_of(&run.registers, "count") == [byte(0), byte(4)].as_slice());
+    assert!(rt; cells_of(&run.registers, "other").len() == 0);
+    assert!(rt; run.digests.len() == 1);
+    assert!(rt; run.digests[0].receiver == 7);
+    assert!(rt; run.digests[0].values.as_slice() == [byte(8), byte(4)].as_slice());
     Ok(())
 }
 
@@ -110,24 +104,21 @@ fn fields_are_read_and_written(rt: HostRuntime) -> Result<(), Fail> {
     let kind = path(alloc, "h.one.kind")?;
     let name = Name::new(alloc, "kind")?;
     fields.write(alloc, &kind, byte(5))?;
-    assert_eq!(rt; fields.field_value(alloc, &header, &name)?, byte(7));
+    assert!(rt; fields.field_value(alloc, &header, &name)? == byte(7));
     fields.set_valid(alloc, &header, true)?;
     assign(alloc, &kind, Bits::new(16, 0x1203), &mut fields)?;
-    assert_eq!(rt; fields.read(&kind), byte(3));
+    assert!(rt; fields.read(&kind) == byte(3));
     fields.zero(&header);
-    assert_eq!(rt; fields.read(&kind), byte(0));
+    assert!(rt; fields.read(&kind) == byte(0));
     let x = Name::new(alloc, "x")?;
     fields.declare(alloc, &x, byte(9))?;
     let sum = binary(alloc, Op::Add, read(alloc, "x")?, number(1))?;
     let value = value_of(&sum, 0, &fields);
-    assert_eq!(rt; (width(value), value.value), (8, 10));
+    assert!(rt; (width(value), value.value) == (8, 10));
     let mut list = Vec::new(alloc);
     list.push(sum)?;
-    assert_eq!(rt;
-        values_of(alloc, &list, &fields)?.as_slice(),
-        [byte(10)].as_slice()
-    );
+    assert!(rt; values_of(alloc, &list, &fields)?.as_slice() == [byte(10)].as_slice());
     fields.forget_variables();
-    assert_eq!(rt; fields.read(&path(alloc, "x")?).value, 0);
+    assert!(rt; fields.read(&path(alloc, "x")?).value == 0);
     Ok(())
 }
