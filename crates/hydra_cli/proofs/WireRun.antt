@@ -9,8 +9,8 @@ use Rattle.p4_tree.specs.Tree.{Program}
 use Rattle.p4_tree.specs.Parts.{parts_of}
 use Rattle.p4_tree.specs.Statements.{Digest, cell_at}
 use Rattle.p4_tree.specs.View.{program_of}
-use Rattle.path_runner.specs.NetworkRun.{longest_frame}
-use Rattle.program_linker.specs.Linkage.{is_report, report_receiver}
+use Rattle.network_run.specs.NetworkRun.{longest_frame}
+use Rattle.linkage.specs.Linkage.{is_report, report_receiver}
 use Rattle.wire_machine.specs.Machine.{Machine}
 use Rattle.wire_network.specs.Travel.{Net, Fate, left, dropped, lost, travel}
 use Rattle.wire_network.specs.Fates.{net_of}

@@ -2,7 +2,7 @@
 use Rattle.std.specs.Prelude.{◌≡◌, ℕ, ◌-◌, List, [], ◌∷◌, ◌++◌, sum_by, count_by, codes, nat_eq}
 use Rattle.indus_tree.specs.Tree.{Property}
 use Rattle.p4_tree.specs.View.{program_of}
-use Rattle.program_linker.specs.Linkage.{report_receiver}
+use Rattle.linkage.specs.Linkage.{report_receiver}
 use Rattle.wire_linker.specs.Linked.{linked_wire}
 use Rattle.wire_machine.specs.Machine.{Machine}
 use Rattle.wire_network.specs.Travel.{Net, Fate, left, dropped, lost}

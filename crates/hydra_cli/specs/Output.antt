@@ -7,8 +7,8 @@ use Rattle.indus_types.specs.Sums.{cut, cut_wide, property_bits, property_weight
 use Rattle.p4_tree.specs.Tree.{Program}
 use Rattle.p4_tree.specs.Statements.{cell_at}
 use Rattle.p4_tree.specs.Pass.{Registers, Queued}
-use Rattle.path_runner.specs.Network.{Net}
-use Rattle.program_linker.specs.Linkage.{is_report}
+use Rattle.network_run.specs.Network.{Net}
+use Rattle.linkage.specs.Linkage.{is_report}
 use Rattle.wire_linker.specs.Monitor.{rejects_register}
 use Rattle.wire_printer.specs.Text.{text_of}
 use Rattle.wire_printer.specs.Programs.{words_of_program}

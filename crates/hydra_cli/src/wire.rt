@@ -8,7 +8,7 @@ ghost use Rattle.wire_machine.specs.Machine.{machine_of};
 ghost use Rattle.wire_network.specs.Fates.{fate_of, net_of, told_of};
 ghost use Rattle.wire_network.specs.Travel.{travel};
 ghost use Rattle.hydra_cli.specs.Job.{file_of, files_of, out_of};
-ghost use Rattle.program_linker.specs.Linkage.{report_receiver};
+ghost use Rattle.linkage.specs.Linkage.{report_receiver};
 ghost use Rattle.wire_linkage.specs.Ways.{line3_links};
 ghost use Rattle.hydra_cli.specs.Line.{IsLinkedLine, fate_files, rejected_by as rejected_of, summary_of_counts, summary_of_way};
 ghost use Rattle.hydra_cli.specs.Network.{link_limit, machine_for};

@@ -8,7 +8,7 @@ use Rattle.indus_tree.specs.Start.{tele_start, sensors_start}
 use Rattle.indus_tree.specs.Meaning as meaning
 use Rattle.indus_tree.specs.Meaning.{fresh, hop_run}
 use Rattle.indus_tree.specs.Hops.{hop_at}
-use Rattle.path_runner.specs.PathMeaning.{Reads, Doing, entry_part, exit_part}
+use Rattle.network_run.specs.PathMeaning.{Reads, Doing, entry_part, exit_part}
 use Rattle.indus_path.specs.Law.{Held, hop_of, law_doing, law_of}
 
 -- what the packet's variables and the switch's sensors hold at the start

@@ -6,8 +6,8 @@ use Rattle.indus_tree.specs.State.{Contents, members}
 use Rattle.indus_tree.specs.Examples.{name, variable, property}
 use Rattle.indus_tree.specs.declared.tree.DeclKind.TheVariants.{Tele}
 use Rattle.indus_tree.specs.declared.tree.Ty.TheVariants.{Bool as Truth}
-use Rattle.path_runner.specs.Network.{Half}
-use Rattle.path_runner.specs.PathMeaning.{Reads, Reported, Path, path_meaning}
+use Rattle.network_run.specs.Network.{Half}
+use Rattle.network_run.specs.PathMeaning.{Reads, Reported, Path, path_meaning}
 use Rattle.indus_path.specs.Law.{Held, law_of}
 
 -- no control contents

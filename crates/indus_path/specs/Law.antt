@@ -8,7 +8,7 @@ use Rattle.indus_tree.specs.State.{Contents, Hop}
 use Rattle.indus_tree.specs.Start.{tele_start, sensors_start}
 use Rattle.indus_tree.specs.Hops.{hop_at}
 use Rattle.indus_tree.specs.Meaning.{run_of}
-use Rattle.path_runner.specs.PathMeaning as law
+use Rattle.network_run.specs.PathMeaning as law
 
 -- the words that each variable holds
 abbrev pub Held : Type 0

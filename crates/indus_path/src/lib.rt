@@ -1,7 +1,7 @@
 //! The meaning of an Indus property, as a property of the network law.
 //!
 //! The crate has definitions and laws, and no code. The layers above get `law_of`, which makes of a
-//! property's tree what `path_runner` folds over the log of a run, and the laws that its parts are
+//! property's tree what `network_run` folds over the log of a run, and the laws that its parts are
 //! the parts of the meaning in `indus_tree`. What well-typedness has to do with it stands here too:
 //! such a property answers in its checker alone, and its reports are as short as the direct
 //! evaluator wants them. `specs/Law`, `Silence` and `Agreement` are read in this order.

@@ -6,7 +6,7 @@ ghost use Rattle.indus_tree.specs.Meaning.{fresh};
 ghost use Rattle.indus_tree.specs.Hops.{hop_at};
 ghost use Rattle.indus_tree.specs.Start.{sensors_start, tele_start};
 ghost use Rattle.indus_tree.specs.Examples.{three_pushes, wrapping, two_parts, two_parts_set, two_views, two_flags, in_order};
-ghost use Rattle.path_runner.specs.PathMeaning.{exit_part};
+ghost use Rattle.network_run.specs.PathMeaning.{exit_part};
 ghost use Rattle.indus_path.specs.Law.{hop_of, law_of};
 ghost use Rattle.indus_path.specs.Examples.{asks_early, exit_reads, no_contents, over_one, over_three, passage, passage_with, path_of, rejects_early, reporting};
 

@@ -16,10 +16,10 @@ use Rattle.indus_tree.specs.Tree.{Decl, Property}
 use Rattle.indus_tree.specs.Start.{tele_start}
 use Rattle.indus_tree.specs.Meaning.{run_of}
 use Rattle.indus_tree.specs.Small.{IsSmall}
-use Rattle.path_runner.specs.Network.{Wiring}
-use Rattle.path_runner.specs.PathMeaning.{Reads, Doing, nothing_yet, entry_part}
-use Rattle.program_linker.specs.Linkage as linkage
-use Rattle.program_linker.specs.HalvesLaws.{SameQueued, EnterAgrees}
+use Rattle.network_run.specs.Network.{Wiring}
+use Rattle.network_run.specs.PathMeaning.{Reads, Doing, nothing_yet, entry_part}
+use Rattle.linkage.specs.Linkage as linkage
+use Rattle.linkage.specs.HalvesLaws.{SameQueued, EnterAgrees}
 use Rattle.wire_linker.specs.WireProgram.{number}
 use Rattle.wire_linker.specs.Monitor.{tele_header, mark_path, rejects_register, lowered_block, entry_stmts, entry_stmt}
 use Rattle.linked_halves.specs.Regions.{is_mine, is_readable}

@@ -17,7 +17,7 @@ use Rattle.indus_tree.specs.Tree.{Property}
 use Rattle.indus_tree.specs.State.{Doing}
 use Rattle.indus_tree.specs.Meaning.{run_of, fresh}
 use Rattle.indus_tree.specs.Small.{IsSmall}
-use Rattle.path_runner.specs.PathMeaning.{Reads}
+use Rattle.network_run.specs.PathMeaning.{Reads}
 use Rattle.wire_linker.specs.WireProgram.{number}
 use Rattle.wire_linker.specs.Monitor.{tele_header, rejected_name, count_name, rejects_register, lowered_block, only_if, read_count, write_count, drop_packet, reject_stmts, end_stmts, check_stmts, check_stmt, exit_stmts, exit_stmt}
 use Rattle.linked_halves.specs.Telemetry.{Tele}

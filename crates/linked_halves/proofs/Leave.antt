@@ -19,11 +19,11 @@ use Rattle.indus_tree.specs.Tree.{Property}
 use Rattle.indus_tree.specs.State as indus
 use Rattle.indus_tree.specs.Meaning.{run_of, fresh}
 use Rattle.indus_tree.specs.Small.{IsSmall}
-use Rattle.path_runner.specs.Machine.{Going, Leaving}
-use Rattle.path_runner.specs.Network.{Wiring, at_edge}
-use Rattle.path_runner.specs.PathMeaning.{Reads, Report, Doing, exit_part}
-use Rattle.program_linker.specs.Linkage as law
-use Rattle.program_linker.specs.HalvesLaws.{carried, SameDigests, SameGoing, reads_at, DropAgrees, GoAgrees, LeaveAgrees}
+use Rattle.network_run.specs.Machine.{Going, Leaving}
+use Rattle.network_run.specs.Network.{Wiring, at_edge}
+use Rattle.network_run.specs.PathMeaning.{Reads, Report, Doing, exit_part}
+use Rattle.linkage.specs.Linkage as law
+use Rattle.linkage.specs.HalvesLaws.{carried, SameDigests, SameGoing, reads_at, DropAgrees, GoAgrees, LeaveAgrees}
 use Rattle.wire_linker.specs.Monitor.{tele_header, rejected_name, rejects_register, lowered_block, end_stmts, check_stmts, exit_stmts, exit_stmt}
 use Rattle.linked_halves.specs.Regions.{is_mine}
 use Rattle.linked_halves.specs.Forwarding.{IsForwarding}

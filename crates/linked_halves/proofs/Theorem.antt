@@ -7,10 +7,10 @@ use Rattle.bit_values.specs.Bits.{Word}
 use Rattle.p4_tree.specs.Parts.{Cells}
 use Rattle.p4_tree.specs.Pass.{Registers, parts_enter, zero_cells, start_cells}
 use Rattle.indus_tree.specs.Start.{tele_start}
-use Rattle.path_runner.specs.Network.{Link, Wiring, far_end_among, at_edge, IsLinkOf}
-use Rattle.path_runner.specs.PathMeaning.{entry_part}
-use Rattle.program_linker.specs.HalvesLaws.{carried, reads_at, EnterAgrees}
-use Rattle.program_linker.proofs.Runs.{linkage}
+use Rattle.network_run.specs.Network.{Link, Wiring, far_end_among, at_edge, IsLinkOf}
+use Rattle.network_run.specs.PathMeaning.{entry_part}
+use Rattle.linkage.specs.HalvesLaws.{carried, reads_at, EnterAgrees}
+use Rattle.linkage.proofs.Runs.{linkage}
 use Rattle.wire_linker.specs.Monitor.{rejects_register}
 use Rattle.linked_halves.specs.Regions.{is_mine}
 use Rattle.linked_halves.specs.LinkedParts.{rejects_cells, linked_parts}

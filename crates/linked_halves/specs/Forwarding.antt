@@ -6,7 +6,7 @@ use Rattle.p4_tree.specs.Tree.{Expr, num, flag, path, valid, negation, binary, c
 use Rattle.p4_tree.specs.Statements.{Act, makes, drops, reads, writes, tells, idle, act_of}
 use Rattle.p4_tree.specs.Parsing.{Reading, turns_of}
 use Rattle.p4_tree.specs.Parts.{Parts}
-use Rattle.program_linker.specs.Linkage.{report_receiver}
+use Rattle.linkage.specs.Linkage.{report_receiver}
 use Rattle.linked_halves.specs.Regions.{is_mine, is_free, is_readable, is_writable, is_own_header}
 
 -- an expression reads own paths

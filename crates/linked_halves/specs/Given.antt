@@ -4,10 +4,10 @@ use Rattle.p4_tree.specs.Parts.{Parts}
 use Rattle.p4_tree.specs.Pass.{Registers, Queued}
 use Rattle.indus_tree.specs.Tree.{Property}
 use Rattle.indus_tree.specs.Small.{IsSmall}
-use Rattle.path_runner.specs.Machine.{Machine}
-use Rattle.path_runner.specs.Network.{Wiring, IsWiring}
-use Rattle.program_linker.specs.Linkage.{Linkage}
-use Rattle.program_linker.specs.HalvesLaws.{HalvesLaws}
+use Rattle.network_run.specs.Machine.{Machine}
+use Rattle.network_run.specs.Network.{Wiring, IsWiring}
+use Rattle.linkage.specs.Linkage.{Linkage}
+use Rattle.linkage.specs.HalvesLaws.{HalvesLaws}
 use Rattle.linked_halves.specs.Forwarding.{IsForwarding}
 use Rattle.linked_halves.specs.LinkedParts.{linked_parts}
 use Rattle.linked_halves.specs.Telemetry.{telemetry_of, IsFitTele}

@@ -10,10 +10,10 @@ use Rattle.indus_tree.specs.State as indus
 use Rattle.indus_tree.specs.State.{Hop, members, nothing_of}
 use Rattle.indus_tree.specs.Start.{tele_start}
 use Rattle.indus_tree.specs.Meaning.{run_of}
-use Rattle.path_runner.specs.Machine.{Digest, Entered, Going, Leaving, Machine}
-use Rattle.path_runner.specs.Network.{Link}
-use Rattle.path_runner.specs.PathMeaning as law
-use Rattle.program_linker.specs.Linkage as linkage
+use Rattle.network_run.specs.Machine.{Digest, Entered, Going, Leaving, Machine}
+use Rattle.network_run.specs.Network.{Link}
+use Rattle.network_run.specs.PathMeaning as law
+use Rattle.linkage.specs.Linkage as linkage
 use Rattle.wire_linker.specs.Monitor.{rejects_register}
 use Rattle.linked_halves.specs.Telemetry.{Tele}
 

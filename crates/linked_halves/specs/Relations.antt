@@ -8,7 +8,7 @@ use Rattle.p4_tree.specs.Statements.{Digest, Run}
 use Rattle.p4_tree.specs.Pass.{Registers, Queued}
 use Rattle.indus_tree.specs.Tree.{Decl}
 use Rattle.indus_tree.specs.Names.{is_declared}
-use Rattle.program_linker.specs.Linkage.{report_receiver}
+use Rattle.linkage.specs.Linkage.{report_receiver}
 use Rattle.wire_linker.specs.Monitor.{tele_header, mark_path, tele_path, rejects_register}
 use Rattle.linked_halves.specs.Regions.{is_mine, is_free, is_readable, is_writable, is_own_header}
 use Rattle.linked_halves.specs.Telemetry.{Tele, tele_word, IsFitTele}

@@ -6,7 +6,7 @@ use Rattle.p4_tree.specs.Parsing.{bytes_of}
 use Rattle.indus_tree.specs.Tree.{Decl}
 use Rattle.indus_tree.specs.Names.{is_declared}
 use Rattle.indus_tree.specs.Reads.{scalar}
-use Rattle.program_linker.specs.Linkage as law
+use Rattle.linkage.specs.Linkage as law
 
 -- what each name holds
 abbrev pub Tele : Type 0

@@ -4,8 +4,8 @@ use Rattle.p4_tree.specs.Parts.{parts_of}
 use Rattle.p4_tree.specs.Pass.{Registers, Queued}
 use Rattle.indus_tree.specs.Tree.{Property}
 use Rattle.indus_tree.specs.Small.{IsSmall}
-use Rattle.path_runner.specs.Machine.{Machine}
-use Rattle.program_linker.specs.Linkage.{Linkage}
+use Rattle.network_run.specs.Machine.{Machine}
+use Rattle.linkage.specs.Linkage.{Linkage}
 use Rattle.wire_linker.specs.WireProgram.{wire_program}
 use Rattle.linked_halves.specs.Telemetry.{telemetry_of}
 use Rattle.linked_halves.specs.Networks.{machine_of, law_of, registers_of, ports_at}

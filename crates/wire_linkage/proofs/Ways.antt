@@ -9,15 +9,15 @@ use Rattle.p4_tree.specs.Statements.{Digest}
 use Rattle.p4_tree.specs.Pass as pass
 use Rattle.p4_tree.specs.Pass.{Registers, Queued, parts_enter, parts_leave, start_cells}
 use Rattle.indus_tree.specs.Tree.{Property}
-use Rattle.path_runner.specs.Machine as law_machine
-use Rattle.path_runner.specs.Network as law
-use Rattle.path_runner.specs.Network.{IsWiring, IsLinkOf, far_end_among, Flying, Waiting, Over}
-use Rattle.path_runner.specs.Events.{Event, Enter, to_its_end}
-use Rattle.path_runner.specs.NetworkRun.{Limits, longest_frame, put, told_by, queued_or_over, dropped_if_none, entry_half, exit_half, enters, leaves, run_of_halves, lost_if}
-use Rattle.path_runner.specs.NetworkRun as law_run
-use Rattle.path_runner.specs.World.{first_net}
-use Rattle.path_runner.proofs.Numbers.{nat_eq_self}
-use Rattle.path_runner.proofs.Links.{far_end_is}
+use Rattle.network_run.specs.Machine as law_machine
+use Rattle.network_run.specs.Network as law
+use Rattle.network_run.specs.Network.{IsWiring, IsLinkOf, far_end_among, Flying, Waiting, Over}
+use Rattle.network_run.specs.Events.{Event, Enter, to_its_end}
+use Rattle.network_run.specs.NetworkRun.{Limits, longest_frame, put, told_by, queued_or_over, dropped_if_none, entry_half, exit_half, enters, leaves, run_of_halves, lost_if}
+use Rattle.network_run.specs.NetworkRun as law_run
+use Rattle.network_run.specs.World.{first_net}
+use Rattle.network_run.proofs.Numbers.{nat_eq_self}
+use Rattle.network_run.proofs.Links.{far_end_is}
 use Rattle.wire_machine.specs.Machine.{Machine, goes_to}
 use Rattle.wire_network.specs.Travel.{Net, Fate, left, dropped, lost, left_from, passed, is_end, far_end, Way, on_link, behind, at_switch, no_way, travel}
 use Rattle.wire_network.specs.declared.link.Link.{Link}

@@ -4,9 +4,9 @@ use Rattle.p4_tree.specs.Tree.{Program}
 use Rattle.p4_tree.specs.Parts.{parts_of}
 use Rattle.p4_tree.specs.Pass.{Registers, Queued}
 use Rattle.indus_tree.specs.Tree.{Property}
-use Rattle.path_runner.specs.Machine.{Machine}
-use Rattle.path_runner.specs.Network.{Wiring, Net}
-use Rattle.path_runner.specs.World.{World, net_at_end}
+use Rattle.network_run.specs.Machine.{Machine}
+use Rattle.network_run.specs.Network.{Wiring, Net}
+use Rattle.network_run.specs.World.{World, net_at_end}
 use Rattle.wire_linker.specs.WireProgram.{wire_program}
 use Rattle.wire_linker.specs.Linked.{linked_wire}
 use Rattle.linked_halves.specs.Telemetry.{telemetry_of}

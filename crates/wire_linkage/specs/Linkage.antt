@@ -4,7 +4,7 @@ use Rattle.std.specs.List.{AllByRecursion}
 use Rattle.p4_tree.specs.Parts.{parts_of}
 use Rattle.indus_tree.specs.Tree.{Property}
 use Rattle.lex_text.specs.Marks.{is_one_of}
-use Rattle.program_linker.specs.Linkage.{Linkage}
+use Rattle.linkage.specs.Linkage.{Linkage}
 use Rattle.wire_linker.specs.WireProgram.{wire_program}
 use Rattle.linked_halves.specs.Regions.{is_mine}
 use Rattle.linked_halves.specs.LinkedParts.{rejects_cells}

@@ -4,7 +4,7 @@ use Rattle.p4_tree.specs.Parts.{Parts, parts_of}
 use Rattle.p4_tree.specs.Pass.{Registers, Queued, start_cells}
 use Rattle.p4_tree.specs.Statements.{Digest}
 use Rattle.indus_tree.specs.Tree.{Property}
-use Rattle.path_runner.specs.Network as law
+use Rattle.network_run.specs.Network as law
 use Rattle.wire_machine.specs.Machine.{Machine}
 use Rattle.wire_network.specs.Travel.{Net, Fate, left, dropped, lost}
 use Rattle.wire_network.specs.declared.link.Link.{Link}

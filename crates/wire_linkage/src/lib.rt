@@ -13,7 +13,7 @@ ghost use Rattle.std.specs.Prelude.{ℕ, ◌+◌, List};
 ghost use Rattle.p4_tree.specs.Parts.{parts_of};
 ghost use Rattle.indus_tree.specs.Small.{IsSmall};
 ghost use Rattle.indus_tree.specs.Tree.{Property};
-ghost use Rattle.path_runner.specs.NetworkRun.{longest_frame};
+ghost use Rattle.network_run.specs.NetworkRun.{longest_frame};
 ghost use Rattle.wire_network.specs.Travel.{travel};
 ghost use Rattle.linked_halves.specs.Telemetry.{telemetry_of};
 ghost use Rattle.wire_linkage.specs.Line.{program_at, run_of_frame};

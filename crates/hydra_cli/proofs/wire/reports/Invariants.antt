@@ -1,6 +1,6 @@
 use Rattle.std.proofs.Common.{◌≡◌, ◌≤◌, count_by, map, nat_eq, take}
 use Rattle.wire_network.specs.Fates.{told_of}
-use Rattle.program_linker.specs.Linkage.{report_receiver}
+use Rattle.linkage.specs.Linkage.{report_receiver}
 use Rattle.hydra_cli.proofs.wire.reports.Given as goal
 
 abbrev pub invariant-loop-t : goal.invariant-loop-t
