@@ -1,6 +1,7 @@
 //! Files from outside: bytes as the format's text gives them, and files that other tools wrote.
 
 use super::*;
+use std::alloc::{AllocError, Global};
 use std::test::*;
 
 /// A big-endian file in nanoseconds, with one record: 1 second, 5,000 nanoseconds, bytes 01 02.
@@ -82,6 +83,41 @@ fn nanoseconds_are_read_and_microseconds_written(rt: HostRuntime) -> Result<(), 
         .ok()
         .ok_or("what is written is a capture")?;
     assert!(rt; are(&again, &[(1, 5, &[1, 2])]));
+    Ok(())
+}
+
+/// A file of one record, with these bytes of captured length and then `len` bytes.
+fn one_record(alloc: Global, captured: &[u8], len: usize) -> Result<Vec<u8>, AllocError> {
+    // The written file's header, and its record's time.
+    let mut file = Vec::from_slice(alloc, &WRITTEN[..32])?;
+    file.extend_from_slice(captured)?;
+    file.extend_from_slice(captured)?;
+    for _ in 0..len {
+        file.push(7)?;
+    }
+    Ok(file)
+}
+
+/// Whether a file's records are one, of so many bytes.
+fn is_one_of(list: &[Captured], len: usize) -> bool {
+    match list {
+        [captured] => captured.bytes.len() == len,
+        _ => false,
+    }
+}
+
+#[test]
+fn a_record_has_65535_bytes_at_most(rt: HostRuntime) -> Result<(), Fail> {
+    let file = one_record(rt.alloc(), &[0xff, 0xff, 0, 0], 65_535)?;
+    let list = read_capture(rt.alloc(), &file)
+        .ok()
+        .ok_or("the file is a capture")?;
+    assert!(rt; is_one_of(&list, 65_535));
+    assert!(rt; write_capture(rt.alloc(), &list)? == file);
+
+    let longer = one_record(rt.alloc(), &[0, 0, 1, 0], 65_536)?;
+    let refused = read_capture(rt.alloc(), &longer).err();
+    assert_eq!(rt; refused, Some(CaptureFault::TooLong { at: 24 }));
     Ok(())
 }
 
