@@ -5,7 +5,8 @@ use Rattle.bit_values.specs.Widths.{bit, holds, either_width, sound_width, cast_
 use Rattle.lex_text.specs.Names.{same_text}
 use Rattle.indus_tree.specs.Tree.{Expr, Exprs, num, flag, read, count, index, member, negation, inversion, binary, cast, none, more, Stmt, Stmts, assign, cell, push, choice, loop, reject, report, done, next, Decl}
 use Rattle.indus_tree.specs.State.{Hop, Doing, lookup, held_width, set_cell, push_item}
-use Rattle.indus_tree.specs.Operators.{class_of, own_of, left_place, right_place, operate}
+use Rattle.bit_values.specs.Operators.{own_of, left_place, right_place}
+use Rattle.indus_tree.specs.Operators.{class_of, operate}
 use Rattle.indus_tree.specs.Reads.{Items, Seen, word_by_kind, variable_word, item_in, or_word, name_word}
 use Rattle.indus_tree.specs.Keys.{at_key_by_kind, at_key, has_by_kind, has, index_widths, member_widths, widths_for, first_width, other_widths}
 use Rattle.indus_tree.specs.Value.{own_width, inverted, value_of, key_of, values_of}

@@ -11,11 +11,11 @@ ghost use Rattle.indus_values.specs.Values.{exprs_count};
 ghost use Rattle.indus_run.specs.Reports.{AreShort, IsShort};
 ghost use Rattle.indus_values.specs.View.{IsShaped, cells_at, cells_in, cells_of, decls_of, doing_of, hop_in, hop_of, is_kind, seats, seen_of};
 
-use bit_values::Bits;
+use bit_values::{Bits, either_width, holds, sound_width};
 use indus_tree::{Decl, DeclKind, Expr, Property, Stmt};
 use indus_values::{
-    Env, HopResult, HopView, Report, SensorState, TeleState, cells, either_width, find, held_width,
-    holds, own_width, seat, shape_size, sound_width, value_of, values_of, word_at,
+    Env, HopResult, HopView, Report, SensorState, TeleState, cells, find, held_width, own_width,
+    seat, shape_size, value_of, values_of, word_at,
 };
 use lex_text::Name;
 use std::alloc::{AllocError, Global};

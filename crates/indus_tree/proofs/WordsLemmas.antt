@@ -14,7 +14,8 @@ use Rattle.bit_values.proofs.BitsLemmas.{cast-lt, operators_keep_width}
 use Rattle.lex_text.specs.Names.{same_text}
 use Rattle.indus_tree.specs.Tree.{Expr, num, flag, read, count, index, member, negation, inversion, binary, cast, Decl}
 use Rattle.indus_tree.specs.State.{Contents, single, members, pairs, Hop, lookup, held_width, nothing_of}
-use Rattle.indus_tree.specs.Operators.{class_of, left_place, right_place, operate}
+use Rattle.bit_values.specs.Operators.{left_place, right_place}
+use Rattle.indus_tree.specs.Operators.{class_of, operate}
 use Rattle.indus_tree.specs.Reads.{Items, Seen, scalar, single_word, word_by_kind, built_in_word, variable_word, item_in, or_word, name_word}
 use Rattle.indus_tree.specs.Keys.{same_words, found, found_in, cell_at, at_key_by_kind, at_key, index_widths, widths_for}
 use Rattle.indus_tree.specs.Value.{own_width, value_of, inverted, key_of}

@@ -6,7 +6,8 @@ use Rattle.bit_values.specs.Bits.{Word, word, invert, cast as cast_number}
 use Rattle.bit_values.specs.Widths.{bit, holds, either_width, sound_width, cast_word}
 use Rattle.indus_tree.specs.Tree.{Expr, Exprs, num, flag, read, count, index, member, negation, inversion, binary, cast, none, more}
 use Rattle.indus_tree.specs.State.{lookup, held_width}
-use Rattle.indus_tree.specs.Operators.{class_of, own_of, left_place, right_place, operate}
+use Rattle.bit_values.specs.Operators.{own_of, left_place, right_place}
+use Rattle.indus_tree.specs.Operators.{class_of, operate}
 use Rattle.indus_tree.specs.Reads.{Seen, name_word}
 use Rattle.indus_tree.specs.Keys.{at_key, has, index_widths, member_widths, widths_for, first_width, other_widths}
 

@@ -1,6 +1,7 @@
 //! The trees of properties. Each node keeps the number of its first token: the field `at`, or the
 //! first part of a variant.
 
+use bit_values::Operator;
 use lex_text::{Literal, Name};
 
 /// The type of a single value.
@@ -72,6 +73,35 @@ pub enum Op {
     Differ,
     Both,
     Either,
+}
+
+impl Op {
+    ghost use Rattle.std.specs.Prelude.{◌≡◌};
+    ghost use Rattle.indus_tree.specs.Operators.{operator_of};
+
+    /// The operator on numbers.
+    pub fn operator(self) -> Operator
+        ensures { result ≡ operator_of self }
+    {
+        match self {
+            Op::Mul => Operator::Mul,
+            Op::Add => Operator::Add,
+            Op::Sub => Operator::Sub,
+            Op::Shl => Operator::Shl,
+            Op::Shr => Operator::Shr,
+            Op::BitAnd => Operator::BitAnd,
+            Op::BitXor => Operator::BitXor,
+            Op::BitOr => Operator::BitOr,
+            Op::Less => Operator::Less,
+            Op::LessEq => Operator::LessEq,
+            Op::More => Operator::More,
+            Op::MoreEq => Operator::MoreEq,
+            Op::Equal => Operator::Equal,
+            Op::Differ => Operator::Differ,
+            Op::Both => Operator::Both,
+            Op::Either => Operator::Either,
+        }
+    }
 }
 
 /// An expression.

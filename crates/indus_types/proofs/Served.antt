@@ -3,7 +3,8 @@ use Rattle.std.proofs.Common.{◌≡◌, ℕ, List, zero, suc, true, false, ◌|
 use Rattle.bit_values.specs.Widths.{either_width}
 use Rattle.indus_tree.specs.Tree.{Expr, inversion, binary, cast, assign, cell, push, Shape, one, list, set, dict, Decl}
 use Rattle.indus_tree.specs.State.{lookup, shape_width, held_width}
-use Rattle.indus_tree.specs.Operators.{class_of, left_place, right_place}
+use Rattle.bit_values.specs.Operators.{left_place, right_place}
+use Rattle.indus_tree.specs.Operators.{class_of}
 use Rattle.indus_tree.specs.Reads.{Seen}
 use Rattle.indus_tree.specs.Value.{own_width}
 use Rattle.indus_tree.specs.declared.tree.Op.{Op}

@@ -8,7 +8,8 @@ use Rattle.indus_tree.specs.Tree.{Expr, Exprs, num, flag, read, count, index, me
 use Rattle.indus_tree.specs.State.{lookup, held_width}
 use Rattle.indus_tree.specs.declared.tree.Op.{Op}
 use Rattle.indus_tree.specs.declared.tree.Op.TheVariants.{Mul, Add, Sub, Shl, Shr, BitAnd, BitXor, BitOr, Less, LessEq, More, MoreEq, Equal, Differ, Both, Either}
-use Rattle.indus_tree.specs.Operators.{class_of, own_of, left_place, right_place, operate}
+use Rattle.bit_values.specs.Operators.{own_of, left_place, right_place}
+use Rattle.indus_tree.specs.Operators.{class_of, operate}
 use Rattle.indus_tree.specs.Reads.{Seen}
 use Rattle.indus_tree.specs.Keys.{at_key, widths_for, index_widths}
 use Rattle.indus_tree.specs.Value.{own_width, value_of, key_of}

@@ -10,7 +10,8 @@ use Rattle.indus_tree.specs.declared.tree.Op.TheVariants.{Mul, Add, Sub, Shl, Sh
 use Rattle.indus_tree.specs.declared.tree.DeclKind.{DeclKind}
 use Rattle.indus_tree.specs.declared.tree.DeclKind.TheVariants.{Tele, Sensor, Header, Control}
 use Rattle.indus_tree.specs.State.{lookup, width_of, shape_width, held_width}
-use Rattle.indus_tree.specs.Operators.{Class, like, shift, compare, logic, class_of, own_of}
+use Rattle.bit_values.specs.Operators.{Class, like, shift, compare, logic, own_of}
+use Rattle.indus_tree.specs.Operators.{class_of}
 use Rattle.indus_tree.specs.Value.{own_width}
 use Rattle.indus_scopes.specs.Kinds.{kind_of, join, as_number, kinds_differ, manner_of, left_want, right_want, binary_kind}
 use Rattle.indus_scopes.specs.Scopes.{Sight, role_from, index_kind, element_kind, item_of, builtin_of, own}

@@ -6,7 +6,8 @@ use Rattle.rule_sites.specs.Sites.{Sites, nowhere, here, both}
 use Rattle.indus_tree.specs.Tree.{Expr, inversion, binary, cast, Stmts, assign, cell, push, loop, Decl, Property}
 use Rattle.indus_tree.specs.State.{Contents, single, members, pairs, Hop, Doing, lookup, width_of, shape_width, held_width}
 use Rattle.indus_tree.specs.declared.tree.Ty.{Ty}
-use Rattle.indus_tree.specs.Operators.{class_of, left_place, right_place}
+use Rattle.bit_values.specs.Operators.{left_place, right_place}
+use Rattle.indus_tree.specs.Operators.{class_of}
 use Rattle.indus_tree.specs.declared.tree.Op.{Op}
 use Rattle.indus_tree.specs.Reads.{Seen, item_in}
 use Rattle.indus_tree.specs.Value.{own_width, value_of}

@@ -2,5 +2,4 @@
 pub mod View
 pub mod Values
 -- What serves the proof.
-pub mod Operands
 pub mod Lists

@@ -23,4 +23,4 @@ pub use names::{cells, find, seat, seats};
 pub use reads::held_width;
 pub use state::{ControlValue, Env, HopResult, HopView, Report, SensorState, TeleState};
 pub use values::{eval_expr, own_width, value_of, values_of};
-pub use words::{either_width, holds, shape_size, sound_width, word_at};
+pub use words::{shape_size, word_at};

@@ -11,8 +11,8 @@ ghost use Rattle.indus_values.specs.View.{cells_of, contents_of, decls_of, entry
 
 use crate::names::{cells, contents, find, seat};
 use crate::state::{ControlValue, Env, SensorState, TeleState};
-use crate::words::{cut, either_width, nothing, shape_width, truth, width_of, word_at};
-use bit_values::Bits;
+use crate::words::{cut, nothing, shape_width, width_of, word_at};
+use bit_values::{Bits, either_width, truth};
 use indus_tree::{Decl, DeclKind, Shape, Ty};
 use lex_text::Name;
 use std::alloc::{AllocError, Global};

@@ -10,8 +10,8 @@ ghost use Rattle.indus_values.specs.Lists.{sensor_lists, tele_lists};
 ghost use Rattle.indus_values.specs.View.{cells_in, cells_of, is_kind, seats};
 
 use crate::state::{SensorState, TeleState};
-use crate::words::{cut, nothing, shape_width, sound_width, truth, width_of};
-use bit_values::Bits;
+use crate::words::{cut, nothing, shape_width, width_of};
+use bit_values::{Bits, sound_width, truth};
 use indus_tree::{Decl, DeclKind, Expr, Property, Shape};
 use std::alloc::{AllocError, Global};
 

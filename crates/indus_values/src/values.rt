@@ -11,11 +11,9 @@ use crate::reads::{
     at_key, first_width, has, held_width, index_widths, member_widths, name_word, other_widths,
 };
 use crate::state::{Env, HopView, SensorState, TeleState};
-use crate::words::{
-    cut, either_width, holds, left_place, operate, own_of, right_place, sound_width, truth,
-};
+use crate::words::cut;
 use arrayvec::ArrayVec;
-use bit_values::Bits;
+use bit_values::{Bits, either_width, holds, sound_width, truth};
 use indus_tree::{DeclKind, Expr, Property};
 use lex_text::Name;
 use std::alloc::{AllocError, Global};
@@ -65,7 +63,8 @@ pub fn own_width(
         Expr::Invert(_, a) => own_width(a, env, items, tele, sensors),
         Expr::Bin(_, op, a, b) => {
             let left = own_width(a, env, items, tele, sensors);
-            own_of(*op, left, own_width(b, env, items, tele, sensors))
+            op.operator()
+                .own_width(left, own_width(b, env, items, tele, sensors))
         }
         Expr::Cast(_, w, _) => *w,
     }
@@ -113,11 +112,14 @@ pub fn value_of(
         Expr::Bin(_, op, a, b) => {
             let v = own_width(a, env, items, tele, sensors);
             let u = own_width(b, env, items, tele, sensors);
-            let left = left_place(*op, v, u, width);
-            let right = right_place(*op, v, u, width);
+            let left = op.operator().left_width(v, u, width);
+            let right = op.operator().right_width(v, u, width);
             let x = value_of(alloc, a, left, env, items, tele, sensors)?;
             let y = value_of(alloc, b, right, env, items, tele, sensors)?;
-            Ok(operate(*op, x.cast(sound_width(left)), y.cast(sound_width(right))))
+            Ok(
+                op.operator()
+                    .apply(x.cast(sound_width(left)), y.cast(sound_width(right))),
+            )
         }
         Expr::Cast(_, w, a) => {
             let v = value_of(alloc, a, 0, env, items, tele, sensors)?;

@@ -10,7 +10,8 @@ use Rattle.bit_values.specs.Widths.{bit, holds, either_width, sound_width, cast_
 use Rattle.lex_text.specs.Names.{same_text, same_path, parent}
 use Rattle.p4_tree.specs.Tree.{Expr, flag, assign}
 use Rattle.p4_tree.specs.Store.{Store, read, shown, set_value, written}
-use Rattle.p4_tree.specs.Value.{value_of, own_width, operate}
+use Rattle.p4_tree.specs.Operators.{operate}
+use Rattle.p4_tree.specs.Value.{value_of, own_width}
 use Rattle.p4_tree.specs.declared.statement.Op.TheVariants as p4
 use Rattle.p4_tree.specs.Statements.{Go, Run, Ended, after, in_store, meaning_of_stmt, meaning_of, meaning_of_else}
 use Rattle.indus_tree.specs.Tree as indus

@@ -4,19 +4,19 @@ ghost use Rattle.std.specs.Prelude.{◌≡◌, ◌≤◌, ◌∷◌, [], IfOk, O
 ghost use Rattle.bit_values.specs.Bits.{word, cast};
 ghost use Rattle.p4_tree.specs.Standard.{standard_root, metadata_root, egress_spec};
 ghost use Rattle.p4_tree.specs.Store.{blank, set_value};
-ghost use Rattle.p4_tree.specs.Pass.{zero_fields, no_headers, with_standard, store_before, is_dropped, to_egress, store_behind};
+ghost use Rattle.p4_tree.specs.Pass.{zero_fields, no_headers, with_standard, store_before, to_egress, store_behind};
 ghost use Rattle.wire_statements.specs.Fields.{store_of};
 ghost use Rattle.wire_parts.specs.Headers.{field_in, header_in};
 ghost use Rattle.wire_parts.specs.PartsIn.{parts_in};
 
-use bit_values::Bits;
+use bit_values::{Bits, sound_width};
 use lex_text::Name;
 use std::alloc::{AllocError, Global};
-use wire_parts::{Field, Header, Parts, path_of_one, sound_width};
+use wire_parts::{Field, Header, Parts, path_of_one};
 use wire_statements::{Fields, standard_path};
 
 /// A number without its width.
-fn number(value: Bits) -> u128
+pub fn number(value: Bits) -> u128
     ensures { result ≡ value.value }
 {
     value.value
@@ -113,14 +113,6 @@ pub fn store_before(alloc: Global, p: &Parts, port: u16, length: u64) -> Result<
     zero_fields(alloc, &path, &p.metadata, &mut s)?;
     with_standard(alloc, port, length, &mut s)?;
     Ok(s)
-}
-
-/// Whether the packet is dropped.
-pub fn is_dropped(alloc: Global, s: &Fields) -> Result<bool, AllocError>
-    ensures { IfOk result (λ b. b ≡ is_dropped (store_of s.now)) }
-{
-    let spec = standard_value(alloc, "egress_spec", s)?;
-    Ok(number(spec) == 511)
 }
 
 /// `egress_spec` when egress begins.

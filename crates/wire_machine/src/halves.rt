@@ -4,14 +4,14 @@ ghost use Rattle.std.specs.Prelude.{◌≡◌, ◌≤◌, ◌*◌, ◌++◌, len
 ghost use Rattle.bit_values.specs.Bits.{cast};
 ghost use Rattle.bit_values.specs.Bytes.{bits_of};
 ghost use Rattle.p4_tree.specs.Statements.{meaning_of};
-ghost use Rattle.p4_tree.specs.Pass.{store_behind, run_from, error_number};
+ghost use Rattle.p4_tree.specs.Pass.{is_dropped, store_behind, run_from, error_number};
 ghost use Rattle.wire_parts.specs.PartsIn.{parts_in};
 ghost use Rattle.wire_statements.specs.Fields.{store_of};
 ghost use Rattle.wire_machine.specs.Places.{error_of};
 ghost use Rattle.wire_statements.specs.Runs.{run_of, cells_in, digest_of};
 ghost use Rattle.wire_machine.specs.Halves.{parser_ends, ingress_run, egress_run, computed};
 
-use crate::begin::{set_number, store_before};
+use crate::begin::{number, set_number, standard_value, store_before};
 use crate::parse::ParserError;
 use crate::states::run_states;
 use bit_values::Bits;
@@ -149,4 +149,12 @@ pub fn computed(alloc: Global, p: &Parts, fields: Fields) -> Result<Fields, Allo
     };
     let _ = run_stmts(alloc, &p.compute, &mut r)?;
     Ok(r.fields)
+}
+
+/// Whether the packet is dropped.
+pub fn is_dropped(alloc: Global, s: &Fields) -> Result<bool, AllocError>
+    ensures { IfOk result (λ b. b ≡ is_dropped (store_of s.now)) }
+{
+    let spec = standard_value(alloc, "egress_spec", s)?;
+    Ok(number(spec) == 511)
 }

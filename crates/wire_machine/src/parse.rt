@@ -12,7 +12,7 @@ use lex_text::Name;
 use p4_tree::{Arg, Expr, Stmt};
 use std::alloc::{AllocError, Global};
 use wire_parts::{Field, Header, same_path};
-use wire_statements::{Fields, assign, value_of, width};
+use wire_statements::{Fields, assign, value_of};
 
 /// How a parser ends.
 #[derive(Clone, Copy, Debug, PartialEq, Eq)]
@@ -178,7 +178,7 @@ fn parse_stmt(
 {
     match st {
         Stmt::Assign(_, path, e) => {
-            let v = value_of(e, width(s.value(path)), s);
+            let v = value_of(e, s.value(path).width(), s);
             assign(alloc, path, v, s)?;
             Ok(Step::On(at))
         }

@@ -1,20 +1,17 @@
 //! What waits between the halves of a pass.
 
-ghost use Rattle.std.specs.Prelude.{◌≡◌, ◌≤◌, ◌*◌, ◌++◌, length, drop, IfOk, map};
+ghost use Rattle.std.specs.Prelude.{◌≡◌, ◌≤◌, ◌*◌, length, drop, IfOk};
 ghost use Rattle.bit_values.specs.Bytes.{bits_of};
-ghost use Rattle.p4_tree.specs.Parsing.{bytes_of, deparse_of};
 ghost use Rattle.p4_tree.specs.Pass.{is_dropped, to_egress, unless_dropped};
 ghost use Rattle.wire_statements.specs.Fields.{store_of};
 ghost use Rattle.wire_machine.specs.Rests.{rest_in};
 ghost use Rattle.wire_machine.specs.Machine.{queued_of};
 ghost use Rattle.std.specs.Option.{option_map};
-ghost use Rattle.wire_parts.specs.PartsIn.{parts_in};
 
-use crate::begin::{is_dropped, to_egress};
+use crate::begin::to_egress;
+use crate::halves::is_dropped;
 use crate::rest::Rest;
-use crate::writer::BitWriter;
 use std::alloc::{AllocError, Global};
-use wire_parts::Parts;
 use wire_statements::Fields;
 
 /// A packet that waits for egress: its store, and the bits that the parser did not consume.
@@ -75,14 +72,4 @@ pub fn taken(queued: Queued) -> (Fields, Rest)
 {
     let Queued { fields, rest } = queued;
     (fields, rest)
-}
-
-/// The frame that a deparser makes.
-pub fn write_frame(alloc: Global, p: &Parts, s: &Fields, rest: &Rest) -> Result<Vec<u8>, AllocError>
-    ensures { IfOk result (λ v. v.items ≡ bytes_of (deparse_of (parts_in p.now).headers (parts_in p.now).emits (store_of s.now) ++ rest_in rest.now)) }
-{
-    let mut out = BitWriter::new(alloc);
-    out.put_headers(alloc, &p.headers, &p.emits, s)?;
-    out.put_rest(&rest.bytes, rest.skip)?;
-    Ok(out.finish())
 }

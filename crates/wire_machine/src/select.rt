@@ -12,12 +12,12 @@ use bit_values::Bits;
 use lex_text::Name;
 use p4_tree::{Expr, Keyset, Transition};
 use std::alloc::{AllocError, Global};
-use wire_statements::{Fields, value_of, values_of, width};
+use wire_statements::{Fields, value_of, values_of};
 
 fn fits(k: &Keyset, key: Bits, s: &Fields) -> bool
     ensures { result ≡ fits (keyset_of k.now) key (store_of s.now) }
 {
-    let width = width(key);
+    let width = key.width();
     match k {
         Keyset::Any(_) => true,
         Keyset::One(_, e) => key.value == value_of(e, width, s).value,

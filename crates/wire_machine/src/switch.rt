@@ -10,15 +10,16 @@ ghost use Rattle.wire_machine.specs.Machine.{goes_to, machine_of, passed_of, que
 ghost use Rattle.std.specs.Option.{option_map};
 ghost use Rattle.wire_statements.specs.Runs.{cells_in, digest_of};
 
-use crate::begin::{is_dropped, standard_value};
-use crate::halves::{computed, egress, ingress, parse};
+use crate::begin::standard_value;
+use crate::halves::{computed, egress, ingress, is_dropped, parse};
 use crate::passed::Passed;
-use crate::queued::{Queued, queue, taken, write_frame};
-use bit_values::Bits;
+use crate::queued::{Queued, queue, taken};
+use crate::write::write_frame;
+use bit_values::{Bits, sound_width};
 use lex_text::Name;
 use p4_tree::Program;
 use std::alloc::{AllocError, Global};
-use wire_parts::{Cells, Parts, parts_of, sound_width};
+use wire_parts::{Cells, Parts, parts_of};
 use wire_statements::{Digest, cells_of};
 
 /// A switch that runs a program: its parts, and the cells of its registers.

@@ -11,13 +11,16 @@ ghost use Rattle.wire_parts.specs.Headers.{field_in, header_in};
 ghost use Rattle.wire_machine.specs.Pieces.{part_width, part_bits};
 ghost use Rattle.wire_machine.specs.Written.{bits_in};
 ghost use Rattle.wire_parts.specs.Paths.{path_in};
+ghost use Rattle.wire_parts.specs.PartsIn.{parts_in};
+ghost use Rattle.wire_machine.specs.Rests.{rest_in};
 
+use crate::rest::Rest;
 use crate::writer::BitWriter;
 use bit_values::Bits;
 use lex_text::Name;
 use std::alloc::{AllocError, Global};
-use wire_parts::{Field, Header, same_path};
-use wire_statements::{Fields, width};
+use wire_parts::{Field, Header, Parts, same_path};
+use wire_statements::Fields;
 
 /// The bits of a part, and one bit more.
 fn joined(part: Option<Bits>, bit: Bits) -> Bits
@@ -69,7 +72,7 @@ impl BitWriter {
         ensures { OnOk result (bits_in self.new ≡ bits_in self.old ++ number_bits 1 bit.value) }
     {
         let part = joined(self.part, bit);
-        if width(part) == 8 {
+        if part.width() == 8 {
             self.bytes.push(byte_of(part))?;
             self.part = None;
         } else {
@@ -191,4 +194,14 @@ impl BitWriter {
     {
         self.bytes
     }
+}
+
+/// The frame that a deparser makes.
+pub fn write_frame(alloc: Global, p: &Parts, s: &Fields, rest: &Rest) -> Result<Vec<u8>, AllocError>
+    ensures { IfOk result (λ v. v.items ≡ bytes_of (deparse_of (parts_in p.now).headers (parts_in p.now).emits (store_of s.now) ++ rest_in rest.now)) }
+{
+    let mut out = BitWriter::new(alloc);
+    out.put_headers(alloc, &p.headers, &p.emits, s)?;
+    out.put_rest(&rest.bytes, rest.skip)?;
+    Ok(out.finish())
 }

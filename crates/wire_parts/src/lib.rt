@@ -25,4 +25,4 @@ pub use names::{
     same_text,
 };
 pub use parts::{Cells, Parts};
-pub use widths::{sound_width, width_of};
+pub use widths::width_of;

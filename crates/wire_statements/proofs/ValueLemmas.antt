@@ -2,8 +2,7 @@
 use Rattle.std.proofs.Common.{ℕ, refl}
 use Rattle.bit_values.specs.Bits.{word}
 use Rattle.bit_values.specs.Widths.{sound_width}
-use Rattle.p4_tree.specs.Value.{Class, like, shift, joined, compare, logic, left_place, right_place}
-use Rattle.wire_statements.specs.Operands.{AreAlike}
+use Rattle.bit_values.specs.Operators.{Class, like, shift, joined, compare, logic, left_place, right_place, AreAlike}
 
 pub cast_alike : (k : Class) (v u w m n : ℕ) → AreAlike k (word (sound_width (left_place k v u w)) m) (word (sound_width (right_place k v u w)) n)
 cast_alike like v u w m n = refl

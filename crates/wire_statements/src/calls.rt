@@ -8,15 +8,15 @@ ghost use Rattle.p4_tree.specs.Statements.{assigned, index_of, done_by, act_of, 
 ghost use Rattle.wire_statements.specs.Fields.{store_of};
 ghost use Rattle.wire_statements.specs.Runs.{run_of};
 
-use crate::eval::{value_of, values_of, width};
+use crate::eval::{value_of, values_of};
 use crate::fields::Fields;
 use crate::registers::{cell_at, cells_of, write_cell};
 use crate::run::{Digest, Run};
-use bit_values::Bits;
+use bit_values::{Bits, sound_width};
 use lex_text::Name;
 use p4_tree::{Arg, Expr};
 use std::alloc::{AllocError, Global};
-use wire_parts::{last_name, parent, path_of_two, same_text, sound_width};
+use wire_parts::{last_name, parent, path_of_two, same_text};
 
 /// The path of a field of the standard metadata.
 pub fn standard_path(alloc: Global, field: &str) -> Result<Vec<Name>, AllocError>
@@ -29,7 +29,7 @@ pub fn standard_path(alloc: Global, field: &str) -> Result<Vec<Name>, AllocError
 pub fn assign(alloc: Global, path: &[Name], v: Bits, s: &mut Fields) -> Result<(), AllocError>
     ensures { OnOk result (store_of s.new ≡ assigned (store_of s.old) path.now v) }
 {
-    let v = v.cast(sound_width(width(s.value(path))));
+    let v = v.cast(sound_width(s.value(path).width()));
     s.write(alloc, path, v)
 }
 
@@ -122,7 +122,7 @@ fn write_register(name: &str, args: &[Arg], r: &mut Run)
         [Arg::One(_, i), Arg::One(_, e)] => {
             let index = index_of(i, &r.fields);
             let old = cell_at(cells_of(&r.registers, name), index);
-            let v = value_of(e, width(old), &r.fields);
+            let v = value_of(e, old.width(), &r.fields);
             write_cell(&mut r.registers, name, index, v);
         }
         _ => {}

@@ -19,7 +19,7 @@ mod run;
 mod statements;
 
 pub use calls::{assign, standard_path};
-pub use eval::{value_of, values_of, width};
+pub use eval::{value_of, values_of};
 pub use fields::Fields;
 pub use registers::cells_of;
 pub use run::{Digest, Flow, Run};

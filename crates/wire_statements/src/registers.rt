@@ -4,10 +4,9 @@ ghost use Rattle.std.specs.Prelude.{◌≡◌};
 ghost use Rattle.p4_tree.specs.Statements.{cell_at, cell_set, put_cells};
 ghost use Rattle.wire_statements.specs.Runs.{cells_in, place_in};
 
-use crate::eval::width;
-use bit_values::Bits;
+use bit_values::{Bits, sound_width};
 use lex_text::Name;
-use wire_parts::{same_text, sound_width};
+use wire_parts::same_text;
 
 /// The cells of the first register of a name; none where there is no such register.
 pub fn cells_of<'a>(registers: &'a [(Name, Vec<Bits>)], name: &str) -> &'a [Bits]
@@ -41,7 +40,7 @@ fn set_cell(cells: &mut Vec<Bits>, index: u128, v: Bits)
     ensures { cells.new.items ≡ cell_set cells.old.items index v }
 {
     let old = cell_at(cells, index);
-    let v = v.cast(sound_width(width(old)));
+    let v = v.cast(sound_width(old.width()));
     if index < cells.len() as u128 {
         cells[index as usize] = v;
     }

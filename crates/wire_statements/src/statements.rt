@@ -6,7 +6,7 @@ ghost use Rattle.p4_tree.specs.Statements.{meaning_of_stmt, meaning_of_else, mea
 ghost use Rattle.wire_statements.specs.Runs.{run_of, flow_of};
 
 use crate::calls::{assign, call};
-use crate::eval::{is_true, start_of, value_of, width};
+use crate::eval::{is_true, start_of, value_of};
 use crate::run::{Flow, Run};
 use p4_tree::Stmt;
 use std::alloc::{AllocError, Global};
@@ -25,7 +25,7 @@ fn run_stmt(alloc: Global, s: &Stmt, r: &mut Run) -> Result<Flow, AllocError>
             Ok(Flow::Go)
         }
         Stmt::Assign(_, path, e) => {
-            let v = value_of(e, width(r.fields.value(path)), &r.fields);
+            let v = value_of(e, r.fields.value(path).width(), &r.fields);
             assign(alloc, path, v, &mut r.fields)?;
             Ok(Flow::Go)
         }
