@@ -24,10 +24,10 @@ fn entry_part(
     requires short { HasShortReports (property_of p.now) }
     ensures shaped { OnOk result (IsShaped (map decl_of p.now.decls.items) tele.new sensors.new) }
     ensures does { let ds = map decl_of p.now.decls.items in
-        OnOk result (doing_of ds tele.new sensors.new out.new ≡ entry_part (property_of p.now) (hop_in ds view.now view.now.entry.items) (doing_of ds tele.old sensors.old out.old)) }
+        OnOk result (doing_of ds tele.new sensors.new out.new ≡ entry_part (property_of p.now) (hop_in ds view.now view.now.entry_.items) (doing_of ds tele.old sensors.old out.old)) }
 {
     if view.first {
-        run_block(alloc, p, &p.init, view, &view.entry, tele, sensors, out)
+        run_block(alloc, p, &p.init, view, &view.entry_, tele, sensors, out)
     } else {
         Ok(())
     }
@@ -70,14 +70,14 @@ pub fn hop_step(
     requires short { HasShortReports (property_of p.now) }
     ensures shaped { IfOk result (λ _. IsShaped (map decl_of p.now.decls.items) tele.new sensors.new) }
     ensures does { let ds = map decl_of p.now.decls.items in
-        IfOk result (λ r. doing_of ds tele.new sensors.new r ≡ hop_run (property_of p.now) (hop_in ds view.now view.now.entry.items) (exit_hop ds view.now) (begun ds tele.old sensors.old)) }
+        IfOk result (λ r. doing_of ds tele.new sensors.new r ≡ hop_run (property_of p.now) (hop_in ds view.now view.now.entry_.items) (exit_hop ds view.now) (begun ds tele.old sensors.old)) }
 {
     let mut out = HopResult {
         rejected: false,
         reports: Vec::new(alloc),
     };
     entry_part(alloc, p, view, tele, sensors, &mut out)?;
-    if let Some(values) = &view.exit {
+    if let Some(values) = &view.exit_ {
         exit_part(alloc, p, view, values, tele, sensors, &mut out)?;
     }
     Ok(out)

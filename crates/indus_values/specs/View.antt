@@ -84,7 +84,7 @@ hop_in ds v ws = hop_at ds v.switch v.first v.last ws (contents_from ds v.contro
 
 -- the exit view, where there is one
 abbrev pub exit_hop : List Decl → HopView → Option Hop
-exit_hop ds v = option_map (λ (ws : Cells). hop_in ds v ws.items) v.exit
+exit_hop ds v = option_map (λ (ws : Cells). hop_in ds v ws.items) v.exit_
 
 abbrev pub decls_of : Env → List Decl
 decls_of e = map decl_of e.decls.now

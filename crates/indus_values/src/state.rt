@@ -36,9 +36,9 @@ pub struct HopView {
     /// Whether the hop is the packet's last.
     pub last: bool,
     /// The header variables in the entry part, in order of declaration.
-    pub entry: Vec<Bits>,
+    pub entry_: Vec<Bits>,
     /// The header variables in the exit part, or `None` where forwarding drops the packet.
-    pub exit: Option<Vec<Bits>>,
+    pub exit_: Option<Vec<Bits>>,
     /// The control variables at the switch, in order of declaration.
     pub control: Vec<ControlValue>,
 }
