@@ -1,4 +1,5 @@
--- Operators on words, and the widths of their operands' places. Read `Value` after it.
+-- Operators on words, and the widths of their operands' places. Read `bit_values`' `Bits` before it and `Reads` after
+-- it.
 use Rattle.std.specs.Prelude.{ℕ, ◌&&◌, ◌||◌, not, nat_eq, nat_lt, nat_le, bit_and, bit_or, bit_xor}
 use Rattle.bit_values.specs.Bits.{Word, word, add, sub, mul, shl, shr}
 use Rattle.bit_values.specs.Widths.{bit, holds, either_width}

@@ -58,10 +58,12 @@ pub struct HopResult {
     pub reports: Vec<Report>,
 }
 
-/// What no statement changes: the declarations, what the hop shows, and the header variables.
+/// What no statement changes: the declarations, what the hop shows, what `last_hop` reads, and the
+/// header variables.
 #[derive(Clone, Copy)]
 pub struct Env<'a> {
     pub decls: &'a [Decl],
     pub view: &'a HopView,
+    pub last: bool,
     pub values: &'a [Bits],
 }
