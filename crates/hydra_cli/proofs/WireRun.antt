@@ -17,7 +17,7 @@ use Rattle.wire_network.specs.Fates.{net_of}
 use Rattle.wire_network.specs.declared.link.Told as code
 use Rattle.linked_halves.specs.Telemetry.{telemetry_of}
 use Rattle.wire_linkage.specs.Line.{program_at, run_of_frame}
-use Rattle.wire_linkage.specs.Ways.{line3_links, net_before, told_of, edges_of, dropped_of, lost_of, ShowsWay}
+use Rattle.wire_linkage.specs.Ways.{wire_line_links, net_before, told_of, edges_of, dropped_of, lost_of, ShowsWay}
 use Rattle.wire_linkage.proofs.Ways.{way_is_run}
 use Rattle.hydra_cli.specs.declared.wire.LinkedLine.{LinkedLine}
 use Rattle.hydra_cli.specs.Line as line
@@ -45,10 +45,10 @@ limit_is p small = let few = small.few in omega (arith, few)
 
 -- the run from there
 pub run_shows : (p : Property) → IsSmall p → (frame : List ℕ) (limit : ℕ) (net : Net) → limit ≡ link_limit p → net ≡ net_before p
-    → ShowsWay (λ s. parts_of (program_at p s)) (run_of_frame p frame) (travel 63 line3_links limit net 0 1 frame)
+    → ShowsWay (λ s. parts_of (program_at p s)) (run_of_frame p frame) (travel 63 wire_line_links limit net 0 1 frame)
 run_shows p small frame limit net is before =
-    let same : travel 63 line3_links limit net 0 1 frame ≡ travel 63 line3_links (longest_frame + (telemetry_of p.decls).size) (net_before p) 0 1 frame =
-    ap₂ (λ (l : ℕ) (n : Net). travel 63 line3_links l n 0 1 frame) (is ∙ limit_is p small) before in
+    let same : travel 63 wire_line_links limit net 0 1 frame ≡ travel 63 wire_line_links (longest_frame + (telemetry_of p.decls).size) (net_before p) 0 1 frame =
+    ap₂ (λ (l : ℕ) (n : Net). travel 63 wire_line_links l n 0 1 frame) (is ∙ limit_is p small) before in
     subst (λ way. ShowsWay (λ s. parts_of (program_at p s)) (run_of_frame p frame) way) (sym same) (way_is_run p frame)
 
 -- the files of the linked programs

@@ -9,7 +9,7 @@ ghost use Rattle.wire_network.specs.Fates.{fate_of, net_of, told_of};
 ghost use Rattle.wire_network.specs.Travel.{travel};
 ghost use Rattle.hydra_cli.specs.Job.{file_of, files_of, out_of};
 ghost use Rattle.linkage.specs.Linkage.{report_receiver};
-ghost use Rattle.wire_linkage.specs.Ways.{line3_links};
+ghost use Rattle.wire_linkage.specs.Ways.{wire_line_links};
 ghost use Rattle.hydra_cli.specs.Line.{IsLinkedLine, fate_files, rejected_by as rejected_of, summary_of_counts, summary_of_way};
 ghost use Rattle.hydra_cli.specs.Network.{link_limit, machine_for};
 ghost use Rattle.hydra_cli.specs.Output.{IsWireOutput, program_file};
@@ -155,7 +155,7 @@ fn carry_frame(
     requires three { length switches.old.items ≡ 3 }
     requires short { length frame.items ≤ 65535 }
     requires limit { limit ≤ 65791 }
-    ensures { IfOk result (λ fate. record { 0 = net_of (map machine_of switches.new.items) told.new.items; 1 = fate_of fate } ≡ travel 63 line3_links limit (net_of (map machine_of switches.old.items) told.old.items) 0 1 frame.items) }
+    ensures { IfOk result (λ fate. record { 0 = net_of (map machine_of switches.new.items) told.new.items; 1 = fate_of fate } ≡ travel 63 wire_line_links limit (net_of (map machine_of switches.old.items) told.old.items) 0 1 frame.items) }
 {
     let arrival = Arrival {
         switch: 0,

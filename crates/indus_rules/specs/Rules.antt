@@ -4,7 +4,7 @@ use Rattle.std.specs.Prelude.{ℕ, ◌+◌, ◌^◌, List, [], ◌∷◌, Bool, 
 use Rattle.lex_text.specs.Names.{same_text}
 use Rattle.lex_text.specs.declared.literal.Literal.{Literal}
 use Rattle.rule_sites.specs.Sites.{Sites, BreaksAt, AllFine, first_rule, first_broken}
-use Rattle.indus_tree.specs.Tree.{Expr, Exprs, none, more, num, flag, read, count, index, member, negation, inversion, binary, cast, Stmt, assign, cell, push, choice, loop, reject, report, Shape, one, list, set, dict, Decl, Property}
+use Rattle.indus_tree.specs.Tree.{Expr, exprs_count, num, flag, read, count, index, member, negation, inversion, binary, cast, Stmt, assign, cell, push, choice, loop, reject, report, Shape, one, list, set, dict, Decl, Property}
 use Rattle.indus_tree.specs.State.{lookup}
 use Rattle.indus_tree.specs.declared.tree.Ty.{Ty}
 use Rattle.indus_tree.specs.declared.tree.Ty.TheVariants as ty
@@ -198,12 +198,8 @@ ill_sized w (num p n) = too_wide (number_width n w) n.value
 ill_sized w (cast p v a) = bad_bits v
 ill_sized w e = false
 
-abbrev pub count_all : Exprs → ℕ
-count_all none = 0
-count_all (more a es) = count_all es + 1
-
 abbrev pub tells_much : Stmt → Bool
-tells_much (report p n es) = nat_lt 8 (count_all es)
+tells_much (report p n es) = nat_lt 8 (exprs_count es)
 tells_much c = false
 
 abbrev pub bad_width : Ty → Bool

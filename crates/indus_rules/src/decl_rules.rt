@@ -8,8 +8,8 @@ ghost use Rattle.indus_rules.specs.Rules.{rule_at, declared_twice, bad_width, ba
 
 use crate::expr_rules::bad_bits;
 use crate::rule::Rule;
-use indus_scopes::scope::{builtin_of, find, is};
-use indus_tree::{Decl, DeclKind, Expr, Shape, Ty};
+use indus_scopes::scope::{builtin_of, is};
+use indus_tree::{Decl, DeclKind, Expr, Shape, Ty, find};
 use lex_text::Name;
 
 fn declared_twice(before: &[Decl], name: &Name) -> bool

@@ -4,7 +4,8 @@ ghost use Rattle.std.specs.Prelude.{◌≡◌, map, nat_lt};
 ghost use Rattle.indus_tree.specs.View.{exprs_of, stmt_of};
 ghost use Rattle.indus_scopes.specs.Scopes.{loop_of, scope_of};
 ghost use Rattle.indus_rules.specs.Sites.{at_stmt};
-ghost use Rattle.indus_rules.specs.Rules.{is_check, any_missing, sets_missing, paired, same_count, all_count, ill_set, sets_fixed, answers_early, among, walked, pushes_walked, repeats, names_again, count_all, tells_much, rule_at, stmt_place};
+ghost use Rattle.indus_tree.specs.Tree.{exprs_count};
+ghost use Rattle.indus_rules.specs.Rules.{is_check, any_missing, sets_missing, paired, same_count, all_count, ill_set, sets_fixed, answers_early, among, walked, pushes_walked, repeats, names_again, tells_much, rule_at, stmt_place};
 
 use crate::rule::Rule;
 use indus_scopes::scope::{Block, Loop, Scope, same};
@@ -157,9 +158,9 @@ fn names_again(scope: &Scope, s: &Stmt) -> bool
     }
 }
 
-#[tactic(auto, using(crate::proofs::Counts::counted))]
+#[tactic(auto, using(indus_tree::proofs::Counts::counted))]
 fn over_eight(values: &[Expr]) -> bool
-    ensures { result ≡ nat_lt 8 (count_all (exprs_of values.now)) }
+    ensures { result ≡ nat_lt 8 (exprs_count (exprs_of values.now)) }
 {
     values.len() > 8
 }

@@ -1,10 +1,8 @@
 -- What the tests of reports say.
-use Rattle.std.proofs.Common.{◌≡◌, ◌↔◌, IsTrue, Bool, true, false, ◌&&◌, leb-true, le-leb, arith, List, [], ◌∷◌, length, refl}
-use Rattle.indus_tree.specs.Tree.{Stmt, Stmts, assign, cell, push, choice, loop, reject, report, done, next, Property}
-use Rattle.indus_tree.specs.View.{exprs_of}
-use Rattle.indus_tree.specs.declared.tree.Expr as code_expr
-use Rattle.indus_values.specs.Values.{exprs_count}
-use Rattle.indus_run.specs.Reports.{HasShortReports, IsShort, all_short, AreShort, is_short, are_short}
+use Rattle.std.proofs.Common.{◌≡◌, ◌↔◌, IsTrue, Bool, true, false, ◌&&◌, leb-true, le-leb, refl}
+use Rattle.indus_tree.specs.Tree.{exprs_count, Stmt, Stmts, assign, cell, push, choice, loop, reject, report, done, next, Property}
+use Rattle.indus_tree.specs.Reports.{HasShortReports, IsShort, AreShort}
+use Rattle.indus_run.specs.Reports.{all_short, is_short, are_short}
 
 both : (a b : Bool) → (a && b) ≡ true → (a ≡ true) × (b ≡ true)
 both true b h = (refl, h)
@@ -41,11 +39,6 @@ mutual
   pub short_block : (ss : Stmts) → AreShort ss → are_short ss ≡ true
   short_block done h = refl
   short_block (next s ss) h = also (is_short s) (are_short ss) (short_stmt s h.0) (short_block ss h.1)
-
--- the expressions of a list are as many as its elements
-pub count_length : (es : List code_expr.Expr) → exprs_count (exprs_of es) ≡ length es
-count_length [] = refl
-count_length (e ∷ es) = let h : exprs_count (exprs_of es) ≡ length es = count_length es in omega arith
 
 property_short : (p : Property) → all_short p ≡ true → HasShortReports p
 property_short p h =

@@ -2,7 +2,8 @@
 use Rattle.std.proofs.Common.{◌≡◌, ℕ, List, ◌++◌, ap, ◌∙◌, Result, Ok, Err, OnOk}
 use Rattle.bit_values.specs.Bits.{Word}
 use Rattle.indus_tree.specs.Tree.{Stmts}
-use Rattle.indus_tree.specs.State.{Hop, Doing}
+use Rattle.network_run.specs.PathMeaning.{Doing}
+use Rattle.indus_tree.specs.State.{Hop, Held}
 use Rattle.indus_tree.specs.Reads.{Items}
 use Rattle.indus_tree.specs.Meaning.{block_run, named, run_turns}
 
@@ -11,7 +12,7 @@ on_ok (Ok x) P Q f h = f h
 on_ok (Err e) P Q f h = h
 
 -- the same names, body and items give the same
-pub same_turns : (h : Hop) (i : Items) (xs ys : List (List ℕ)) (a b : Stmts) (ts us : List (List Word)) (d e f : Doing) → xs ≡ ys → a ≡ b → ts ≡ us → run_turns (λ ws. block_run h (i ++ named ys ws) b) us d ≡ f → e ≡ run_turns (λ ws. block_run h (i ++ named xs ws) a) ts d → e ≡ f
+pub same_turns : (h : Hop) (i : Items) (xs ys : List (List ℕ)) (a b : Stmts) (ts us : List (List Word)) (d e f : Doing Held Held) → xs ≡ ys → a ≡ b → ts ≡ us → run_turns (λ ws. block_run h (i ++ named ys ws) b) us d ≡ f → e ≡ run_turns (λ ws. block_run h (i ++ named xs ws) a) ts d → e ≡ f
 same_turns h i xs ys a b ts us d e f p q r s g =
     g
     ∙ ap (λ (z : List (List ℕ)). run_turns (λ ws. block_run h (i ++ named z ws) a) ts d) p

@@ -1,38 +1,19 @@
 //! A property at a hop.
 
 ghost use Rattle.std.specs.Prelude.{◌≡◌, map, IfOk, OnOk};
-ghost use Rattle.indus_tree.specs.Meaning.{entry_part, exit_part, hop_run};
+ghost use Rattle.network_run.specs.Hop.{exit_behind, hop_run};
+ghost use Rattle.indus_tree.specs.Law.{law_of};
+ghost use Rattle.indus_tree.specs.Reports.{HasShortReports};
 ghost use Rattle.indus_tree.specs.View.{decl_of, property_of};
-ghost use Rattle.indus_run.specs.Reports.{HasShortReports};
-ghost use Rattle.indus_values.specs.View.{IsShaped, begun, doing_of, exit_hop, hop_in};
+ghost use Rattle.indus_values.specs.View.{IsShaped, doing_of, entry_reads, exit_reads, reads_in, sensors_of, tele_of};
 
-use crate::run::run_block;
+use crate::run::run_part;
 use bit_values::Bits;
 use indus_tree::Property;
 use indus_values::{HopResult, HopView, SensorState, TeleState};
 use std::alloc::{AllocError, Global};
 
-fn entry_part(
-    alloc: Global,
-    p: &Property,
-    view: &HopView,
-    tele: &mut TeleState,
-    sensors: &mut SensorState,
-    out: &mut HopResult,
-) -> Result<(), AllocError>
-    requires shaped { IsShaped (map decl_of p.now.decls.items) tele.old sensors.old }
-    requires short { HasShortReports (property_of p.now) }
-    ensures shaped { OnOk result (IsShaped (map decl_of p.now.decls.items) tele.new sensors.new) }
-    ensures does { let ds = map decl_of p.now.decls.items in
-        OnOk result (doing_of ds tele.new sensors.new out.new ≡ entry_part (property_of p.now) (hop_in ds view.now view.now.entry.items) (doing_of ds tele.old sensors.old out.old)) }
-{
-    if view.first {
-        run_block(alloc, p, &p.init, view, &view.entry, tele, sensors, out)
-    } else {
-        Ok(())
-    }
-}
-
+/// The exit part, behind what was done before.
 fn exit_part(
     alloc: Global,
     p: &Property,
@@ -46,19 +27,20 @@ fn exit_part(
     requires short { HasShortReports (property_of p.now) }
     ensures shaped { OnOk result (IsShaped (map decl_of p.now.decls.items) tele.new sensors.new) }
     ensures does { let ds = map decl_of p.now.decls.items in
-        OnOk result (doing_of ds tele.new sensors.new out.new ≡ exit_part (property_of p.now) (hop_in ds view.now values.now) (doing_of ds tele.old sensors.old out.old)) }
+        OnOk result (doing_of ds tele.new sensors.new out.new ≡ exit_behind (law_of (property_of p.now)) (reads_in ds view.now view.now.last values.now) (doing_of ds tele.old sensors.old out.old)) }
 {
-    run_block(alloc, p, &p.tele, view, values, tele, sensors, out)?;
+    run_part(alloc, p, &p.tele, view, view.last, values, tele, sensors, out)?;
+    out.rejected = false;
     if view.last {
-        out.rejected = false;
-        run_block(alloc, p, &p.check, view, values, tele, sensors, out)
+        run_part(alloc, p, &p.check, view, view.last, values, tele, sensors, out)
     } else {
         Ok(())
     }
 }
 
 /// Runs a property at a hop: its entry part on the entry view, and then, unless forwarding drops
-/// the packet, its exit part on the exit view.
+/// the packet, its exit part on the exit view. In the entry part `last_hop` is false, as it is not
+/// known yet where forwarding sends the packet.
 pub fn hop_step(
     alloc: Global,
     p: &Property,
@@ -70,14 +52,16 @@ pub fn hop_step(
     requires short { HasShortReports (property_of p.now) }
     ensures shaped { IfOk result (λ _. IsShaped (map decl_of p.now.decls.items) tele.new sensors.new) }
     ensures does { let ds = map decl_of p.now.decls.items in
-        IfOk result (λ r. doing_of ds tele.new sensors.new r ≡ hop_run (property_of p.now) (hop_in ds view.now view.now.entry.items) (exit_hop ds view.now) (begun ds tele.old sensors.old)) }
+        IfOk result (λ r. doing_of ds tele.new sensors.new r ≡ hop_run (law_of (property_of p.now)) (entry_reads ds view.now) (exit_reads ds view.now) (tele_of ds tele.old) (sensors_of ds sensors.old)) }
 {
     let mut out = HopResult {
         rejected: false,
         reports: Vec::new(alloc),
     };
-    entry_part(alloc, p, view, tele, sensors, &mut out)?;
-    if let Some(values) = &view.exit {
+    if view.first {
+        run_part(alloc, p, &p.init, view, false, &view.entry_, tele, sensors, &mut out)?;
+    }
+    if let Some(values) = &view.exit_ {
         exit_part(alloc, p, view, values, tele, sensors, &mut out)?;
     }
     Ok(out)

@@ -7,15 +7,15 @@ ghost use Rattle.indus_tree.specs.Meaning.{block_run, index_for, named, reported
 ghost use Rattle.indus_tree.specs.Value.{values_of};
 ghost use Rattle.indus_tree.specs.View.{block_of, decl_of, expr_of, exprs_of, stmt_of};
 ghost use Rattle.indus_tree.specs.declared.tree.DeclKind.TheVariants.{Tele};
-ghost use Rattle.indus_values.specs.Values.{exprs_count};
-ghost use Rattle.indus_run.specs.Reports.{AreShort, IsShort};
+ghost use Rattle.indus_tree.specs.Tree.{exprs_count};
+ghost use Rattle.indus_tree.specs.Reports.{AreShort, IsShort};
 ghost use Rattle.indus_values.specs.View.{IsShaped, cells_at, cells_in, cells_of, decls_of, doing_of, hop_in, hop_of, is_kind, seats, seen_of};
 
 use bit_values::{Bits, either_width, holds, sound_width};
-use indus_tree::{Decl, DeclKind, Expr, Property, Stmt};
+use indus_tree::{Decl, DeclKind, Expr, Property, Stmt, find};
 use indus_values::{
-    Env, HopResult, HopView, Report, SensorState, TeleState, cells, find, held_width, own_width,
-    seat, shape_size, value_of, values_of, word_at,
+    Env, HopResult, HopView, Report, SensorState, TeleState, cells, held_width, own_width, seat,
+    shape_size, value_of, values_of, word_at,
 };
 use lex_text::Name;
 use std::alloc::{AllocError, Global};
@@ -36,11 +36,33 @@ pub fn run_block(
     requires short { AreShort (block_of block.now) }
     ensures shaped { OnOk result (IsShaped (map decl_of p.now.decls.items) tele.new sensors.new) }
     ensures does { let ds = map decl_of p.now.decls.items in
-        OnOk result (doing_of ds tele.new sensors.new out.new ≡ run_of (hop_in ds view.now values.now) (block_of block.now) (doing_of ds tele.old sensors.old out.old)) }
+        OnOk result (doing_of ds tele.new sensors.new out.new ≡ run_of (hop_in ds view.now view.now.last values.now) (block_of block.now) (doing_of ds tele.old sensors.old out.old)) }
+{
+    run_part(alloc, p, block, view, view.last, values, tele, sensors, out)
+}
+
+/// Runs a block of the property, in which `last_hop` reads `last`.
+pub fn run_part(
+    alloc: Global,
+    p: &Property,
+    block: &[Stmt],
+    view: &HopView,
+    last: bool,
+    values: &[Bits],
+    tele: &mut TeleState,
+    sensors: &mut SensorState,
+    out: &mut HopResult,
+) -> Result<(), AllocError>
+    requires shaped { IsShaped (map decl_of p.now.decls.items) tele.old sensors.old }
+    requires short { AreShort (block_of block.now) }
+    ensures shaped { OnOk result (IsShaped (map decl_of p.now.decls.items) tele.new sensors.new) }
+    ensures does { let ds = map decl_of p.now.decls.items in
+        OnOk result (doing_of ds tele.new sensors.new out.new ≡ run_of (hop_in ds view.now last values.now) (block_of block.now) (doing_of ds tele.old sensors.old out.old)) }
 {
     let env = Env {
         decls: &p.decls,
         view,
+        last,
         values,
     };
     block_run(alloc, block, &env, &[], tele, sensors, out)

@@ -2,8 +2,9 @@
 
 ghost use Rattle.std.specs.Prelude.{◌≡◌, ◌↔◌, map, IsTrue};
 ghost use Rattle.indus_tree.specs.View.{block_of, decl_of, exprs_of, property_of, stmt_of};
-ghost use Rattle.indus_values.specs.Values.{exprs_count};
-ghost use Rattle.indus_run.specs.Reports.{HasShortReports, all_short, are_short, is_short};
+ghost use Rattle.indus_tree.specs.Tree.{exprs_count};
+ghost use Rattle.indus_tree.specs.Reports.{HasShortReports};
+ghost use Rattle.indus_run.specs.Reports.{all_short, are_short, is_short};
 ghost use Rattle.indus_values.specs.View.{IsShaped};
 
 use indus_tree::{DeclKind, Expr, Property, Stmt};
@@ -30,7 +31,7 @@ fn all_short(p: &Property) -> bool
     are_short(&p.init) && are_short(&p.tele) && are_short(&p.check)
 }
 
-#[tactic(auto, using(crate::proofs::ReportLemmas::count_length))]
+#[tactic(auto, using(indus_tree::proofs::Counts::counted))]
 fn exprs_count(all: &[Expr]) -> usize
     ensures { result ≡ exprs_count (exprs_of all.now) }
 {

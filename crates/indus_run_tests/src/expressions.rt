@@ -21,8 +21,8 @@ fn value(alloc: Global, text: &str, width: u8) -> Result<Bits, Fail> {
         switch: 7,
         first: true,
         last: false,
-        entry: Vec::new(alloc),
-        exit: Some(Vec::new(alloc)),
+        entry_: Vec::new(alloc),
+        exit_: Some(Vec::new(alloc)),
         control: Vec::new(alloc),
     };
     match p.init.first() {

@@ -14,8 +14,8 @@ fn view(alloc: Global, switch: u16, first: bool, last: bool) -> HopView {
         switch,
         first,
         last,
-        entry: Vec::new(alloc),
-        exit: Some(Vec::new(alloc)),
+        entry_: Vec::new(alloc),
+        exit_: Some(Vec::new(alloc)),
         control: Vec::new(alloc),
     }
 }
@@ -252,10 +252,10 @@ fn views_of_the_two_parts(rt: HostRuntime) -> Result<(), Fail> {
         (true, true, "[9w3] [9w0] / /"),
     ] {
         let mut hop = view(alloc, 0, first, true);
-        hop.entry.push(Bits::new(9, 3))?;
+        hop.entry_.push(Bits::new(9, 3))?;
         let mut exit = Vec::new(alloc);
         exit.push(Bits::new(9, 5))?;
-        hop.exit = if dropped { None } else { Some(exit) };
+        hop.exit_ = if dropped { None } else { Some(exit) };
         hop.control.push(ControlValue::One(Bits::new(9, 20)))?;
         let left = left_by(alloc, &p, &hop)?;
         assert_eq!(rt; left.as_str(), wanted);

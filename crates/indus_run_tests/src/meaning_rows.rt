@@ -7,10 +7,11 @@ ghost use Rattle.indus_tree.specs.Height.{height};
 ghost use Rattle.indus_tree.specs.Start.{sensors_start};
 ghost use Rattle.indus_tree.specs.Operators.{operate};
 ghost use Rattle.indus_tree.specs.Value.{inverted};
-ghost use Rattle.indus_tree.specs.Meaning.{exit_part, hop_run};
-ghost use Rattle.indus_tree.specs.Hops.{hop_at};
+ghost use Rattle.indus_tree.specs.Law.{law_of};
 ghost use Rattle.indus_tree.specs.declared.tree.Op.TheVariants as op;
-ghost use Rattle.indus_tree.specs.Examples.{begun, passes, over_one, over_three, reporting, three_pushes, wrapping, nested_loops, two_parts, two_parts_set, out_of_range, two_views, view_hop, two_flags, in_order, in_order_placed};
+ghost use Rattle.network_run.specs.PathMeaning.{exit_part, reads_at};
+ghost use Rattle.network_run.specs.Hop.{hop_run};
+ghost use Rattle.indus_run_tests.specs.Properties.{begun, no_contents, passes, passes_with, over_one, over_three, reporting, three_pushes, wrapping, nested_loops, two_parts, two_parts_set, out_of_range, two_views, two_flags, in_order, in_order_placed};
 
 /// A list of two items is pushed onto at three switches: the third push changes nothing.
 fn third_push_changes_nothing()
@@ -35,8 +36,8 @@ fn loops_take_the_shortest_list()
 
 /// A dict and a set whose keys have two parts; a missing key gives 0.
 fn keys_of_two_parts()
-    ensures { (exit_part two_parts (hop_at two_parts.decls 0 true true [] two_parts_set)
-        (begun two_parts)).reports
+    ensures { (exit_part (law_of two_parts) (reads_at 0 true true [] two_parts_set)
+        (begun two_parts).tele (begun two_parts).sensors).reports
         ≡ reporting 0
         (word 16 500 ∷ word 16 7 ∷ word 16 0 ∷ word 1 1 ∷ word 1 0 ∷ []) ∷ [] }
 {}
@@ -51,12 +52,13 @@ fn cells_out_of_range()
 
 /// Init reads the entry view, and telemetry the exit view, which a dropped packet does not have.
 fn views_of_the_two_parts()
-    ensures entry { (hop_run two_views (view_hop 0) (Some (view_hop 2)) (begun two_views)).tele
-        (codes "n") ≡ word 9 0 ∷ [] }
-    ensures exit { (hop_run two_views (view_hop 0) (Some (view_hop 2)) (begun two_views)).tele
-        (codes "m") ≡ word 9 2 ∷ [] }
-    ensures dropped { (hop_run two_views (view_hop 5) None (begun two_views)).tele
-        (codes "m") ≡ word 9 0 ∷ [] }
+    ensures entry { (passes_with two_views 0 true true (word 9 0 ∷ []) (word 9 2 ∷ [])
+        (begun two_views)).tele (codes "n") ≡ word 9 0 ∷ [] }
+    ensures exit { (passes_with two_views 0 true true (word 9 0 ∷ []) (word 9 2 ∷ [])
+        (begun two_views)).tele (codes "m") ≡ word 9 2 ∷ [] }
+    ensures dropped { let d = begun two_views in
+        (hop_run (law_of two_views) (reads_at 0 true false (word 9 5 ∷ []) no_contents) None
+        d.tele d.sensors).tele (codes "m") ≡ word 9 0 ∷ [] }
 {}
 
 /// Of three hops the first is the first hop, and the third the last.

@@ -1,14 +1,12 @@
 // Worked rows: what properties say of logs. Each is proved by computation.
 ghost use Rattle.std.specs.Prelude.{codes, ◌≡◌, List, [], ◌∷◌, ◌++◌, true, false, Some, None};
 ghost use Rattle.bit_values.specs.Bits.{word};
-ghost use Rattle.indus_tree.specs.Meaning as meaning;
-ghost use Rattle.indus_tree.specs.Meaning.{fresh};
-ghost use Rattle.indus_tree.specs.Hops.{hop_at};
-ghost use Rattle.indus_tree.specs.Start.{sensors_start, tele_start};
-ghost use Rattle.indus_tree.specs.Examples.{three_pushes, wrapping, two_parts, two_parts_set, two_views, two_flags, in_order};
-ghost use Rattle.network_run.specs.PathMeaning.{exit_part};
-ghost use Rattle.indus_path.specs.Law.{hop_of, law_of};
-ghost use Rattle.indus_path.specs.Examples.{asks_early, exit_reads, no_contents, over_one, over_three, passage, passage_with, path_of, rejects_early, reporting};
+ghost use Rattle.indus_tree.specs.Law.{hop_for, law_of};
+ghost use Rattle.indus_tree.specs.Meaning.{run_of};
+ghost use Rattle.network_run.specs.PathMeaning.{entry_part, exit_part};
+ghost use Rattle.network_run.specs.Hop.{hop_run};
+ghost use Rattle.indus_run_tests.specs.Properties.{begun, no_contents, passes, three_pushes, wrapping, two_parts, two_parts_set, two_views, two_flags, in_order};
+ghost use Rattle.indus_run_tests.specs.Logs.{asks_early, reads_where, over_one, over_three, passage, passage_with, path_of, rejects_early, reporting, reports_twice, telling};
 
 /// A list of two items is pushed onto at three switches: the third push changes nothing.
 fn third_push_changes_nothing()
@@ -65,23 +63,37 @@ fn contents_by_numbers()
         ≡ reporting 0 0 0 (word 16 500 ∷ word 16 7 ∷ word 16 0 ∷ word 1 1 ∷ word 1 0 ∷ []) ∷ [] }
 {}
 
-/// Where telemetry rejects, the law drops the flag and the meaning keeps it, unless the hop is the
-/// last.
+/// Where telemetry rejects, which no well-typed property does, the exit part sets the flag back: the
+/// checker alone rejects.
 fn flags_of_early_rejections()
-    ensures law { let ts = fresh (law_of rejects_early).tele (law_of rejects_early).sensors in
-        (exit_part (law_of rejects_early) (exit_reads false) ts.tele ts.sensors).rejected ≡ false }
-    ensures meaning { let ts = fresh (law_of rejects_early).tele (law_of rejects_early).sensors in
-        (meaning.exit_part rejects_early (hop_of [] (exit_reads false)) ts).rejected ≡ true }
-    ensures last { let ts = fresh (law_of rejects_early).tele (law_of rejects_early).sensors in
-        (meaning.exit_part rejects_early (hop_of [] (exit_reads true)) ts).rejected ≡ false }
+    ensures passing { let d = begun rejects_early in
+        (exit_part (law_of rejects_early) (reads_where false) d.tele d.sensors).rejected ≡ false }
+    ensures block { (run_of (hop_for [] (reads_where false)) rejects_early.tele
+        (begun rejects_early)).rejected ≡ true }
+    ensures last { let d = begun rejects_early in
+        (exit_part (law_of rejects_early) (reads_where true) d.tele d.sensors).rejected ≡ false }
+    ensures hop { (passes rejects_early 0 true false (begun rejects_early)).rejected ≡ false }
 {}
 
 /// Init that asks for the last hop, which no well-typed property does: the entry half does not know
-/// it, and the whole hop does.
+/// it yet, in a log and in a whole hop alike.
 fn last_hops_in_init()
-    ensures law { (path_of asks_early (over_one 0)).tele 0 (codes "l") ≡ word 1 0 ∷ [] }
-    ensures meaning { (meaning.entry_part asks_early
-        (hop_at asks_early.decls 0 true true [] no_contents)
-        (fresh (tele_start asks_early.decls) (sensors_start asks_early.decls))).tele (codes "l")
+    ensures log { (path_of asks_early (over_one 0)).tele 0 (codes "l") ≡ word 1 0 ∷ [] }
+    ensures hop { (passes asks_early 0 true true (begun asks_early)).tele (codes "l")
+        ≡ word 1 0 ∷ [] }
+    ensures told { let d = begun asks_early in
+        (entry_part (law_of asks_early) (reads_where true) d.tele d.sensors).tele (codes "l")
         ≡ word 1 1 ∷ [] }
+{}
+
+/// Reports of init, which come before those of the checker, are kept at a hop.
+fn reports_of_both_parts()
+    ensures passed { let d = begun reports_twice in
+        (hop_run (law_of reports_twice) (reads_where false) (Some (reads_where true)) d.tele
+        d.sensors).reports ≡ telling 0 ∷ telling 1 ∷ [] }
+    ensures dropped { let d = begun reports_twice in
+        (hop_run (law_of reports_twice) (reads_where false) None d.tele d.sensors).reports
+        ≡ telling 0 ∷ [] }
+    ensures log { (path_of reports_twice (over_one 0)).reports
+        ≡ reporting 0 0 0 [] ∷ reporting 0 0 1 [] ∷ [] }
 {}

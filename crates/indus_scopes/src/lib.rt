@@ -2,7 +2,7 @@
 //!
 //! The layer above gets `Scope`, which is what is in sight at a place: `role` is what a name stands for
 //! there, and `own` what an expression is, whatever its place wants. `kind` has what places want of
-//! operands, `uses` as what a name may be used, and `find` is the declaration of a name.
+//! operands, and `uses` as what a name may be used.
 //!
 //! `specs/Kinds`, `Scopes` and `Uses` are read in this order. No rule is told here.
 //!

@@ -8,7 +8,7 @@ ghost use Rattle.indus_tree.specs.View.{decl_of, expr_of, shape_of};
 ghost use Rattle.indus_scopes.specs.Scopes.{item_in, item_of, builtin_of, role_of, stands, scope_of, loop_of, read_kind, index_kind, scalar_kind, element_kind, shape_item, list_item, own};
 
 use crate::kind::{Kind, as_number, binary_kind, kind_of, manner_of};
-use indus_tree::{Decl, DeclKind, Expr, Shape};
+use indus_tree::{Decl, DeclKind, Expr, Shape, find};
 use lex_text::Name;
 
 /// A block of a property.
@@ -55,18 +55,6 @@ pub fn is(name: &Name, text: &str) -> bool
     ensures { result ≡ same_text name.now text.now }
 {
     name.as_str() == text
-}
-
-/// The declaration of a name.
-pub fn find<'a>(decls: &'a [Decl], name: &Name) -> Option<&'a Decl>
-    ensures { option_map (λ d. decl_of d.now) result ≡ lookup (map decl_of decls.now) name.now }
-{
-    for d in decls {
-        if same(&d.name, name) {
-            return Some(d);
-        }
-    }
-    None
 }
 
 /// One item of a list.

@@ -1,2 +1,4 @@
 pub mod ShapesLemmas
 pub mod WordsLemmas
+pub mod BehindLemmas
+pub mod Counts

@@ -12,11 +12,13 @@ use Rattle.bit_values.specs.Bits.{Word}
 use Rattle.bit_values.specs.Widths.{bit, sound_width, cast_word, holds}
 use Rattle.lex_text.specs.Names.{same_text}
 use Rattle.indus_tree.specs.Tree.{Shape, one, list, set, dict, Expr, num, flag, Stmt, Stmts, assign, cell, push, choice, loop, reject, report, done, next, Decl, Property}
-use Rattle.indus_tree.specs.State.{Hop, Doing, lookup, shape_width, held_width, nothing_of, put, put_cell, pushed, set_by_kind, set_cell, push_by_kind, push_item, shape_size}
+use Rattle.network_run.specs.PathMeaning.{Reads, Doing, nothing_yet, entry_part, exit_part}
+use Rattle.indus_tree.specs.State.{Contents, Hop, Held, lookup, shape_width, held_width, nothing_of, put, put_cell, pushed, set_by_kind, set_cell, push_by_kind, push_item, shape_size}
 use Rattle.indus_tree.specs.Start.{start_of_shape, start_of_decl, tele_start, start_word, cells, sensor_of_shape, sensor_of_decl, sensors_start}
 use Rattle.indus_tree.specs.Reads.{Items}
 use Rattle.indus_tree.specs.Value.{value_of}
-use Rattle.indus_tree.specs.Meaning.{seen_by, value_for, index_for, named, turns_of, run_turns, stmt_run, block_run, run_of, fresh, entry_part, exit_part}
+use Rattle.indus_tree.specs.Meaning.{seen_by, value_for, index_for, named, turns_of, run_turns, stmt_run, block_run, run_of}
+use Rattle.indus_tree.specs.Law.{hop_for, law_of}
 use Rattle.indus_tree.specs.Shapes.{HasWidth, IsTeleCount, IsSensorCount, IsHeld, AreShaped}
 use Rattle.indus_tree.specs.declared.tree.DeclKind.{DeclKind}
 use Rattle.indus_tree.specs.declared.tree.DeclKind.TheVariants.{Tele, Sensor, Header, Control}
@@ -75,7 +77,7 @@ same_decl : (ds : List Decl) (x : List ℕ) (v u : Decl) → lookup ds x ≡ Som
 unfolding held_decl
 same_decl ds x v u e f = ap (held_decl v) (sym e ∙ f)
 
-module _ (ds : List Decl) (x : List ℕ) (w : Word) (d : Doing) where
+module _ (ds : List Decl) (x : List ℕ) (w : Word) (d : Doing Held Held) where
   set_kind_keeps : (n : ℕ) (k : DeclKind) (v : Decl) → lookup ds x ≡ Some v → v.kind ≡ k → HasWidth (shape_width v.shape) w → AreShaped ds d → AreShaped ds (set_by_kind k x n w d)
   set_kind_keeps n Tele v e q fits h =
       let held = cell_held IsTeleCount v.shape w fits (nat_lt n (length (d.tele x))) (d.tele x) n (h.tele x v e q) in
@@ -114,20 +116,20 @@ module _ (ds : List Decl) (x : List ℕ) (w : Word) (d : Doing) where
 -- ---- blocks
 
 -- of two results one
-either_keeps : (ds : List Decl) (b : Bool) (c d : Doing) → AreShaped ds c → AreShaped ds d → AreShaped ds (cond b c d)
+either_keeps : (ds : List Decl) (b : Bool) (c d : Doing Held Held) → AreShaped ds c → AreShaped ds d → AreShaped ds (cond b c d)
 either_keeps ds true c d h k = h
 either_keeps ds false c d h k = k
 
-turns_keep : (ds : List Decl) (turn : List Word → Doing → Doing) → ((ws : List Word) (d : Doing) → AreShaped ds d → AreShaped ds (turn ws d)) → (ts : List (List Word)) (d : Doing) → AreShaped ds d → AreShaped ds (run_turns turn ts d)
+turns_keep : (ds : List Decl) (turn : List Word → Doing Held Held → Doing Held Held) → ((ws : List Word) (d : Doing Held Held) → AreShaped ds d → AreShaped ds (turn ws d)) → (ts : List (List Word)) (d : Doing Held Held) → AreShaped ds d → AreShaped ds (run_turns turn ts d)
 turns_keep ds turn keeps [] d h = h
 turns_keep ds turn keeps (ws ∷ ts) d h = turns_keep ds turn keeps ts (turn ws d) (keeps ws d h)
 
 module _ (h : Hop) where
-  value_fits : (i : Items) (d : Doing) (x : List ℕ) (e : Expr) → HasWidth (held_width (lookup h.decls x)) (value_for h i d x e)
+  value_fits : (i : Items) (d : Doing Held Held) (x : List ℕ) (e : Expr) → HasWidth (held_width (lookup h.decls x)) (value_for h i d x e)
   value_fits i d x e = cast_fits (held_width (lookup h.decls x)) (value_of (seen_by h i d) e (held_width (lookup h.decls x)))
 
   mutual
-    stmt_keeps : (s : Stmt) (i : Items) (d : Doing) → AreShaped h.decls d → AreShaped h.decls (stmt_run h i s d)
+    stmt_keeps : (s : Stmt) (i : Items) (d : Doing Held Held) → AreShaped h.decls d → AreShaped h.decls (stmt_run h i s d)
     stmt_keeps (assign p x e) i d k = set_keeps h.decls x (value_for h i d x e) d 0 (lookup h.decls x) refl (value_fits i d x e) k
     stmt_keeps (cell p x n e) i d k = set_keeps h.decls x (value_for h i d x e) d (index_for h i d n) (lookup h.decls x) refl (value_fits i d x e) k
     stmt_keeps (push p x e) i d k = push_keeps h.decls x (value_for h i d x e) d (lookup h.decls x) refl (value_fits i d x e) k
@@ -136,24 +138,32 @@ module _ (h : Hop) where
     stmt_keeps (reject p) i d k = record { tele = k.tele; sensors = k.sensors }
     stmt_keeps (report p n es) i d k = record { tele = k.tele; sensors = k.sensors }
 
-    pub block_keeps : (ss : Stmts) (i : Items) (d : Doing) → AreShaped h.decls d → AreShaped h.decls (block_run h i ss d)
+    pub block_keeps : (ss : Stmts) (i : Items) (d : Doing Held Held) → AreShaped h.decls d → AreShaped h.decls (block_run h i ss d)
     block_keeps done i d k = k
     block_keeps (next s ss) i d k = block_keeps ss i (stmt_run h i s d) (stmt_keeps s i d k)
 
-  run_keeps : (ss : Stmts) (d : Doing) → AreShaped h.decls d → AreShaped h.decls (run_of h ss d)
+  run_keeps : (ss : Stmts) (d : Doing Held Held) → AreShaped h.decls d → AreShaped h.decls (run_of h ss d)
   run_keeps ss d k = block_keeps ss [] d k
 
 -- ---- the parts of a property
 
-pub entry_keeps : (p : Property) (h : Hop) (d : Doing) → AreShaped h.decls d → AreShaped h.decls (entry_part p h d)
-entry_keeps p h d k = either_keeps h.decls h.first (run_of h p.init d) d (run_keeps h p.init d k) k
+-- the flag is set back
+anew : (ds : List Decl) (d : Doing Held Held) → AreShaped ds d → AreShaped ds (record d { rejected = false })
+anew ds d k = record { tele = k.tele; sensors = k.sensors }
 
-pub exit_keeps : (p : Property) (h : Hop) (d : Doing) → AreShaped h.decls d → AreShaped h.decls (exit_part p h d)
-exit_keeps p h d k =
-    let run = run_of h p.tele d in
-    let shaped = run_keeps h p.tele d k in
-    let begun : Doing = record run { rejected = false } in
-    either_keeps h.decls h.last (run_of h p.check begun) run (run_keeps h p.check begun (record { tele = shaped.tele; sensors = shaped.sensors })) shaped
+pub entry_keeps : (p : Property) (r : Reads Contents) (tele sensors : Held) → AreShaped p.decls (nothing_yet tele sensors) → AreShaped p.decls (entry_part (law_of p) r tele sensors)
+entry_keeps p r tele sensors k =
+    let h : Hop = hop_for p.decls r in
+    let d : Doing Held Held = nothing_yet tele sensors in
+    either_keeps p.decls r.first (run_of h p.init d) d (run_keeps h p.init d k) k
+
+pub exit_keeps : (p : Property) (r : Reads Contents) (tele sensors : Held) → AreShaped p.decls (nothing_yet tele sensors) → AreShaped p.decls (exit_part (law_of p) r tele sensors)
+exit_keeps p r tele sensors k =
+    let h : Hop = hop_for p.decls r in
+    let run : Doing Held Held = run_of h p.tele (nothing_yet tele sensors) in
+    let begun : Doing Held Held = record run { rejected = false } in
+    let shaped : AreShaped p.decls begun = anew p.decls run (run_keeps h p.tele (nothing_yet tele sensors) k) in
+    either_keeps p.decls r.last (run_of h p.check begun) begun (run_keeps h p.check begun shaped) shaped
 
 -- ---- the start
 
@@ -182,7 +192,7 @@ sensor_starts (list t n) w fits = record { words = all_cells (HasWidth (shape_wi
 sensor_starts (set ks) w fits = record { words = All-nil (HasWidth (shape_width (set ks))); count = refl }
 sensor_starts (dict ks t) w fits = record { words = All-nil (HasWidth (shape_width (dict ks t))); count = refl }
 
-pub starts_shaped : (ds : List Decl) → AreShaped ds (fresh (tele_start ds) (sensors_start ds))
+pub starts_shaped : (ds : List Decl) → AreShaped ds (nothing_yet (tele_start ds) (sensors_start ds))
 starts_shaped ds =
     record {
       tele = λ x v e q. subst (λ o. IsHeld IsTeleCount v.shape (start_of_decl o)) (sym e) (tele_starts v.shape);

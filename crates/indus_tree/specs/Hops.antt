@@ -1,4 +1,4 @@
--- What a hop shows, from the lists in which a network holds it. Read `Reads` before it.
+-- What a hop shows, from the lists in which a network holds it. Read `Meaning` before it and `Law` after it.
 use Rattle.std.specs.Prelude.{ℕ, ◌+◌, List, [], ◌∷◌, slice_get, Bool, true, false, if◌then◌else◌, Option, Some, None}
 use Rattle.bit_values.specs.Bits.{Word}
 use Rattle.lex_text.specs.Names.{same_text}
@@ -27,12 +27,12 @@ abbrev pub seat_of : DeclKind → List Decl → List ℕ → Option ℕ
 seat_of = seat_from 0
 
 -- the number of a variable: its place among all declarations
-abbrev pub number_from : (n : ℕ) → List Decl → List ℕ → Option ℕ
-number_from n [] x = None
-number_from n (d ∷ ds) x = if same_text d.name x then Some n else number_from (n + 1) ds x
+abbrev pub variable_number_from : (n : ℕ) → List Decl → List ℕ → Option ℕ
+variable_number_from n [] x = None
+variable_number_from n (d ∷ ds) x = if same_text d.name x then Some n else variable_number_from (n + 1) ds x
 
-abbrev pub number_of : List Decl → List ℕ → Option ℕ
-number_of = number_from 0
+abbrev pub variable_number : List Decl → List ℕ → Option ℕ
+variable_number = variable_number_from 0
 
 -- the word at a place of a view
 abbrev pub view_word : List Word → Option ℕ → Word
@@ -50,7 +50,7 @@ contents_at contents (Some v) = contents v
 
 -- the control variables: a switch has their contents by their numbers
 abbrev pub contents_in : List Decl → (ℕ → Contents) → List ℕ → Contents
-contents_in ds contents x = contents_at contents (number_of ds x)
+contents_in ds contents x = contents_at contents (variable_number ds x)
 
 -- what a hop shows
 abbrev pub hop_at : List Decl → (switch : ℕ) (first last : Bool) (view : List Word) (contents : ℕ → Contents) → Hop

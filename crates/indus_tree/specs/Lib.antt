@@ -11,9 +11,9 @@ pub mod Keys
 pub mod Value
 pub mod Meaning
 pub mod Hops
+pub mod Law
 pub mod Shapes
 pub mod Words
 pub mod Names
 pub mod Small
--- Small properties, on which the meaning is worked out in tests.
-pub mod Examples
+pub mod Reports

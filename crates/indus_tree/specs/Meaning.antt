@@ -1,26 +1,27 @@
--- What blocks do, and a property's two parts at a hop. Read `Value` before it.
-use Rattle.std.specs.Prelude.{ℕ, zero, suc, min, List, [], ◌∷◌, ◌++◌, length, map, slice_get, true, false, if◌then◌else◌, Option, Some, None}
+-- What blocks do. Read `Value` before it and `Hops` after it.
+use Rattle.std.specs.Prelude.{ℕ, zero, suc, min, List, [], ◌∷◌, ◌++◌, length, map, slice_get, true, if◌then◌else◌}
 use Rattle.bit_values.specs.Bits.{Word}
 use Rattle.bit_values.specs.Widths.{holds, either_width, sound_width, cast_word}
-use Rattle.indus_tree.specs.Tree.{Expr, Stmt, Stmts, assign, cell, push, choice, loop, reject, report, done, next, Property}
-use Rattle.indus_tree.specs.State.{Hop, Doing, lookup, held_width, nothing_of, set_cell, push_item}
+use Rattle.network_run.specs.PathMeaning.{Doing}
+use Rattle.indus_tree.specs.Tree.{Expr, Stmt, Stmts, assign, cell, push, choice, loop, reject, report, done, next}
+use Rattle.indus_tree.specs.State.{Hop, Held, lookup, held_width, nothing_of, set_cell, push_item}
 use Rattle.indus_tree.specs.Reads.{Items, Seen, or_word}
 use Rattle.indus_tree.specs.Value.{own_width, value_of, values_of}
 
 -- what an expression of a statement sees
-abbrev pub seen_by : Hop → Items → Doing → Seen
+abbrev pub seen_by : Hop → Items → Doing Held Held → Seen
 seen_by h i d = record { hop = h; items = i; tele = d.tele; sensors = d.sensors }
 
 -- the value that a variable takes, in its own width
-abbrev pub value_for : Hop → Items → Doing → List ℕ → Expr → Word
+abbrev pub value_for : Hop → Items → Doing Held Held → List ℕ → Expr → Word
 value_for h i d x e = cast_word (sound_width (held_width (lookup h.decls x))) (value_of (seen_by h i d) e (held_width (lookup h.decls x)))
 
 -- the index of a cell, in which a bare number has 128 bits
-abbrev pub index_for : Hop → Items → Doing → Expr → ℕ
+abbrev pub index_for : Hop → Items → Doing Held Held → Expr → ℕ
 index_for h i d e = (value_of (seen_by h i d) e (either_width (own_width (seen_by h i d) e) 128)).value
 
 -- one report more
-abbrev pub reported : ℕ → List Word → Doing → Doing
+abbrev pub reported : ℕ → List Word → Doing Held Held → Doing Held Held
 reported n ws d = record d { reports = d.reports ++ (record { number = n; values = ws }) ∷ [] }
 
 -- ---- loops
@@ -52,7 +53,7 @@ named (x ∷ xs) [] = []
 named (x ∷ xs) (w ∷ ws) = (x, w) ∷ named xs ws
 
 -- a turn for each list of items, in order
-abbrev pub run_turns : (List Word → Doing → Doing) → List (List Word) → Doing → Doing
+abbrev pub run_turns : (List Word → Doing Held Held → Doing Held Held) → List (List Word) → Doing Held Held → Doing Held Held
 run_turns turn [] d = d
 run_turns turn (ws ∷ more) d = run_turns turn more (turn ws d)
 
@@ -61,7 +62,7 @@ run_turns turn (ws ∷ more) d = run_turns turn more (turn ws d)
 module _ (h : Hop) where
   abbrev mutual
     -- what a statement does, inside loops with these items
-    pub stmt_run : Items → Stmt → Doing → Doing
+    pub stmt_run : Items → Stmt → Doing Held Held → Doing Held Held
     stmt_run i (assign p x e) d = set_cell (lookup h.decls x) x 0 (value_for h i d x e) d
     stmt_run i (cell p x n e) d = set_cell (lookup h.decls x) x (index_for h i d n) (value_for h i d x e) d
     stmt_run i (push p x e) d = push_item (lookup h.decls x) x (value_for h i d x e) d
@@ -72,33 +73,10 @@ module _ (h : Hop) where
     stmt_run i (report p n es) d = reported n (values_of (seen_by h i d) es) d
 
     -- what a block does: its statements in order
-    pub block_run : Items → Stmts → Doing → Doing
+    pub block_run : Items → Stmts → Doing Held Held → Doing Held Held
     block_run i done d = d
     block_run i (next s ss) d = block_run i ss (stmt_run i s d)
 
   -- what a block does outside loops
-  abbrev pub run_of : Stmts → Doing → Doing
+  abbrev pub run_of : Stmts → Doing Held Held → Doing Held Held
   run_of ss d = block_run [] ss d
-
--- nothing rejected and nothing reported yet
-abbrev pub fresh : (tele sensors : List ℕ → List Word) → Doing
-fresh tele sensors = record { tele = tele; sensors = sensors; rejected = false; reports = [] }
-
--- ---- a property at a hop
-
--- the entry part, on the entry view: init where this is the packet's first hop, and nothing elsewhere
-abbrev pub entry_part : Property → Hop → Doing → Doing
-entry_part p h d = if h.first then run_of h p.init d else d
-
--- the checker, which begins with nothing rejected
-abbrev pub checked : Property → Hop → Doing → Doing
-checked p h d = run_of h p.check (record d { rejected = false })
-
--- the exit part, on the exit view: telemetry, and then at the last hop the checker
-abbrev pub exit_part : Property → Hop → Doing → Doing
-exit_part p h d = if h.last then checked p h (run_of h p.tele d) else run_of h p.tele d
-
--- both parts; there is no exit view where forwarding drops the packet, and no exit part
-abbrev pub hop_run : Property → (entry : Hop) → (exit : Option Hop) → Doing → Doing
-hop_run p h None d = entry_part p h d
-hop_run p h (Some g) d = exit_part p g (entry_part p h d)

@@ -1,5 +1,5 @@
 -- What names read: an expression sees a hop, the items of loops, and the packet's and the switch's variables. Read
--- `State` before it and `Keys` after it.
+-- `State` and `Operators` before it and `Keys` after it.
 use Rattle.std.specs.Prelude.{codes, ℕ, List, [], ◌∷◌, if◌then◌else◌, Option, Some, None}
 use Rattle.bit_values.specs.Bits.{Word, word, cast}
 use Rattle.bit_values.specs.Widths.{bit}

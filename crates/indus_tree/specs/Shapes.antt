@@ -5,7 +5,8 @@ use Rattle.std.specs.List.{All}
 use Rattle.bit_values.specs.Bits.{Word}
 use Rattle.bit_values.specs.Widths.{sound_width}
 use Rattle.indus_tree.specs.Tree.{Shape, one, list, set, dict, Decl}
-use Rattle.indus_tree.specs.State.{Doing, lookup, shape_width}
+use Rattle.network_run.specs.PathMeaning.{Doing}
+use Rattle.indus_tree.specs.State.{Held, lookup, shape_width}
 use Rattle.indus_tree.specs.declared.tree.DeclKind.TheVariants.{Tele, Sensor}
 
 -- a word of the width w
@@ -33,6 +34,6 @@ pub record IsHeld (IsCount : Shape → ℕ → Type 0) (s : Shape) (ws : List Wo
   pub count : IsCount s (length ws)
 
 -- each variable of the packet and each sensor of the switch holds words of its declaration
-pub record AreShaped (ds : List Decl) (d : Doing) : Type 0 where
+pub record AreShaped (ds : List Decl) (d : Doing Held Held) : Type 0 where
   pub tele : (x : List ℕ) (v : Decl) → lookup ds x ≡ Some v → v.kind ≡ Tele → IsHeld IsTeleCount v.shape (d.tele x)
   pub sensors : (x : List ℕ) (v : Decl) → lookup ds x ≡ Some v → v.kind ≡ Sensor → IsHeld IsSensorCount v.shape (d.sensors x)

@@ -1,5 +1,5 @@
 -- What variables hold at the start: the packet's at its first hop, and a switch's before any packet. Read `State`
--- before it.
+-- before it and `Operators` after it.
 use Rattle.std.specs.Prelude.{ℕ, zero, suc, List, [], ◌∷◌, Option, Some, None}
 use Rattle.bit_values.specs.Bits.{Word, word, cast}
 use Rattle.bit_values.specs.Widths.{bit, sound_width, cast_word}

@@ -1,9 +1,11 @@
--- What a hop shows a property, and what the property's statements change, by the names of variables. Read `Tree`
--- before it, and `Start` and `Value` after it.
+-- What a hop shows a property, and what the property's statements change, by the names of variables. Statements
+-- work on the `Doing` of the network law. Read `Tree` and `network_run`'s `PathMeaning` before it, and `Start` after
+-- it.
 use Rattle.std.specs.Prelude.{ℕ, List, [], ◌∷◌, ◌++◌, length, slice_set, Bool, nat_lt, if◌then◌else◌, Option, Some, None}
 use Rattle.bit_values.specs.Bits.{Word, word}
 use Rattle.bit_values.specs.Widths.{sound_width}
 use Rattle.lex_text.specs.Names.{same_text}
+use Rattle.network_run.specs.PathMeaning.{Doing}
 use Rattle.indus_tree.specs.Tree.{Shape, one, list, set, dict, Decl}
 use Rattle.indus_tree.specs.declared.tree.DeclKind.{DeclKind}
 use Rattle.indus_tree.specs.declared.tree.DeclKind.TheVariants.{Tele, Sensor, Header, Control}
@@ -26,18 +28,9 @@ pub record Hop : Type 0 where
   pub last : Bool
   pub switch : ℕ
 
--- values for the control plane, with the number of the statement that hands them up
-pub record Report : Type 0 where
-  pub number : ℕ
-  pub values : List Word
-
--- what statements change: the packet's variables, the switch's sensors, the flag and the reports. A variable
--- holds a list of words, and a scalar a list of one
-pub record Doing : Type 0 where
-  pub tele : List ℕ → List Word
-  pub sensors : List ℕ → List Word
-  pub rejected : Bool
-  pub reports : List Report
+-- the words that each variable of a packet or of a switch holds: a list of them, and a scalar a list of one
+abbrev pub Held : Type 0
+Held = List ℕ → List Word
 
 -- the declaration of a name, where there is one
 abbrev pub lookup : List Decl → List ℕ → Option Decl
@@ -73,7 +66,7 @@ abbrev pub nothing_of : ℕ → Word
 nothing_of w = word (sound_width w) 0
 
 -- the variables, where one name holds other words
-abbrev pub put : (List ℕ → List Word) → List ℕ → List Word → List ℕ → List Word
+abbrev pub put : Held → List ℕ → List Word → Held
 put f x ws = λ y. if same_text x y then ws else f y
 
 -- the words, where one cell is another. A write out of range changes nothing
@@ -85,24 +78,24 @@ abbrev pub pushed : (size : ℕ) → List Word → Word → List Word
 pushed size ws w = if nat_lt (length ws) size then ws ++ w ∷ [] else ws
 
 -- a cell of a variable of a kind takes a word. Header and control variables are not written
-abbrev pub set_by_kind : DeclKind → List ℕ → ℕ → Word → Doing → Doing
+abbrev pub set_by_kind : DeclKind → List ℕ → ℕ → Word → Doing Held Held → Doing Held Held
 set_by_kind Tele x n w d = record d { tele = put d.tele x (put_cell (d.tele x) n w) }
 set_by_kind Sensor x n w d = record d { sensors = put d.sensors x (put_cell (d.sensors x) n w) }
 set_by_kind Header x n w d = d
 set_by_kind Control x n w d = d
 
 -- a cell of a declared variable takes a word
-abbrev pub set_cell : Option Decl → List ℕ → ℕ → Word → Doing → Doing
+abbrev pub set_cell : Option Decl → List ℕ → ℕ → Word → Doing Held Held → Doing Held Held
 set_cell None x n w d = d
 set_cell (Some v) x n w d = set_by_kind v.kind x n w d
 
 -- a list of the packet's takes a word as its last item, where it has room
-abbrev pub push_by_kind : DeclKind → (size : ℕ) → List ℕ → Word → Doing → Doing
+abbrev pub push_by_kind : DeclKind → (size : ℕ) → List ℕ → Word → Doing Held Held → Doing Held Held
 push_by_kind Tele size x w d = record d { tele = put d.tele x (pushed size (d.tele x) w) }
 push_by_kind Sensor size x w d = d
 push_by_kind Header size x w d = d
 push_by_kind Control size x w d = d
 
-abbrev pub push_item : Option Decl → List ℕ → Word → Doing → Doing
+abbrev pub push_item : Option Decl → List ℕ → Word → Doing Held Held → Doing Held Held
 push_item None x w d = d
 push_item (Some v) x w d = push_by_kind v.kind (shape_size v.shape) x w d

@@ -1,5 +1,6 @@
--- Trees of properties without pointers. The first part of each node is the number of its first token.
-use Rattle.std.specs.Prelude.{ℕ, List, [], ◌∷◌, Bool, Option}
+-- Trees of properties without pointers. The first part of each node is the number of its first token. Read `State`
+-- after it.
+use Rattle.std.specs.Prelude.{ℕ, ◌+◌, List, [], ◌∷◌, Bool, Option}
 use Rattle.lex_text.specs.declared.literal.Literal.{Literal}
 use Rattle.indus_tree.specs.declared.tree.DeclKind.{DeclKind}
 use Rattle.indus_tree.specs.declared.tree.Op.{Op}
@@ -36,6 +37,11 @@ mutual
 abbrev pub exprs_from : List Expr → Exprs
 exprs_from [] = none
 exprs_from (e ∷ es) = more e (exprs_from es)
+
+-- how many expressions a list has
+abbrev pub exprs_count : Exprs → ℕ
+exprs_count none = 0
+exprs_count (more e es) = exprs_count es + 1
 
 mutual
   -- a statement

@@ -3,9 +3,11 @@
 ghost use Rattle.std.specs.Prelude.{List, ℕ};
 ghost use Rattle.bit_values.specs.Bits.{IsWord};
 ghost use Rattle.indus_tree.specs.Tree.{Decl, Expr, Property, Stmts};
-ghost use Rattle.indus_tree.specs.State.{Doing, Hop};
+ghost use Rattle.network_run.specs.PathMeaning.{Reads, Doing, nothing_yet, entry_part, exit_part};
+ghost use Rattle.indus_tree.specs.State.{Contents, Held, Hop};
 ghost use Rattle.indus_tree.specs.Start.{sensors_start, tele_start};
-ghost use Rattle.indus_tree.specs.Meaning.{block_run, exit_part, entry_part, fresh};
+ghost use Rattle.indus_tree.specs.Meaning.{block_run};
+ghost use Rattle.indus_tree.specs.Law.{law_of};
 ghost use Rattle.indus_tree.specs.Reads.{Items, Seen};
 ghost use Rattle.indus_tree.specs.Shapes.{AreShaped};
 ghost use Rattle.indus_tree.specs.Value.{value_of};
@@ -21,11 +23,13 @@ pub fn values_are_words()
 /// that breaks a rule of types: words of the declared width, one in a scalar, and no more than a list
 /// has room for.
 pub fn variables_keep_their_shapes()
-    ensures start { (ds : List Decl) → AreShaped ds (fresh (tele_start ds) (sensors_start ds)) }
-    ensures blocks { (h : Hop) (items : Items) (ss : Stmts) (d : Doing) →
+    ensures start { (ds : List Decl) → AreShaped ds (nothing_yet (tele_start ds) (sensors_start ds)) }
+    ensures blocks { (h : Hop) (items : Items) (ss : Stmts) (d : Doing Held Held) →
         AreShaped h.decls d → AreShaped h.decls (block_run h items ss d) }
-    ensures entry { (p : Property) (h : Hop) (d : Doing) →
-        AreShaped h.decls d → AreShaped h.decls (entry_part p h d) }
-    ensures exit { (p : Property) (h : Hop) (d : Doing) →
-        AreShaped h.decls d → AreShaped h.decls (exit_part p h d) }
+    ensures entry { (p : Property) (r : Reads Contents) (tele sensors : Held) →
+        AreShaped p.decls (nothing_yet tele sensors) →
+        AreShaped p.decls (entry_part (law_of p) r tele sensors) }
+    ensures exit { (p : Property) (r : Reads Contents) (tele sensors : Held) →
+        AreShaped p.decls (nothing_yet tele sensors) →
+        AreShaped p.decls (exit_part (law_of p) r tele sensors) }
 {}

@@ -11,7 +11,7 @@ use Rattle.indus_tree.specs.Tree.{Decl, Property}
 use Rattle.indus_tree.specs.State.{lookup}
 use Rattle.indus_tree.specs.View.{decl_of}
 use Rattle.indus_tree.specs.declared.tree.Decl as code
-use Rattle.indus_tree.specs.Hops.{number_from, number_of}
+use Rattle.indus_tree.specs.Hops.{variable_number_from, variable_number}
 use Rattle.indus_scopes.specs.Scopes.{builtin_of}
 use Rattle.indus_rules.specs.Sites.{decl_sites}
 use Rattle.indus_rules.specs.Rules.{Fine, is_some, IsWellTyped}
@@ -114,14 +114,14 @@ seat_step : (b : Bool) (k len n : ℕ) (rest : Option ℕ) → cond (nat_lt k le
 seat_step true k len n rest h = here_seat len n
 seat_step false k len n rest h = later_step (nat_lt k len) k len n refl ∙ h
 
-seat : (q : List ℕ) (ds : List Decl) (n : ℕ) → cond (nat_lt (prefix_len (λ x. not (bytes_eq q x)) (names_of ds)) (length (names_of ds))) (Some (n + prefix_len (λ x. not (bytes_eq q x)) (names_of ds))) None ≡ number_from n ds q
+seat : (q : List ℕ) (ds : List Decl) (n : ℕ) → cond (nat_lt (prefix_len (λ x. not (bytes_eq q x)) (names_of ds)) (length (names_of ds))) (Some (n + prefix_len (λ x. not (bytes_eq q x)) (names_of ds))) None ≡ variable_number_from n ds q
 seat q [] n = refl
 seat q (d ∷ ds) n =
     ap (λ (b : Bool). cond (nat_lt (cond (not b) (1 + prefix_len (λ x. not (bytes_eq q x)) (names_of ds)) 0) (suc (length (names_of ds)))) (Some (n + cond (not b) (1 + prefix_len (λ x. not (bytes_eq q x)) (names_of ds)) 0)) None) (nat_list_eq_equiv.symm q d.name)
-    ∙ seat_step (same_text d.name q) (prefix_len (λ x. not (bytes_eq q x)) (names_of ds)) (length (names_of ds)) n (number_from (n + 1) ds q) (seat q ds (n + 1))
+    ∙ seat_step (same_text d.name q) (prefix_len (λ x. not (bytes_eq q x)) (names_of ds)) (length (names_of ds)) n (variable_number_from (n + 1) ds q) (seat q ds (n + 1))
 
 -- where a name stands in the table is its number
-pub position_number : (q : List ℕ) (ks : List (String Global)) (ds : List Decl) → texts ks ≡ names_of ds → position (λ k. bytes_eq q (string_bytes k)) ks ≡ number_of ds q
+pub position_number : (q : List ℕ) (ks : List (String Global)) (ds : List Decl) → texts ks ≡ names_of ds → position (λ k. bytes_eq q (string_bytes k)) ks ≡ variable_number ds q
 position_number q ks ds same =
     let k : ℕ = prefix_len (λ x. not (bytes_eq q x)) (names_of ds) in
     let zero_more : 0 + k ≡ k = omega arith in

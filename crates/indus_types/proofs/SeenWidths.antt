@@ -10,7 +10,8 @@ use Rattle.bit_values.specs.Widths.{bit, sound_width}
 use Rattle.lex_text.specs.Names.{same_text}
 use Rattle.rule_sites.specs.Sites.{or_else}
 use Rattle.indus_tree.specs.Tree.{Stmts, loop, Decl, Property}
-use Rattle.indus_tree.specs.State.{Contents, single, members, pairs, Hop, Doing, lookup, shape_width, held_width, nothing_of}
+use Rattle.network_run.specs.PathMeaning.{Doing}
+use Rattle.indus_tree.specs.State.{Contents, single, members, pairs, Hop, Held, lookup, shape_width, held_width, nothing_of}
 use Rattle.indus_tree.specs.declared.tree.DeclKind.{DeclKind}
 use Rattle.indus_tree.specs.declared.tree.DeclKind.TheVariants.{Tele, Sensor, Header, Control}
 use Rattle.indus_tree.specs.Reads.{Items, Seen, scalar, single_word, word_by_kind, variable_word, item_in, or_word}
@@ -120,7 +121,7 @@ sees_fits g s is sees =
 
 -- ---- blocks
 
-pub block_sees : (p : Property) (b : Block) (h : Hop) (d : Doing) → h.decls ≡ p.decls → ShowsDeclared p.decls h → AreShaped p.decls d → SeesDeclared (sight p b) (seen_by h [] d)
+pub block_sees : (p : Property) (b : Block) (h : Hop) (d : Doing Held Held) → h.decls ≡ p.decls → ShowsDeclared p.decls h → AreShaped p.decls d → SeesDeclared (sight p b) (seen_by h [] d)
 block_sees p b h d e shows shaped =
     record {
       decls = e;
@@ -190,9 +191,9 @@ first_item (a ∷ i) j x r q new h it = item_step r q new (same_text a.0 x) a.1 
 
 -- in a turn whose words are items of the lists, a loop's statements see what is declared
 turn_sees :
-    (g : Sight) (h : Hop) (i : Items) (d : Doing) → SeesDeclared g (seen_by h i d)
+    (g : Sight) (h : Hop) (i : Items) (d : Doing Held Held) → SeesDeclared g (seen_by h i d)
     → (ns ls : List (List ℕ)) → IsLoop g ns ls → (ws : List Word) → AreItems g.decls ls ws
-    → (c : Doing) → AreShaped g.decls c → SeesDeclared (within g ns ls) (seen_by h (i ++ named ns ws) c)
+    → (c : Doing Held Held) → AreShaped g.decls c → SeesDeclared (within g ns ls) (seen_by h (i ++ named ns ws) c)
 turn_sees g h i d sees ns ls is ws words c shaped =
     record {
       decls = sees.decls;
@@ -226,9 +227,9 @@ turns_words ds tele ls h (suc n) le =
     (All-cons (AreItems ds ls) (turn_items (map tele ls) n) [] (turn_words ds tele n ls h (omega (arith, le))) (All-nil (AreItems ds ls)))
 
 pub turns_see :
-    (g : Sight) (h : Hop) (i : Items) (d : Doing) → SeesDeclared g (seen_by h i d)
+    (g : Sight) (h : Hop) (i : Items) (d : Doing Held Held) → SeesDeclared g (seen_by h i d)
     → (p : ℕ) (ns ls : List (List ℕ)) (a : Stmts) → Fine (stmt_sites g (loop p ns ls a))
-    → All (λ ws. (c : Doing) → AreShaped g.decls c → SeesDeclared (within g ns ls) (seen_by h (i ++ named ns ws) c)) (turns_of (map d.tele ls))
+    → All (λ ws. (c : Doing Held Held) → AreShaped g.decls c → SeesDeclared (within g ns ls) (seen_by h (i ++ named ns ws) c)) (turns_of (map d.tele ls))
 turns_see g h i d sees p ns ls a f =
     let is = loop_facts g p ns ls a f in
     All-weaker (AreItems g.decls ls) _ (λ ws words. turn_sees g h i d sees ns ls is ws words) (turns_of (map d.tele ls)) (turns_words g.decls d.tele ls (filled g (seen_by h i d) sees ls is.walked) (shortest (map d.tele ls)) (omega arith))

@@ -1,12 +1,13 @@
 -- The reports of a well-typed property are short, by induction on its statements.
 use Rattle.std.proofs.lemmas.Bool.{ltb-false}
-use Rattle.indus_tree.specs.Tree.{Stmt, Stmts, assign, cell, push, choice, loop, reject, report, done, next}
+use Rattle.indus_tree.specs.Tree.{exprs_count, Stmt, Stmts, assign, cell, push, choice, loop, reject, report, done, next}
 use Rattle.indus_scopes.specs.Scopes.{Sight}
 use Rattle.indus_rules.specs.Sites.{stmt_sites, block_sites, within, sight}
-use Rattle.indus_rules.specs.Rules.{Fine, count_all}
+use Rattle.indus_rules.specs.Rules.{Fine}
 use Rattle.indus_rules.specs.declared.rule.Rule.TheVariants.{BadSize}
 use Rattle.indus_scopes.specs.declared.scope.Block.TheVariants as block
-use Rattle.indus_types.specs.Facts.{IsShort, AreShort, ReportsAreShort}
+use Rattle.indus_tree.specs.Reports.{IsShort, AreShort}
+use Rattle.indus_types.specs.Facts.{ReportsAreShort}
 use Rattle.indus_types.proofs.Checked.{each_fine}
 
 mutual
@@ -17,7 +18,7 @@ mutual
   stmt_short (choice p t a b) g f = (block_short a g f.1.1.0, block_short b g f.1.1.1)
   stmt_short (loop p ns ls a) g f = block_short a (within g ns ls) f.1
   stmt_short (reject p) g f = tt
-  stmt_short (report p n es) g f = ltb-false 8 (count_all es) (f.0 BadSize)
+  stmt_short (report p n es) g f = ltb-false 8 (exprs_count es) (f.0 BadSize)
 
   block_short : (cs : Stmts) (g : Sight) → Fine (block_sites g cs) → AreShort cs
   block_short done g f = tt

@@ -8,7 +8,7 @@ use Rattle.indus_tree.specs.Tree.{Decl}
 use Rattle.indus_tree.specs.State.{Contents, lookup, shape_width, nothing_of}
 use Rattle.indus_tree.specs.Reads.{or_word}
 use Rattle.indus_tree.specs.Shapes.{HasWidth}
-use Rattle.indus_tree.specs.Hops.{same_kind, seat_from, number_from, view_word, contents_at}
+use Rattle.indus_tree.specs.Hops.{same_kind, seat_from, variable_number_from, view_word, contents_at}
 use Rattle.indus_tree.specs.declared.tree.DeclKind.TheVariants.{Header, Control}
 use Rattle.indus_types.specs.StaticWidths.{GiveWidth}
 use Rattle.indus_types.specs.Views.{header_widths, HaveWidths, GiveDeclared, HoldDeclared, HopsShowDeclared}
@@ -53,15 +53,15 @@ module _ (x : List ℕ) (d : Decl) where
 
   module _ (contents : ℕ → Contents) where
     contents_step :
-        (v : Decl) (vs : List Decl) (n : ℕ) → (lookup vs x ≡ Some d → GiveWidth (shape_width d.shape) (contents_at contents (number_from (n + 1) vs x)))
+        (v : Decl) (vs : List Decl) (n : ℕ) → (lookup vs x ≡ Some d → GiveWidth (shape_width d.shape) (contents_at contents (variable_number_from (n + 1) vs x)))
         → (b : Bool) → GiveDeclared v.kind (shape_width v.shape) (contents n) → cond b (Some v) (lookup vs x) ≡ Some d → d.kind ≡ Control
-        → GiveWidth (shape_width d.shape) (contents_at contents (cond b (Some n) (number_from (n + 1) vs x)))
+        → GiveWidth (shape_width d.shape) (contents_at contents (cond b (Some n) (variable_number_from (n + 1) vs x)))
     contents_step v vs n rest true here e q =
         let same : v ≡ d = cc in
         subst (λ k. GiveDeclared k (shape_width d.shape) (contents n)) q (subst (λ (u : Decl). GiveDeclared u.kind (shape_width u.shape) (contents n)) same here)
     contents_step v vs n rest false here e q = rest e
 
-    contents_shown : (ds : List Decl) (n : ℕ) → HoldDeclared n ds contents → lookup ds x ≡ Some d → d.kind ≡ Control → GiveWidth (shape_width d.shape) (contents_at contents (number_from n ds x))
+    contents_shown : (ds : List Decl) (n : ℕ) → HoldDeclared n ds contents → lookup ds x ≡ Some d → d.kind ≡ Control → GiveWidth (shape_width d.shape) (contents_at contents (variable_number_from n ds x))
     contents_shown [] n h e q = absurd (let c : (let none : Option Decl = None in none) ≡ Some d = e in cc)
     contents_shown (v ∷ vs) n h e q = contents_step v vs n (λ f. contents_shown vs (n + 1) h.1 f q) (same_text v.name x) h.0 e q
 

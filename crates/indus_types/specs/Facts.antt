@@ -1,11 +1,12 @@
 -- What well-typedness says of a tree. Read `Sites` and `Rules` of `indus_rules` before it.
-use Rattle.std.specs.Prelude.{◌≡◌, ◌⊎◌, ℕ, ◌≤◌, List, false, IsSome}
-use Rattle.indus_tree.specs.Tree.{Expr, read, count, index, member, Stmt, Stmts, done, next, assign, cell, push, choice, loop, reject, report, Property}
+use Rattle.std.specs.Prelude.{◌≡◌, ◌⊎◌, ℕ, List, false, IsSome}
+use Rattle.indus_tree.specs.Tree.{Expr, read, count, index, member, Property}
+use Rattle.indus_tree.specs.Reports.{HasShortReports}
 use Rattle.indus_tree.specs.State.{lookup}
 use Rattle.indus_scopes.specs.Kinds.{kinds_differ, widths_differ}
 use Rattle.indus_scopes.specs.Scopes.{Sight, item_of, builtin_of, own}
 use Rattle.indus_rules.specs.Sites.{property_sites, expr_sites}
-use Rattle.indus_rules.specs.Rules.{Fine, IsWellTyped, count_all}
+use Rattle.indus_rules.specs.Rules.{Fine, IsWellTyped}
 use Rattle.indus_scopes.specs.declared.kind.Kind.{Kind}
 
 -- of a well-typed property each site is fine by itself. Layers above take what they need of it by projection: the sites
@@ -35,28 +36,6 @@ abbrev pub FineAgrees : Type 0
 FineAgrees = (g : Sight) (want : Kind) (e : Expr) → Fine (expr_sites g want e) → Agrees g want e
 
 -- ---- reports of at most eight values
-
-abbrev mutual
-  -- no report of a statement has more
-  pub IsShort : Stmt → Type 0
-  IsShort (assign p x e) = Unit {0}
-  IsShort (cell p x i e) = Unit {0}
-  IsShort (push p x e) = Unit {0}
-  IsShort (choice p t a b) = AreShort a × AreShort b
-  IsShort (loop p ns ls a) = AreShort a
-  IsShort (reject p) = Unit {0}
-  IsShort (report p n es) = count_all es ≤ 8
-
-  -- no report of a block has more
-  pub AreShort : Stmts → Type 0
-  AreShort done = Unit {0}
-  AreShort (next c rest) = IsShort c × AreShort rest
-
--- no report of a property has more
-pub record HasShortReports (p : Property) : Type 0 where
-  pub init : AreShort p.init
-  pub tele : AreShort p.tele
-  pub check : AreShort p.check
 
 -- the reports of a well-typed property are short
 abbrev pub ReportsAreShort : Type 0

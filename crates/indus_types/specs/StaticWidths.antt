@@ -4,7 +4,8 @@ use Rattle.bit_values.specs.Bits.{Word}
 use Rattle.bit_values.specs.Widths.{either_width}
 use Rattle.rule_sites.specs.Sites.{Sites, nowhere, here, both}
 use Rattle.indus_tree.specs.Tree.{Expr, inversion, binary, cast, Stmts, assign, cell, push, loop, Decl, Property}
-use Rattle.indus_tree.specs.State.{Contents, single, members, pairs, Hop, Doing, lookup, width_of, shape_width, held_width}
+use Rattle.network_run.specs.PathMeaning.{Doing}
+use Rattle.indus_tree.specs.State.{Contents, single, members, pairs, Hop, Held, lookup, width_of, shape_width, held_width}
 use Rattle.indus_tree.specs.declared.tree.Ty.{Ty}
 use Rattle.bit_values.specs.Operators.{left_place, right_place}
 use Rattle.indus_tree.specs.Operators.{class_of}
@@ -76,11 +77,11 @@ pub record SeesDeclared (g : Sight) (s : Seen) : Type 0 where
 
 -- the statements of a block see so where variables keep to their declarations, and those of a loop do in each turn
 pub record SightsAreSeen : Type 0 where
-  pub blocks : (p : Property) (b : Block) (h : Hop) (d : Doing) → h.decls ≡ p.decls → ShowsDeclared p.decls h → AreShaped p.decls d → SeesDeclared (sight p b) (seen_by h [] d)
+  pub blocks : (p : Property) (b : Block) (h : Hop) (d : Doing Held Held) → h.decls ≡ p.decls → ShowsDeclared p.decls h → AreShaped p.decls d → SeesDeclared (sight p b) (seen_by h [] d)
   pub turns :
-      (g : Sight) (h : Hop) (i : List (List ℕ × Word)) (d : Doing) → SeesDeclared g (seen_by h i d)
+      (g : Sight) (h : Hop) (i : List (List ℕ × Word)) (d : Doing Held Held) → SeesDeclared g (seen_by h i d)
       → (p : ℕ) (ns ls : List (List ℕ)) (a : Stmts) → Fine (stmt_sites g (loop p ns ls a))
-      → All (λ ws. (c : Doing) → AreShaped g.decls c → SeesDeclared (within g ns ls) (seen_by h (i ++ named ns ws) c)) (turns_of (map d.tele ls))
+      → All (λ ws. (c : Doing Held Held) → AreShaped g.decls c → SeesDeclared (within g ns ls) (seen_by h (i ++ named ns ws) c)) (turns_of (map d.tele ls))
   -- and what they see fits their sight
   pub fits : (g : Sight) (s : Seen) → IsSound g → SeesDeclared g s → Fits g s
 

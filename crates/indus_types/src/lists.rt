@@ -4,8 +4,7 @@ ghost use Rattle.std.specs.Prelude.{◌≡◌, map};
 ghost use Rattle.indus_tree.specs.View.{decl_of, shape_of};
 ghost use Rattle.indus_types.specs.Sums.{is_list, size_of, smallest};
 
-use indus_rules::find;
-use indus_tree::{Decl, Shape};
+use indus_tree::{Decl, Shape, find};
 use lex_text::Name;
 
 /// The size of a list, and 0 where the name is of no list.

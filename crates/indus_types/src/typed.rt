@@ -1,7 +1,7 @@
 //! A property that is well typed.
 
 ghost use Rattle.std.specs.Prelude.{◌≡◌, IfErr, IfOk};
-ghost use Rattle.indus_tree.specs.Hops.{number_of};
+ghost use Rattle.indus_tree.specs.Hops.{variable_number};
 ghost use Rattle.indus_tree.specs.View.{property_of};
 ghost use Rattle.indus_rules.specs.Rules.{IsWellTyped};
 ghost use Rattle.indus_types.specs.Faults.{HasCause};
@@ -66,7 +66,7 @@ impl TypedProperty {
 
     /// The place of a name among the declarations.
     pub fn number(&self, name: &str) -> Option<usize>
-        ensures { result ≡ number_of (property_of self.now.property).decls name.now }
+        ensures { result ≡ variable_number (property_of self.now.property).decls name.now }
     {
         self.names.get_index_of(name)
     }

@@ -6,11 +6,12 @@ use Rattle.std.proofs.Common.{Vec, Global}
 use Rattle.bit_values.specs.Bits.{Word}
 use Rattle.indus_tree.specs.Tree.{Decl}
 use Rattle.indus_tree.specs.View.{decl_of}
-use Rattle.indus_tree.specs.State as meaning
-use Rattle.indus_tree.specs.State.{Contents, single, members, pairs, Hop, Doing}
+use Rattle.network_run.specs.PathMeaning as law
+use Rattle.network_run.specs.PathMeaning.{Reads, Doing, reads_at}
+use Rattle.indus_tree.specs.State.{Contents, single, members, pairs, Hop, Held}
 use Rattle.indus_tree.specs.Reads.{Items, Seen}
-use Rattle.indus_tree.specs.Meaning.{fresh}
-use Rattle.indus_tree.specs.Hops.{same_kind, seat_of, hop_at}
+use Rattle.indus_tree.specs.Hops.{same_kind, seat_of}
+use Rattle.indus_tree.specs.Law.{hop_for}
 use Rattle.indus_tree.specs.declared.tree.DeclKind.{DeclKind}
 use Rattle.indus_tree.specs.declared.tree.DeclKind.TheVariants.{Tele, Sensor, Control}
 use Rattle.indus_values.specs.declared.state.ControlValue.{ControlValue}
@@ -78,36 +79,46 @@ or_no_members (Some c) = c
 abbrev pub contents_from : List Decl → List ControlValue → (number : ℕ) → Contents
 contents_from ds cs v = or_no_members (option_map contents_of (slice_get cs (seats Control (take v ds))))
 
--- what a hop shows, where the header variables have these values
-abbrev pub hop_in : List Decl → HopView → List Word → Hop
-hop_in ds v ws = hop_at ds v.switch v.first v.last ws (contents_from ds v.control.items)
+-- what a block reads at a hop, where the header variables have these values
+abbrev pub reads_in : List Decl → HopView → (last : Bool) → List Word → Reads Contents
+reads_in ds v last ws = reads_at v.switch v.first last ws (contents_from ds v.control.items)
 
--- the exit view, where there is one
-abbrev pub exit_hop : List Decl → HopView → Option Hop
-exit_hop ds v = option_map (λ (ws : Cells). hop_in ds v ws.items) v.exit
+-- what the entry part reads. It does not know whether the hop is the last, for forwarding has not run yet
+abbrev pub entry_reads : List Decl → HopView → Reads Contents
+entry_reads ds v = reads_in ds v false v.entry_.items
+
+-- what the exit part reads, where there is one
+abbrev pub exit_reads : List Decl → HopView → Option (Reads Contents)
+exit_reads ds v = option_map (λ (ws : Cells). reads_in ds v v.last ws.items) v.exit_
+
+-- what that shows
+abbrev pub hop_in : List Decl → HopView → (last : Bool) → List Word → Hop
+hop_in ds v last ws = hop_for ds (reads_in ds v last ws)
 
 abbrev pub decls_of : Env → List Decl
 decls_of e = map decl_of e.decls.now
 
 abbrev pub hop_of : Env → Hop
-hop_of e = hop_in (decls_of e) e.view.now e.values.now
+hop_of e = hop_in (decls_of e) e.view.now e.last e.values.now
 
 -- ---- what expressions see, and what statements change
 
-abbrev pub report_of : Report → meaning.Report
+abbrev pub report_of : Report → law.Report
 report_of r = record { number = r.number; values = r.values.items }
 
+-- the packet's and the switch's variables
+abbrev pub tele_of : List Decl → TeleState → Held
+tele_of ds t = cells_in Tele ds t.items.items
+
+abbrev pub sensors_of : List Decl → SensorState → Held
+sensors_of ds s = cells_in Sensor ds s.cells.items
+
 abbrev pub seen_in : Hop → Items → TeleState → SensorState → Seen
-seen_in h i t s =
-    record { hop = h; items = i; tele = cells_in Tele h.decls t.items.items; sensors = cells_in Sensor h.decls s.cells.items }
+seen_in h i t s = record { hop = h; items = i; tele = tele_of h.decls t; sensors = sensors_of h.decls s }
 
 abbrev pub seen_of : Env → Items → TeleState → SensorState → Seen
 seen_of e i t s = seen_in (hop_of e) i t s
 
-abbrev pub doing_of : List Decl → TeleState → SensorState → HopResult → Doing
+abbrev pub doing_of : List Decl → TeleState → SensorState → HopResult → Doing Held Held
 doing_of ds t s r =
-    record { tele = cells_in Tele ds t.items.items; sensors = cells_in Sensor ds s.cells.items; rejected = r.rejected; reports = map report_of r.reports.items }
-
--- the states, with nothing rejected and nothing reported yet
-abbrev pub begun : List Decl → TeleState → SensorState → Doing
-begun ds t s = fresh (cells_in Tele ds t.items.items) (cells_in Sensor ds s.cells.items)
+    record { tele = tele_of ds t; sensors = sensors_of ds s; rejected = r.rejected; reports = map report_of r.reports.items }

@@ -19,7 +19,7 @@ mod state;
 mod values;
 mod words;
 
-pub use names::{cells, find, seat, seats};
+pub use names::{cells, seat, seats};
 pub use reads::held_width;
 pub use state::{ControlValue, Env, HopResult, HopView, Report, SensorState, TeleState};
 pub use values::{eval_expr, own_width, value_of, values_of};

@@ -2,27 +2,14 @@
 
 ghost use Rattle.std.specs.Prelude.{◌≡◌, ◌≤◌, length, map, IfSome};
 ghost use Rattle.std.specs.Option.{option_map};
-ghost use Rattle.indus_tree.specs.State.{lookup};
 ghost use Rattle.indus_tree.specs.View.{decl_of};
-ghost use Rattle.indus_tree.specs.Hops.{number_of, same_kind, seat_of};
+ghost use Rattle.indus_tree.specs.Hops.{variable_number, same_kind, seat_of};
 ghost use Rattle.indus_values.specs.View.{cells_in, contents_of, hop_of, or_no_members, seats};
 
 use crate::state::{ControlValue, Env};
 use bit_values::Bits;
 use indus_tree::{Decl, DeclKind};
 use lex_text::Name;
-
-/// The declaration of a name.
-pub fn find<'a>(decls: &'a [Decl], name: &Name) -> Option<&'a Decl>
-    ensures { option_map (λ d. decl_of d.now) result ≡ lookup (map decl_of decls.now) name.now }
-{
-    for d in decls {
-        if d.name.as_str() == name.as_str() {
-            return Some(d);
-        }
-    }
-    None
-}
 
 fn same_kind(a: DeclKind, b: DeclKind) -> bool
     ensures { result ≡ same_kind a b }
@@ -68,7 +55,7 @@ pub fn seats(kind: DeclKind, decls: &[Decl]) -> usize
 
 /// The place of a variable among all declarations.
 fn number(decls: &[Decl], name: &Name) -> Option<usize>
-    ensures number { result ≡ number_of (map decl_of decls.now) name.now }
+    ensures number { result ≡ variable_number (map decl_of decls.now) name.now }
     ensures within { IfSome result (λ n. n ≤ length decls.now) }
 {
     for (n, d) in decls.iter().enumerate() {

@@ -9,11 +9,11 @@ ghost use Rattle.indus_tree.specs.Hops.{headers_in};
 ghost use Rattle.indus_tree.specs.View.{decl_of, shape_of};
 ghost use Rattle.indus_values.specs.View.{cells_of, contents_of, decls_of, entry_of, hop_of, or_no_members, seen_of};
 
-use crate::names::{cells, contents, find, seat};
+use crate::names::{cells, contents, seat};
 use crate::state::{ControlValue, Env, SensorState, TeleState};
 use crate::words::{cut, nothing, shape_width, width_of, word_at};
 use bit_values::{Bits, either_width, truth};
-use indus_tree::{Decl, DeclKind, Shape, Ty};
+use indus_tree::{Decl, DeclKind, Shape, Ty, find};
 use lex_text::Name;
 use std::alloc::{AllocError, Global};
 
@@ -81,7 +81,7 @@ fn built_in_word(env: &Env, name: &Name) -> Bits
     if name.as_str() == "first_hop" {
         truth(env.view.first)
     } else if name.as_str() == "last_hop" {
-        truth(env.view.last)
+        truth(env.last)
     } else if name.as_str() == "switch_id" {
         cut(16, env.view.switch as u128)
     } else {

@@ -36,9 +36,9 @@ pub struct HopView {
     /// Whether the hop is the packet's last.
     pub last: bool,
     /// The header variables in the entry part, in order of declaration.
-    pub entry: Vec<Bits>,
+    pub entry_: Vec<Bits>,
     /// The header variables in the exit part, or `None` where forwarding drops the packet.
-    pub exit: Option<Vec<Bits>>,
+    pub exit_: Option<Vec<Bits>>,
     /// The control variables at the switch, in order of declaration.
     pub control: Vec<ControlValue>,
 }
@@ -58,10 +58,12 @@ pub struct HopResult {
     pub reports: Vec<Report>,
 }
 
-/// What no statement changes: the declarations, what the hop shows, and the header variables.
+/// What no statement changes: the declarations, what the hop shows, what `last_hop` reads, and the
+/// header variables.
 #[derive(Clone, Copy)]
 pub struct Env<'a> {
     pub decls: &'a [Decl],
     pub view: &'a HopView,
+    pub last: bool,
     pub values: &'a [Bits],
 }

@@ -3,7 +3,7 @@
 ghost use Rattle.std.specs.Prelude.{◌≡◌, ◌≤◌, map, IfOk};
 ghost use Rattle.indus_tree.specs.View.{decl_of, expr_of, exprs_of};
 ghost use Rattle.indus_tree.specs.Value.{key_of, own_width, value_of, values_of};
-ghost use Rattle.indus_values.specs.Values.{exprs_count};
+ghost use Rattle.indus_tree.specs.Tree.{exprs_count};
 ghost use Rattle.indus_values.specs.View.{cells_in, hop_in, seen_in, seen_of};
 
 use crate::names::cells;
@@ -32,11 +32,12 @@ pub fn eval_expr(
     items: &[(Name, Bits)],
 ) -> Result<Bits, AllocError>
     ensures { let ds = map decl_of p.now.decls.items in
-        IfOk result (λ v. v ≡ value_of (seen_in (hop_in ds view.now values.now) items.now tele.now sensors.now) (expr_of e.now) width) }
+        IfOk result (λ v. v ≡ value_of (seen_in (hop_in ds view.now view.now.last values.now) items.now tele.now sensors.now) (expr_of e.now) width) }
 {
     let env = Env {
         decls: &p.decls,
         view,
+        last: view.last,
         values,
     };
     value_of(alloc, e, width, &env, items, tele, sensors)

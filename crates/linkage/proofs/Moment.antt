@@ -12,7 +12,7 @@ use Rattle.network_run.specs.NetworkRun.{put, told_by, longest_frame}
 use Rattle.network_run.specs.PathMeaning.{Report, Reported, Property, Path, reported_by, is_rejected, rejects}
 use Rattle.network_run.specs.RunLaws.{IsOver}
 use Rattle.network_run.proofs.Numbers.{nat_eq_self, nat_eq_other, put_one, put_cases, put_same}
-use Rattle.linkage.specs.Linkage.{Telemetry, is_report, digest_of, told_report, monitored, Counts}
+use Rattle.linkage.specs.Linkage.{Telemetry, is_report, report_digest, told_report, monitored, Counts}
 use Rattle.linkage.specs.HalvesLaws.{SameDigests}
 use Rattle.linkage.proofs.Lists.{filter_same, all_and, all_one_more, times_append}
 
@@ -32,9 +32,9 @@ told_filter i s test (d ∷ ds) =
     elim (test d) as (λ b. cond b (first ∷ filter (λ t. test t.digest) (told_by i s ds)) (filter (λ t. test t.digest) (told_by i s ds)) ≡ told_by i s (cond b (d ∷ filter test ds) (filter test ds)))
     [ true ↦ ap (λ ts. first ∷ ts) (told_filter i s test ds) | false ↦ told_filter i s test ds ]
 
-told_map : (i s : ℕ) (rs : List Report) → told_by i s (map digest_of rs) ≡ map told_report (reported_by i s rs)
+told_map : (i s : ℕ) (rs : List Report) → told_by i s (map report_digest rs) ≡ map told_report (reported_by i s rs)
 told_map i s [] = refl
-told_map i s (r ∷ rs) = ap (λ ts. record { packet = i; switch = s; digest = digest_of r } ∷ ts) (told_map i s rs)
+told_map i s (r ∷ rs) = ap (λ ts. record { packet = i; switch = s; digest = report_digest r } ∷ ts) (told_map i s rs)
 
 -- the reports of a half join those so far
 pub told_reports : (i s : ℕ) (told : List Told) (reports : List Reported) (da db : List Digest) (rs : List Report) → SameDigests da db rs → filter (λ t. is_report t.digest) told ≡ map told_report reports → filter (λ t. is_report t.digest) (told ++ told_by i s db) ≡ map told_report (reports ++ reported_by i s rs)

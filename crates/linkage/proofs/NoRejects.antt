@@ -6,7 +6,7 @@ use Rattle.network_run.specs.Machine.{Machine}
 use Rattle.network_run.specs.Network.{Wiring, Half}
 use Rattle.network_run.specs.PathMeaning.{Doing, Property, Path, nothing_yet, checked, part_of, verdict_after, after_half, after_halves, first_path, path_meaning, is_rejected, rejects}
 use Rattle.network_run.proofs.Numbers.{put_one}
-use Rattle.linkage.specs.Linkage.{Telemetry, Registers, Linkage, NeverRejects, SameEdges, plain_after}
+use Rattle.linkage.specs.Linkage.{Telemetry, RegisterReading, Linkage, NeverRejects, SameEdges, plain_after}
 
 filter_all : {X : Type 0} (test : X → Bool) (xs : List X) → ((x : X) → test x ≡ true) → filter test xs ≡ xs
 filter_all test [] all = refl
@@ -30,7 +30,7 @@ module _ {T Z C : Type 0} (p : Property T Z C) (never : NeverRejects p) where
       (put_one (λ i v. is_rejected v ≡ false) w.verdicts h.packet (verdict_after h (part_of p h (w.tele h.packet) (w.sensors h.switch)).rejected (w.verdicts h.packet))
       (λ i. (λ e. verdict_none h.is_exit h.packet h.switch h.first h.last h.view h.contents (w.tele h.packet) (w.sensors h.switch) (w.verdicts h.packet) (none h.packet), none i)))
 
-module _ {E S Q S' Q' C T Z N : Type 0} (forwarding : Machine E S Q C) (linked : Machine E S' Q' C) (net : Wiring) (p : Property T Z C) (telemetry : Telemetry T) (registers : Registers S S' Z N) (IsFitEntries : ℕ → E → Type 0) (IsVariable : ℕ → Type 0) (IsFitContents : ℕ → ℕ → C → Type 0) where
+module _ {E S Q S' Q' C T Z N : Type 0} (forwarding : Machine E S Q C) (linked : Machine E S' Q' C) (net : Wiring) (p : Property T Z C) (telemetry : Telemetry T) (registers : RegisterReading S S' Z N) (IsFitEntries : ℕ → E → Type 0) (IsVariable : ℕ → Type 0) (IsFitContents : ℕ → ℕ → C → Type 0) where
   pub edges_stay : Linkage forwarding linked net p telemetry registers IsFitEntries IsVariable IsFitContents → NeverRejects p → SameEdges forwarding linked net p telemetry registers IsFitEntries IsVariable IsFitContents
   edges_stay is never w valid n =
       let plain = plain_after forwarding linked net p telemetry registers IsFitEntries IsVariable IsFitContents w n in

@@ -13,7 +13,7 @@ use Rattle.network_run.specs.World.{Arrival, World, IsArrival, IsFitEvent, IsVal
 use Rattle.network_run.specs.RunLaws.{IsOver}
 use Rattle.network_run.proofs.Numbers.{put_four}
 use Rattle.network_run.proofs.Links.{far_end_is}
-use Rattle.linkage.specs.Linkage.{Telemetry, Registers, Linkage}
+use Rattle.linkage.specs.Linkage.{Telemetry, RegisterReading, Linkage}
 use Rattle.linkage.specs.HalvesLaws.{carried, LeaveAgrees, HalvesLaws}
 use Rattle.linkage.proofs.Agree.{SamePlace, Agrees, plain_limits, linked_limits}
 use Rattle.linkage.proofs.Keep.{keep_entered, keep_dropped, keep_sent}
@@ -46,7 +46,7 @@ at_place P [] i x h e = absurd (cc)
 at_place P (y ∷ xs) zero x h e = let q : y ≡ x = (cc) in subst P q (All-head P y xs h)
 at_place P (y ∷ xs) (suc i) x h e = at_place P xs i x (All-tail P y xs h) e
 
-module _ {E S Q S' Q' C T Z N : Type 0} (net : Wiring) (p : Property T Z C) (telemetry : Telemetry T) (Kept : ℕ → S → Z → (ℕ → C) → ℕ → S' → Type 0) (Held : ℕ → Bool → Q → T → Q' → Type 0) (Fit : T → Type 0) (m : Machine E S Q C) (m' : Machine E S' Q' C) (registers : Registers S S' Z N) (IsFitEntries : ℕ → E → Type 0) (IsVariable : ℕ → Type 0) (IsFitContents : ℕ → ℕ → C → Type 0) (is_wiring : IsWiring net) (laws : HalvesLaws net p telemetry Kept Held Fit m m' registers IsFitEntries IsVariable IsFitContents) where
+module _ {E S Q S' Q' C T Z N : Type 0} (net : Wiring) (p : Property T Z C) (telemetry : Telemetry T) (Kept : ℕ → S → Z → (ℕ → C) → ℕ → S' → Type 0) (Held : ℕ → Bool → Q → T → Q' → Type 0) (Fit : T → Type 0) (m : Machine E S Q C) (m' : Machine E S' Q' C) (registers : RegisterReading S S' Z N) (IsFitEntries : ℕ → E → Type 0) (IsVariable : ℕ → Type 0) (IsFitContents : ℕ → ℕ → C → Type 0) (is_wiring : IsWiring net) (laws : HalvesLaws net p telemetry Kept Held Fit m m' registers IsFitEntries IsVariable IsFitContents) where
   module _ (hops : ℕ) where
     -- the limits of the two networks
     abbrev plain : Limits

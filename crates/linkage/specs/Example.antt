@@ -8,7 +8,7 @@ use Rattle.network_run.specs.Events.{Event}
 use Rattle.network_run.specs.PathMeaning.{Property, Path, path_meaning}
 use Rattle.network_run.specs.World.{World, net_at_end}
 use Rattle.network_run.specs.Example.{arrivals, report_of}
-use Rattle.linkage.specs.Linkage.{Telemetry, Registers, digest_of}
+use Rattle.linkage.specs.Linkage.{Telemetry, RegisterReading, report_digest}
 
 -- the forwarding program counts the packets that come, tells the control plane the port of each,
 -- and sends it by port 2, but its egress drops a frame that begins with 0
@@ -105,7 +105,7 @@ abbrev pub checked_leave : (rejects : Bool) → Keeps → Parked → Leaving Kee
 checked_leave rejects b q =
     record {
       after = record b { seen = b.seen + 1; rejected = b.rejected + one_if rejects };
-      digests = digest_of (report_of (word 8 (q.n + 1) ∷ word 8 (b.seen + 1) ∷ [])) ∷ [];
+      digests = report_digest (report_of (word 8 (q.n + 1) ∷ word 8 (b.seen + 1) ∷ [])) ∷ [];
       going = if rejects then None else Some (record { port = 2; frame = q.frame; view = [] });
     }
 
@@ -135,7 +135,7 @@ register_of initial b zero = b.count ∷ []
 register_of initial b (suc zero) = bit_xor b.seen initial ∷ []
 register_of initial b (suc (suc r)) = b.rejected % 2 ^ 32 ∷ []
 
-abbrev pub registers : (initial : ℕ) → Registers ℕ Keeps ℕ ℕ
+abbrev pub registers : (initial : ℕ) → RegisterReading ℕ Keeps ℕ ℕ
 registers initial =
     record {
       plain_cells = λ count r. count ∷ [];

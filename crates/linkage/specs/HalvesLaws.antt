@@ -5,8 +5,8 @@ use Rattle.bit_values.specs.Bits.{Word}
 use Rattle.network_run.specs.Machine.{Digest, Entered, Going, Leaving, Machine}
 use Rattle.network_run.specs.Network.{Wiring, at_edge, one_if}
 use Rattle.network_run.specs.NetworkRun.{put, longest_frame}
-use Rattle.network_run.specs.PathMeaning.{Reads, Report, Doing, Property, entry_part, exit_part}
-use Rattle.linkage.specs.Linkage.{Telemetry, Registers, SameRegisters, MonitorRegisters, is_report, digest_of}
+use Rattle.network_run.specs.PathMeaning.{Report, Doing, Property, reads_at, entry_part, exit_part}
+use Rattle.linkage.specs.Linkage.{Telemetry, RegisterReading, SameRegisters, MonitorRegisters, is_report, report_digest}
 
 -- a plain frame as the linked network has it: at an edge port as it is, on a link behind the
 -- telemetry
@@ -16,7 +16,7 @@ carried telemetry false tele frame = telemetry.bytes tele ++ frame
 
 -- the digests of a linked half: the reports, and else the digests of the forwarding half
 pub record SameDigests (plain linked : List Digest) (reported : List Report) : Type 0 where
-  pub reports : filter is_report linked ≡ map digest_of reported
+  pub reports : filter is_report linked ≡ map report_digest reported
   pub others : filter (λ d. not (is_report d)) linked ≡ plain
 
 -- both halves drop the packet, or both queue it and the queued packets are related
@@ -35,12 +35,6 @@ SameGoing telemetry edge true tele g (Some g') = ⊥
 SameGoing telemetry edge false tele g None = ⊥
 SameGoing telemetry edge false tele g (Some g') =
     (g'.port ≡ g.port) × (g'.frame ≡ carried telemetry edge tele g.frame)
-
--- what a block reads at a half of a passage of switch s
-abbrev pub reads_at :
-    {C : Type 0} → (s : ℕ) → (first last : Bool) → (view : List Word) → (ℕ → C) → Reads C
-reads_at s first last view c =
-    record { switch = s; first = first; last = last; view = view; contents = c }
 
 -- The two relations are the linker's own. `Kept s a z c k b`: what switch s keeps in the linked
 -- network, b, stands for what it keeps in the forwarding network, a, for the sensors z, the control
@@ -91,7 +85,7 @@ module _
 
     module _
         {E N : Type 0} (forwarding : Machine E S Q C) (linked : Machine E S' Q' C)
-        (registers : Registers S S' Z N) (IsFitEntries : (switch : ℕ) → E → Type 0)
+        (registers : RegisterReading S S' Z N) (IsFitEntries : (switch : ℕ) → E → Type 0)
         (IsVariable : ℕ → Type 0) (IsFitContents : (switch variable : ℕ) → C → Type 0)
       where
         -- what a linker shows: its law on a linked enter and its law on a linked leave, and that

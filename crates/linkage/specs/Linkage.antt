@@ -1,5 +1,6 @@
 -- What it means that linked programs are a linkage of a forwarding program and a property on a
--- network. Read `network_run`'s `World` before it.
+-- network. Read `network_run`'s `World` before it, and the two meanings, `Law` of `indus_tree` and
+-- `Pass` of `p4_tree`, after it.
 use Rattle.std.specs.Prelude.{◌≡◌, ℕ, ◌+◌, ◌%◌, ◌^◌, ◌<◌, List, [], ◌∷◌, ◌++◌, map, filter, Bool, false, not, ◌==◌, slice_index_or, All, bit_xor}
 use Rattle.bit_values.specs.Bits.{word}
 use Rattle.network_run.specs.Machine.{Digest, Machine}
@@ -21,7 +22,7 @@ pub record SensorRegister (Z N : Type 0) : Type 0 where
 -- how the registers of a switch are read by their names, in the forwarding network and in the
 -- linked one; the names of the forwarding program's registers; the sensors' registers; and the
 -- register that counts rejected packets
-pub record Registers (S S' Z N : Type 0) : Type 0 where
+pub record RegisterReading (S S' Z N : Type 0) : Type 0 where
   pub plain_cells : S → N → List ℕ
   pub linked_cells : S' → N → List ℕ
   pub forwarding : List N
@@ -37,12 +38,12 @@ abbrev pub is_report : Digest → Bool
 is_report d = d.receiver == report_receiver
 
 -- the digest of a report: its number, as a word of 16 bits, and then its values
-abbrev pub digest_of : Report → Digest
-digest_of r = record { receiver = report_receiver; values = word 16 r.number ∷ r.values }
+abbrev pub report_digest : Report → Digest
+report_digest r = record { receiver = report_receiver; values = word 16 r.number ∷ r.values }
 
 -- the same, with the report's packet and switch
 abbrev pub told_report : Reported → Told
-told_report r = record { packet = r.packet; switch = r.switch; digest = digest_of r.report }
+told_report r = record { packet = r.packet; switch = r.switch; digest = report_digest r.report }
 
 -- the frame that is on a link of the linked network, in place of this one: before it stand the
 -- telemetry bytes of the tele values that its packet has after the half that sent it
@@ -53,7 +54,7 @@ monitored p telemetry path x =
     }
 
 -- the linked switch's registers for the forwarding program hold the cells of the forwarding switch
-abbrev pub SameRegisters : {S S' Z N : Type 0} → Registers S S' Z N → S → S' → Type 0
+abbrev pub SameRegisters : {S S' Z N : Type 0} → RegisterReading S S' Z N → S → S' → Type 0
 SameRegisters r plain linked =
     All (λ x. r.linked_cells linked x ≡ r.plain_cells plain x) r.forwarding
 
@@ -64,7 +65,7 @@ xor_with initial cell = bit_xor cell initial
 -- a linked switch's registers for the monitor: each cell of a sensor's register is the sensor's
 -- cell xor its initial value, and the register of rejected packets has their number, modulo 2^32
 pub record MonitorRegisters
-    {S S' Z N : Type 0} (r : Registers S S' Z N) (z : Z) (rejected : ℕ) (linked : S')
+    {S S' Z N : Type 0} (r : RegisterReading S S' Z N) (z : Z) (rejected : ℕ) (linked : S')
     : Type 0 where
   pub sensors :
       All (λ x. r.linked_cells linked x.name ≡ map (xor_with x.initial) (x.cells z)) r.sensors
@@ -81,7 +82,7 @@ pub record Counts
 module _
     {E S Q S' Q' C T Z N : Type 0}
     (forwarding : Machine E S Q C) (linked : Machine E S' Q' C)
-    (net : Wiring) (p : Property T Z C) (telemetry : Telemetry T) (registers : Registers S S' Z N)
+    (net : Wiring) (p : Property T Z C) (telemetry : Telemetry T) (registers : RegisterReading S S' Z N)
     (IsFitEntries : (switch : ℕ) → E → Type 0) (IsVariable : ℕ → Type 0)
     (IsFitContents : (switch variable : ℕ) → C → Type 0)
   where

@@ -3,7 +3,7 @@ ghost use Rattle.std.specs.Prelude.{ℕ, List, Bool};
 ghost use Rattle.network_run.specs.Machine.{Machine};
 ghost use Rattle.network_run.specs.Network.{Wiring, IsWiring};
 ghost use Rattle.network_run.specs.PathMeaning.{Property};
-ghost use Rattle.linkage.specs.Linkage.{Telemetry, Registers, Linkage, SameEdges, NeverRejects};
+ghost use Rattle.linkage.specs.Linkage.{Telemetry, RegisterReading, Linkage, SameEdges, NeverRejects};
 ghost use Rattle.linkage.specs.HalvesLaws.{HalvesLaws};
 
 /// What is given to a linker, which is to say a forwarding program, a property and a network, or what
@@ -56,7 +56,7 @@ pub trait LinkedNetwork {
     ghost telemetry: { Given → Telemetry Tele };
 
     /// How registers are read.
-    ghost registers: { Given → Registers Switch LinkedSwitch Sensors Register };
+    ghost registers: { Given → RegisterReading Switch LinkedSwitch Sensors Register };
 
     /// The forwarding entries that a switch may have.
     ghost IsFitEntries: { Given → (switch : ℕ) → Entries → Type 0 };

@@ -13,20 +13,21 @@ use Rattle.p4_tree.specs.Parts.{Parts}
 use Rattle.p4_tree.specs.Pass as pass
 use Rattle.p4_tree.specs.Pass.{Registers, Queued, error_number, store_behind, run_from, is_dropped, unless_dropped, value_kept, without_locals, to_egress, entered_from, parts_enter}
 use Rattle.indus_tree.specs.Tree.{Decl, Property}
+use Rattle.indus_tree.specs.State.{Contents, Held}
 use Rattle.indus_tree.specs.Start.{tele_start}
 use Rattle.indus_tree.specs.Meaning.{run_of}
+use Rattle.indus_tree.specs.Law.{hop_for, law_of}
 use Rattle.indus_tree.specs.Small.{IsSmall}
 use Rattle.network_run.specs.Network.{Wiring}
 use Rattle.network_run.specs.PathMeaning.{Reads, Doing, nothing_yet, entry_part}
 use Rattle.linkage.specs.Linkage as linkage
 use Rattle.linkage.specs.HalvesLaws.{SameQueued, EnterAgrees}
-use Rattle.wire_linker.specs.WireProgram.{number}
-use Rattle.wire_linker.specs.Monitor.{tele_header, mark_path, rejects_register, lowered_block, entry_stmts, entry_stmt}
+use Rattle.linked_halves.specs.Monitor.{number, tele_header, mark_path, rejects_register, lowered_block, entry_stmts, entry_stmt}
 use Rattle.linked_halves.specs.Regions.{is_mine, is_readable}
 use Rattle.linked_halves.specs.Forwarding.{IsForwarding}
 use Rattle.linked_halves.specs.LinkedParts.{linked_parts}
-use Rattle.linked_halves.specs.Telemetry.{Tele, tele_bytes, telemetry_of, IsFitTele}
-use Rattle.linked_halves.specs.Networks.{digest_of, report_of, entered_of, hop_of, begun, ended, law_of}
+use Rattle.linked_halves.specs.Telemetry.{tele_bytes, telemetry_of, IsFitTele}
+use Rattle.linked_halves.specs.Networks.{network_digest, entered_of}
 use Rattle.linked_halves.specs.Relations.{is_report, bare, Alike, IsPort, Others, Monitor, KeptBy, HeldBy}
 use Rattle.linked_halves.proofs.Apart.{readable_free, free_apart, free_above}
 use Rattle.linked_halves.proofs.Own.{set_alike, all_ran}
@@ -65,7 +66,7 @@ behind_alike x y a b h e cells =
 behind_begun : (ds : List Decl) (port : ℕ) (y : ParserEnd) → Begun ds port y.reading.store → Begun ds port (store_behind y)
 behind_begun ds port y h = record { plain = h.plain; standard = h.standard; invalid = h.invalid; mark = h.mark; tele = λ x e. h.tele x e; arrived = h.arrived; spec = h.spec }
 
-behind_taken : (ds : List Decl) (port : ℕ) (t : Tele) (y : ParserEnd) → Taken ds port t y.reading.store → Taken ds port t (store_behind y)
+behind_taken : (ds : List Decl) (port : ℕ) (t : Held) (y : ParserEnd) → Taken ds port t y.reading.store → Taken ds port t (store_behind y)
 behind_taken ds port t y h =
     let m = h.monitor in
     record { monitor = record { plain = m.plain; standard = m.standard; valid = m.valid; mark = m.mark; tele = λ x e. m.tele x e; fits = m.fits }; arrived = h.arrived; spec = h.spec }
@@ -84,7 +85,7 @@ egress_alike x y h =
     same (n ∷ []) i = refl
     same (n ∷ m ∷ rest) i = h.values (n ∷ m ∷ rest) i
 
-egress_monitor : (ds : List Decl) (s : Store) (t : Tele) → Monitor ds s t → Monitor ds (to_egress s) t
+egress_monitor : (ds : List Decl) (s : Store) (t : Held) → Monitor ds s t → Monitor ds (to_egress s) t
 egress_monitor ds s t h = record { plain = h.plain; standard = h.standard; valid = h.valid; mark = h.mark; tele = λ x e. h.tele x e; fits = h.fits }
 
 -- the store when the header is made and marked
@@ -104,7 +105,7 @@ opened_alike a b h =
     }
 
 -- how the entry statement ends
-record Opened (ds : List Decl) (a b : Run) (e : Ended) (d : Doing Tele (Unit {0})) : Type 0 where
+record Opened (ds : List Decl) (a b : Run) (e : Ended) (d : Doing Held Held) : Type 0 where
   alike : Alike a e.0
   monitor : Monitor ds e.0.store d.tele
   reports : d.reports ≡ []
@@ -113,9 +114,9 @@ record Opened (ds : List Decl) (a b : Run) (e : Ended) (d : Doing Tele (Unit {0}
   digests : e.0.digests ≡ b.digests
   goes : e.1 ≡ Go
 
-module _ (f : Parts) (own : IsForwarding f) (p : Property) (small : IsSmall p) (links : List ℕ) (low : AllByRecursion (λ n. n < 512) links) (net : Wiring) where
-  opened_stands : (port : ℕ) (s : Store) → Begun p.decls port s → Stands p.decls false (opened s) (begun (nothing_yet (tele_start p.decls) tt))
-  opened_stands port s h =
+module _ (f : Parts) (own : IsForwarding f) (p : Property) (small : IsSmall p) (linked_ports : List ℕ) (low : AllByRecursion (λ n. n < 512) linked_ports) (net : Wiring) where
+  opened_stands : (port : ℕ) (s : Store) (z : Held) → Begun p.decls port s → Stands p.decls false (opened s) (nothing_yet (tele_start p.decls) z)
+  opened_stands port s z h =
       record {
         monitor =
             record {
@@ -138,50 +139,50 @@ module _ (f : Parts) (own : IsForwarding f) (p : Property) (small : IsSmall p) (
       ∙ ap (λ e. after e.1 e.0 (meaning_of (lowered_block p.init))) (assignment made_run 0 mark_path (number 8 72) (word 8 0) (word 8 72) tt (ap zero_of h.mark) refl)
 
   -- the entry statement's test
-  entry_test : (port : ℕ) (b : Run) → b.store.headers (standard_root ∷ []) ≡ None → b.store.values ingress_port ≡ word 9 port → port < 512 → meaning_of_stmt (entry_stmt p links) b ≡ (if is_in port links then (b, Go) else meaning_of (entry_stmts p) b)
+  entry_test : (port : ℕ) (b : Run) → b.store.headers (standard_root ∷ []) ≡ None → b.store.values ingress_port ≡ word 9 port → port < 512 → meaning_of_stmt (entry_stmt p linked_ports) b ≡ (if is_in port linked_ports then (b, Go) else meaning_of (entry_stmts p) b)
   entry_test port b s h lt =
-      ap (λ w. if holds (bit (not (holds w))) then meaning_of (entry_stmts p) b else (b, Go)) (one_of_is ingress_port links b.store port (ap₂ shown s h) lt low)
-      ∙ out (is_in port links) (meaning_of (entry_stmts p) b) (b, Go)
+      ap (λ w. if holds (bit (not (holds w))) then meaning_of (entry_stmts p) b else (b, Go)) (one_of_is ingress_port linked_ports b.store port (ap₂ shown s h) lt low)
+      ∙ out (is_in port linked_ports) (meaning_of (entry_stmts p) b) (b, Go)
     where
       out : (t : Bool) (x y : Ended) → (if holds (bit (not (holds (bit t)))) then x else y) ≡ (if t then y else x)
       out true x y = refl
       out false x y = refl
 
   -- what init does to tele values at a hop
-  abbrev init_doing : Reads (Unit {0}) → Tele → Doing Tele (Unit {0})
-  init_doing r t = ended (nothing_yet t tt) (run_of (hop_of p.decls r) p.init (begun (nothing_yet t tt)))
+  abbrev init_doing : Reads Contents → (tele sensors : Held) → Doing Held Held
+  init_doing r t z = run_of (hop_for p.decls r) p.init (nothing_yet t z)
 
-  entry_edge : (port : ℕ) (r : Reads (Unit {0})) (a b : Run) → Alike a b → Begun p.decls port b.store → port < 512 → is_in port links ≡ false → Opened p.decls a b (meaning_of_stmt (entry_stmt p links) b) (init_doing r (tele_start p.decls))
-  entry_edge port r a b h g lt out =
+  entry_edge : (port : ℕ) (r : Reads Contents) (z : Held) (a b : Run) → Alike a b → Begun p.decls port b.store → port < 512 → is_in port linked_ports ≡ false → Opened p.decls a b (meaning_of_stmt (entry_stmt p linked_ports) b) (init_doing r (tele_start p.decls) z)
+  entry_edge port r z a b h g lt out =
       let c = in_store b (opened b.store) in
-      let d = begun (nothing_yet (tele_start p.decls) tt) in
+      let d : Doing Held Held = nothing_yet (tele_start p.decls) z in
       let e = meaning_of (lowered_block p.init) c in
-      let ran = lowers (hop_of p.decls r) small.decls false p.init c d small.init (opened_stands port b.store g) in
-      let same : meaning_of_stmt (entry_stmt p links) b ≡ e = entry_test port b g.standard g.arrived lt ∙ (ap (λ t. if t then (b, Go) else meaning_of (entry_stmts p) b) out ∙ entry_runs port b g) in
-      let done : Opened p.decls a b e (init_doing r (tele_start p.decls)) =
+      let ran = lowers (hop_for p.decls r) small.decls false p.init c d small.init (opened_stands port b.store z g) in
+      let same : meaning_of_stmt (entry_stmt p linked_ports) b ≡ e = entry_test port b g.standard g.arrived lt ∙ (ap (λ t. if t then (b, Go) else meaning_of (entry_stmts p) b) out ∙ entry_runs port b g) in
+      let done : Opened p.decls a b e (init_doing r (tele_start p.decls) z) =
       record {
         alike = others_alike a c e.0 (opened_alike a b h) ran.others;
         monitor = ran.stands.monitor;
-        reports = ap (map report_of) ran.stands.reports;
+        reports = ran.stands.reports;
         spec = subst IsPort (sym (ran.others.values egress_spec refl)) g.spec;
         cells = ran.others.cells;
         digests = ran.others.digests;
         goes = ran.goes;
       } in
-      subst (λ e. Opened p.decls a b e (init_doing r (tele_start p.decls))) (sym same) done
+      subst (λ e. Opened p.decls a b e (init_doing r (tele_start p.decls) z)) (sym same) done
 
-  entry_link : (port : ℕ) (t : Tele) (a b : Run) → Alike a b → Taken p.decls port t b.store → port < 512 → is_in port links ≡ true → Opened p.decls a b (meaning_of_stmt (entry_stmt p links) b) (nothing_yet t tt)
-  entry_link port t a b h g lt at =
-      let same : meaning_of_stmt (entry_stmt p links) b ≡ (b, Go) = entry_test port b g.monitor.standard g.arrived lt ∙ ap (λ t. if t then (b, Go) else meaning_of (entry_stmts p) b) at in
-      let done : Opened p.decls a b (b, Go) (nothing_yet t tt) = record { alike = h; monitor = g.monitor; reports = refl; spec = g.spec; cells = refl; digests = refl; goes = refl } in
-      subst (λ e. Opened p.decls a b e (nothing_yet t tt)) (sym same) done
+  entry_link : (port : ℕ) (t z : Held) (a b : Run) → Alike a b → Taken p.decls port t b.store → port < 512 → is_in port linked_ports ≡ true → Opened p.decls a b (meaning_of_stmt (entry_stmt p linked_ports) b) (nothing_yet t z)
+  entry_link port t z a b h g lt at =
+      let same : meaning_of_stmt (entry_stmt p linked_ports) b ≡ (b, Go) = entry_test port b g.monitor.standard g.arrived lt ∙ ap (λ t. if t then (b, Go) else meaning_of (entry_stmts p) b) at in
+      let done : Opened p.decls a b (b, Go) (nothing_yet t z) = record { alike = h; monitor = g.monitor; reports = refl; spec = g.spec; cells = refl; digests = refl; goes = refl } in
+      subst (λ e. Opened p.decls a b e (nothing_yet t z)) (sym same) done
 
   -- a linked entry half does what a plain one does, and a part
-  abbrev Agrees : (s : ℕ) (first : Bool) (c : ℕ → Unit {0}) (k : ℕ) → Doing Tele (Unit {0}) → (plain linked : pass.Entered) → Type 0
+  abbrev Agrees : (s : ℕ) (first : Bool) (c : ℕ → Contents) (k : ℕ) → Doing Held Held → (plain linked : pass.Entered) → Type 0
   Agrees s first c k d plain linked = EnterAgrees net (law_of p) (telemetry_of p.decls) KeptBy (HeldBy p.decls) (IsFitTele p.decls) s first c k d (entered_of plain) (entered_of linked)
 
   -- both queue the packet, or both drop it
-  both_queued : (s : ℕ) (first : Bool) (t : Tele) (x y : Store) (rest rest' : List ℕ) → Alike (bare x) (bare y) → Monitor p.decls y t → rest' ≡ rest → SameQueued (λ q q'. HeldBy p.decls s first q t q') (unless_dropped (is_dropped x) (record { store = to_egress x; rest = rest })) (unless_dropped (is_dropped y) (record { store = to_egress y; rest = rest' }))
+  both_queued : (s : ℕ) (first : Bool) (t : Held) (x y : Store) (rest rest' : List ℕ) → Alike (bare x) (bare y) → Monitor p.decls y t → rest' ≡ rest → SameQueued (λ q q'. HeldBy p.decls s first q t q') (unless_dropped (is_dropped x) (record { store = to_egress x; rest = rest })) (unless_dropped (is_dropped y) (record { store = to_egress y; rest = rest' }))
   both_queued s first t x y rest rest' h m same =
       let drops : is_dropped y ≡ is_dropped x = ap (λ (w : Word). nat_eq w.value 511) (h.values egress_spec refl) in
       let q : Queued = record { store = to_egress x; rest = rest } in
@@ -199,13 +200,13 @@ module _ (f : Parts) (own : IsForwarding f) (p : Property) (small : IsSmall p) (
       subst (λ b. SameQueued (λ q q'. HeldBy p.decls s first q t q') (unless_dropped (is_dropped x) q) (unless_dropped b q')) (sym drops) (queued (is_dropped x))
 
   -- behind the entry statement the program's own ingress runs
-  ingress_agrees : (s : ℕ) (first : Bool) (c : ℕ → Unit {0}) (k : ℕ) (d : Doing Tele (Unit {0})) (u v : Run) (rest rest' : List ℕ) → v.cells rejects_register ≡ word 32 (k % 2 ^ 32) ∷ [] → filter is_report v.digests ≡ [] → rest' ≡ rest → Opened p.decls u v (meaning_of_stmt (entry_stmt p links) v) d → Agrees s first c k d (entered_from f rest u) (entered_from (linked_parts f p links) rest' v)
+  ingress_agrees : (s : ℕ) (first : Bool) (c : ℕ → Contents) (k : ℕ) (d : Doing Held Held) (u v : Run) (rest rest' : List ℕ) → v.cells rejects_register ≡ word 32 (k % 2 ^ 32) ∷ [] → filter is_report v.digests ≡ [] → rest' ≡ rest → Opened p.decls u v (meaning_of_stmt (entry_stmt p linked_ports) v) d → Agrees s first c k d (entered_from f rest u) (entered_from (linked_parts f p linked_ports) rest' v)
   ingress_agrees s first c k d u v rest rest' count silent same h =
-      let e = meaning_of_stmt (entry_stmt p links) v in
+      let e = meaning_of_stmt (entry_stmt p linked_ports) v in
       let x = (meaning_of f.ingress u).0 in
       let y = (meaning_of f.ingress e.0).0 in
       let ran = all_ran f.ingress u e.0 own.ingress h.alike in
-      let whole : (meaning_of (linked_parts f p links).ingress v).0 ≡ y = ap (λ g. (after g e.0 (meaning_of f.ingress)).0) h.goes in
+      let whole : (meaning_of (linked_parts f p linked_ports).ingress v).0 ≡ y = ap (λ g. (after g e.0 (meaning_of f.ingress)).0) h.goes in
       let reports : filter is_report y.digests ≡ [] = ran.stays.reports ∙ (ap (filter is_report) h.digests ∙ silent) in
       let done : Agrees s first c k d (pass.entered u.store rest x) (pass.entered v.store rest' y) =
       record {
@@ -213,41 +214,41 @@ module _ (f : Parts) (own : IsForwarding f) (p : Property) (small : IsSmall p) (
         queued = both_queued s first d.tele x.store y.store rest rest' (bare_alike x y ran.alike) (monitor_stays p.decls d.tele e.0 y h.monitor ran.stays) same;
         digests =
             record {
-              reports = filter-map linkage.is_report digest_of y.digests ∙ (ap (map digest_of) reports ∙ sym (ap (map linkage.digest_of) h.reports));
-              others = filter-map (λ d. not (linkage.is_report d)) digest_of y.digests ∙ ap (map digest_of) ran.alike.digests;
+              reports = filter-map linkage.is_report network_digest y.digests ∙ (ap (map network_digest) reports ∙ sym (ap (map linkage.report_digest) h.reports));
+              others = filter-map (λ d. not (linkage.is_report d)) network_digest y.digests ∙ ap (map network_digest) ran.alike.digests;
             };
       } in
       subst (λ y. Agrees s first c k d (pass.entered u.store rest x) (pass.entered v.store rest' y)) (sym whole) done
 
   -- a frame by an edge port: init runs
-  pub enter_edge : (s port k : ℕ) (a b : Registers) (c : ℕ → Unit {0}) (t : Tele) (frame : List ℕ) (r : Reads (Unit {0})) → KeptBy s a tt c k b → port < 512 → is_in port links ≡ false → t ≡ tele_start p.decls → r.first ≡ true → EnterAgrees net (law_of p) (telemetry_of p.decls) KeptBy (HeldBy p.decls) (IsFitTele p.decls) s true c k (entry_part (law_of p) r t tt) (entered_of (parts_enter f a port frame)) (entered_of (parts_enter (linked_parts f p links) b port frame))
+  pub enter_edge : (s port k : ℕ) (a b : Registers) (c : ℕ → Contents) (t z : Held) (frame : List ℕ) (r : Reads Contents) → KeptBy s a z c k b → port < 512 → is_in port linked_ports ≡ false → t ≡ tele_start p.decls → r.first ≡ true → EnterAgrees net (law_of p) (telemetry_of p.decls) KeptBy (HeldBy p.decls) (IsFitTele p.decls) s true c k (entry_part (law_of p) r t z) (entered_of (parts_enter f a port frame)) (entered_of (parts_enter (linked_parts f p linked_ports) b port frame))
   unfolding parts_enter
-  enter_edge s port k a b c t frame r kept lt out start first =
-      let x = plain_end f own p links low port frame in
-      let y = linked_end f own p links low port frame in
-      let h = edge_parsed f own p links low port frame lt out in
+  enter_edge s port k a b c t z frame r kept lt out start first =
+      let x = plain_end f own p linked_ports low port frame in
+      let y = linked_end f own p linked_ports low port frame in
+      let h = edge_parsed f own p linked_ports low port frame lt out in
       let u = run_from (store_behind x) a in
       let v = run_from (store_behind y) b in
       let ran = all_ran f.verify u v own.verify (behind_alike x y a b h.alike h.error kept.own) in
       let u' = (meaning_of f.verify u).0 in
       let v' = (meaning_of f.verify v).0 in
       let g = begun_stays p.decls port v v' (behind_begun p.decls port y h.fact) ran.stays in
-      let done = ingress_agrees s true c k (init_doing r (tele_start p.decls)) u' v' x.reading.rest y.reading.rest (ran.stays.cells rejects_register refl ∙ kept.rejects) ran.stays.reports h.rest (entry_edge port r u' v' ran.alike g lt out) in
-      subst (λ b'. Agrees s true c k (if b' then init_doing r t else nothing_yet t tt) (parts_enter f a port frame) (parts_enter (linked_parts f p links) b port frame)) (sym first)
-      (subst (λ t. Agrees s true c k (init_doing r t) (parts_enter f a port frame) (parts_enter (linked_parts f p links) b port frame)) (sym start) done)
+      let done = ingress_agrees s true c k (init_doing r (tele_start p.decls) z) u' v' x.reading.rest y.reading.rest (ran.stays.cells rejects_register refl ∙ kept.rejects) ran.stays.reports h.rest (entry_edge port r z u' v' ran.alike g lt out) in
+      subst (λ b'. Agrees s true c k (if b' then init_doing r t z else nothing_yet t z) (parts_enter f a port frame) (parts_enter (linked_parts f p linked_ports) b port frame)) (sym first)
+      (subst (λ t. Agrees s true c k (init_doing r t z) (parts_enter f a port frame) (parts_enter (linked_parts f p linked_ports) b port frame)) (sym start) done)
 
   -- a frame by a link: nothing is done
-  pub enter_link : (s port k : ℕ) (a b : Registers) (c : ℕ → Unit {0}) (t : Tele) (frame : List ℕ) (r : Reads (Unit {0})) → KeptBy s a tt c k b → port < 512 → is_in port links ≡ true → IsFitTele p.decls t → r.first ≡ false → EnterAgrees net (law_of p) (telemetry_of p.decls) KeptBy (HeldBy p.decls) (IsFitTele p.decls) s false c k (entry_part (law_of p) r t tt) (entered_of (parts_enter f a port frame)) (entered_of (parts_enter (linked_parts f p links) b port (tele_bytes p.decls t ++ frame)))
+  pub enter_link : (s port k : ℕ) (a b : Registers) (c : ℕ → Contents) (t z : Held) (frame : List ℕ) (r : Reads Contents) → KeptBy s a z c k b → port < 512 → is_in port linked_ports ≡ true → IsFitTele p.decls t → r.first ≡ false → EnterAgrees net (law_of p) (telemetry_of p.decls) KeptBy (HeldBy p.decls) (IsFitTele p.decls) s false c k (entry_part (law_of p) r t z) (entered_of (parts_enter f a port frame)) (entered_of (parts_enter (linked_parts f p linked_ports) b port (tele_bytes p.decls t ++ frame)))
   unfolding parts_enter
-  enter_link s port k a b c t frame r kept lt at fits first =
-      let x = plain_end f own p links low port frame in
-      let y = linked_end f own p links low port (tele_bytes p.decls t ++ frame) in
-      let h = link_parsed f own p links low port frame t lt at fits in
+  enter_link s port k a b c t z frame r kept lt at fits first =
+      let x = plain_end f own p linked_ports low port frame in
+      let y = linked_end f own p linked_ports low port (tele_bytes p.decls t ++ frame) in
+      let h = link_parsed f own p linked_ports low port frame t lt at fits in
       let u = run_from (store_behind x) a in
       let v = run_from (store_behind y) b in
       let ran = all_ran f.verify u v own.verify (behind_alike x y a b h.alike h.error kept.own) in
       let u' = (meaning_of f.verify u).0 in
       let v' = (meaning_of f.verify v).0 in
       let g = taken_stays p.decls port t v v' (behind_taken p.decls port t y h.fact) ran.stays in
-      let done = ingress_agrees s false c k (nothing_yet t tt) u' v' x.reading.rest y.reading.rest (ran.stays.cells rejects_register refl ∙ kept.rejects) ran.stays.reports h.rest (entry_link port t u' v' ran.alike g lt at) in
-      subst (λ b'. Agrees s false c k (if b' then init_doing r t else nothing_yet t tt) (parts_enter f a port frame) (parts_enter (linked_parts f p links) b port (tele_bytes p.decls t ++ frame))) (sym first) done
+      let done = ingress_agrees s false c k (nothing_yet t z) u' v' x.reading.rest y.reading.rest (ran.stays.cells rejects_register refl ∙ kept.rejects) ran.stays.reports h.rest (entry_link port t z u' v' ran.alike g lt at) in
+      subst (λ b'. Agrees s false c k (if b' then init_doing r t z else nothing_yet t z) (parts_enter f a port frame) (parts_enter (linked_parts f p linked_ports) b port (tele_bytes p.decls t ++ frame))) (sym first) done

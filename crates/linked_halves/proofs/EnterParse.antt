@@ -20,12 +20,13 @@ use Rattle.p4_tree.specs.Parts.{Parts}
 use Rattle.p4_tree.specs.Pass.{zero_fields, no_headers, with_standard, store_before}
 use Rattle.indus_tree.specs.Tree.{Decl, Property}
 use Rattle.indus_tree.specs.Names.{is_declared}
-use Rattle.wire_linker.specs.Monitor.{tele_header, mark_path, tele_path}
-use Rattle.wire_linker.specs.Linked.{link_cases}
+use Rattle.linked_halves.specs.Monitor.{tele_header, mark_path, tele_path}
+use Rattle.linked_halves.specs.ParserStates.{link_cases}
 use Rattle.linked_halves.specs.Regions.{is_mine, is_readable, is_writable, is_own_header}
 use Rattle.linked_halves.specs.Forwarding.{IsForwarding}
 use Rattle.linked_halves.specs.LinkedParts.{tele_fields, telemetry, own_name, renamed_state, linked_states, linked_parts}
-use Rattle.linked_halves.specs.Telemetry.{Tele, tele_words, words_bits, tele_bytes, IsFitTele}
+use Rattle.indus_tree.specs.State.{Held}
+use Rattle.linked_halves.specs.Telemetry.{tele_words, words_bits, tele_bytes, IsFitTele}
 use Rattle.linked_halves.specs.Relations.{bare, Alike, Stays, IsPort, Monitor}
 use Rattle.linked_halves.proofs.Apart.{text_decides, not_both, apart, readable_free, free_apart, field_writable, field_spec, metadata_writable, metadata_spec}
 use Rattle.linked_halves.proofs.Own.{stays_same, stays_then, set_alike, set_stays, keeps_other, valid_ran}
@@ -44,7 +45,7 @@ pub record Begun (ds : List Decl) (port : ℕ) (s : Store) : Type 0 where
   pub spec : IsPort (s.values egress_spec)
 
 -- the linked store of a frame that came by a link, behind the parser
-pub record Taken (ds : List Decl) (port : ℕ) (t : Tele) (s : Store) : Type 0 where
+pub record Taken (ds : List Decl) (port : ℕ) (t : Held) (s : Store) : Type 0 where
   pub monitor : Monitor ds s t
   pub arrived : s.values ingress_port ≡ word 9 port
   pub spec : IsPort (s.values egress_spec)
@@ -63,7 +64,7 @@ begun_stays ds port a b h s =
     }
 
 -- what leaves the monitor's part alone keeps the telemetry
-pub monitor_stays : (ds : List Decl) (t : Tele) (a b : Run) → Monitor ds a.store t → Stays a b → Monitor ds b.store t
+pub monitor_stays : (ds : List Decl) (t : Held) (a b : Run) → Monitor ds a.store t → Stays a b → Monitor ds b.store t
 monitor_stays ds t a b h s =
     record {
       plain = s.headers [] refl ∙ h.plain;
@@ -74,7 +75,7 @@ monitor_stays ds t a b h s =
       fits = h.fits;
     }
 
-pub taken_stays : (ds : List Decl) (port : ℕ) (t : Tele) (a b : Run) → Taken ds port t a.store → Stays a b → Taken ds port t b.store
+pub taken_stays : (ds : List Decl) (port : ℕ) (t : Held) (a b : Run) → Taken ds port t a.store → Stays a b → Taken ds port t b.store
 taken_stays ds port t a b h s =
     record { monitor = monitor_stays ds t a b h.monitor s; arrived = s.values ingress_port refl ∙ h.arrived; spec = s.spec h.spec }
 
@@ -161,12 +162,12 @@ pub record Behind (Fact : Store → Type 0) (x y : ParserEnd) : Type 0 where
   pub rest : y.reading.rest ≡ x.reading.rest
   pub error : y.error ≡ x.error
 
-module _ (f : Parts) (own : IsForwarding f) (p : Property) (links : List ℕ) (low : AllByRecursion (λ n. n < 512) links) where
+module _ (f : Parts) (own : IsForwarding f) (p : Property) (linked_ports : List ℕ) (low : AllByRecursion (λ n. n < 512) linked_ports) where
   abbrev linked_headers : List Header
   linked_headers = telemetry p.decls ∷ f.headers
 
   abbrev states : List ParserState
-  states = linked_states links f.states
+  states = linked_states linked_ports f.states
 
   -- the telemetry header before the parser
   abbrev marked : Store
@@ -206,7 +207,7 @@ module _ (f : Parts) (own : IsForwarding f) (p : Property) (links : List ℕ) (l
   plain_before port len = store_before f port len
 
   abbrev linked_before : (port len : ℕ) → Store
-  linked_before port len = store_before (linked_parts f p links) port len
+  linked_before port len = store_before (linked_parts f p linked_ports) port len
 
   before_alike : (port m n : ℕ) → Alike (bare (plain_before port m)) (bare (linked_before port n))
   before_alike port m n = standard_alike plain_zeros linked_zeros port m n zeros_ready.alike
@@ -225,16 +226,16 @@ module _ (f : Parts) (own : IsForwarding f) (p : Property) (links : List ℕ) (l
       }
 
   -- the first state leads on by the port of arrival
-  first_turn : (port : ℕ) (y : Reading) → Begun p.decls port y.store → port < 512 → one_turn linked_headers states (codes "start") y ≡ leads (if is_in port links then codes "hydra_taken" else codes "hydra_start") y
+  first_turn : (port : ℕ) (y : Reading) → Begun p.decls port y.store → port < 512 → one_turn linked_headers states (codes "start") y ≡ leads (if is_in port linked_ports then codes "hydra_taken" else codes "hydra_start") y
   first_turn port y h lt =
-      ap (λ w. led (chosen (first_fit (link_cases links) (w ∷ []) y.store)) y) (ap₂ shown h.standard h.arrived)
-      ∙ ap (λ o. led (chosen o) y) (case_is links y.store port lt low)
+      ap (λ w. led (chosen (first_fit (link_cases linked_ports) (w ∷ []) y.store)) y) (ap₂ shown h.standard h.arrived)
+      ∙ ap (λ o. led (chosen o) y) (case_is linked_ports y.store port lt low)
 
-  abbrev taken_store : Tele → Store → Store
+  abbrev taken_store : Held → Store → Store
   taken_store t s = set_valid (tele_fill p.decls t (set_value s mark_path (word 8 72))) tele_header true
 
   -- the second takes the telemetry
-  second_turn : (t : Tele) (s : Store) (rest : List ℕ) → IsFitTele p.decls t → one_turn linked_headers states (codes "hydra_taken") (reading_at s (words_bits (tele_words p.decls t) ++ rest)) ≡ leads (codes "hydra_start") (reading_at (taken_store t s) rest)
+  second_turn : (t : Held) (s : Store) (rest : List ℕ) → IsFitTele p.decls t → one_turn linked_headers states (codes "hydra_taken") (reading_at s (words_bits (tele_words p.decls t) ++ rest)) ≡ leads (codes "hydra_start") (reading_at (taken_store t s) rest)
   second_turn t s rest fits =
       let bits = words_bits (tele_words p.decls t) in
       let y = reading_at s (bits ++ rest) in
@@ -282,7 +283,7 @@ module _ (f : Parts) (own : IsForwarding f) (p : Property) (links : List ℕ) (l
   more = ap (λ n. suc (suc n)) (length-map f.states renamed_state)
 
   -- a frame that came by an edge port
-  pub edge_parsed : (port : ℕ) (frame : List ℕ) → port < 512 → is_in port links ≡ false → Behind (Begun p.decls port) (plain_end port frame) (linked_end port frame)
+  pub edge_parsed : (port : ℕ) (frame : List ℕ) → port < 512 → is_in port linked_ports ≡ false → Behind (Begun p.decls port) (plain_end port frame) (linked_end port frame)
   edge_parsed port frame lt out =
       let x = reading_at (plain_before port (length frame)) (bits_of frame) in
       let y = reading_at (linked_before port (length frame)) (bits_of frame) in
@@ -298,7 +299,7 @@ module _ (f : Parts) (own : IsForwarding f) (p : Property) (links : List ℕ) (l
       subst (λ v. Behind (Begun p.decls port) (plain_end port frame) v) (sym linked_is) (subst (λ u. Behind (Begun p.decls port) u (turns_of turns linked_headers states (codes "hydra_start") y)) (own.settles (codes "start") x) done)
 
   -- what the telemetry's bytes make of the store, and that it is alike still
-  taken_begun : (port : ℕ) (t : Tele) (s : Store) → Begun p.decls port s → IsFitTele p.decls t → Taken p.decls port t (taken_store t s)
+  taken_begun : (port : ℕ) (t : Held) (s : Store) → Begun p.decls port s → IsFitTele p.decls t → Taken p.decls port t (taken_store t s)
   taken_begun port t s h fits =
       let s0 = set_value s mark_path (word 8 72) in
       let headers : (q : List (List ℕ)) → (tele_fill p.decls t s0).headers q ≡ s.headers q = λ q. ap (λ g. g q) (fill_headers p.decls t s0) in
@@ -316,7 +317,7 @@ module _ (f : Parts) (own : IsForwarding f) (p : Property) (links : List ℕ) (l
         spec = subst IsPort (sym (fill_other p.decls t s0 egress_spec (λ x. refl))) h.spec;
       }
 
-  taken_alike : (t : Tele) (a s : Store) → Alike (bare a) (bare s) → Alike (bare a) (bare (taken_store t s))
+  taken_alike : (t : Held) (a s : Store) → Alike (bare a) (bare s) → Alike (bare a) (bare (taken_store t s))
   taken_alike t a s h =
       let s0 = set_value s mark_path (word 8 72) in
       record {
@@ -327,7 +328,7 @@ module _ (f : Parts) (own : IsForwarding f) (p : Property) (links : List ℕ) (l
       }
 
   -- a frame that came by a link, behind the telemetry
-  pub link_parsed : (port : ℕ) (frame : List ℕ) (t : Tele) → port < 512 → is_in port links ≡ true → IsFitTele p.decls t → Behind (Taken p.decls port t) (plain_end port frame) (linked_end port (tele_bytes p.decls t ++ frame))
+  pub link_parsed : (port : ℕ) (frame : List ℕ) (t : Held) → port < 512 → is_in port linked_ports ≡ true → IsFitTele p.decls t → Behind (Taken p.decls port t) (plain_end port frame) (linked_end port (tele_bytes p.decls t ++ frame))
   link_parsed port frame t lt at fits =
       let bits = words_bits (tele_words p.decls t) in
       let n = length (tele_bytes p.decls t ++ frame) in

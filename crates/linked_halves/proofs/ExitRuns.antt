@@ -14,14 +14,12 @@ use Rattle.p4_tree.specs.Value.{value_of}
 use Rattle.p4_tree.specs.Statements.{Flow, Go, Return, Exit, Run, Ended, after, in_store, cell_at, cell_set, put_cells, meaning_of_stmt, meaning_of}
 use Rattle.p4_tree.specs.Pass.{is_dropped}
 use Rattle.indus_tree.specs.Tree.{Property}
-use Rattle.indus_tree.specs.State.{Doing}
-use Rattle.indus_tree.specs.Meaning.{run_of, fresh}
+use Rattle.indus_tree.specs.State.{Contents, Held}
+use Rattle.indus_tree.specs.Meaning.{run_of}
+use Rattle.indus_tree.specs.Law.{hop_for}
 use Rattle.indus_tree.specs.Small.{IsSmall}
-use Rattle.network_run.specs.PathMeaning.{Reads}
-use Rattle.wire_linker.specs.WireProgram.{number}
-use Rattle.wire_linker.specs.Monitor.{tele_header, rejected_name, count_name, rejects_register, lowered_block, only_if, read_count, write_count, drop_packet, reject_stmts, end_stmts, check_stmts, check_stmt, exit_stmts, exit_stmt}
-use Rattle.linked_halves.specs.Telemetry.{Tele}
-use Rattle.linked_halves.specs.Networks.{no_sensors, hop_of}
+use Rattle.network_run.specs.PathMeaning.{Reads, Doing, nothing_yet}
+use Rattle.linked_halves.specs.Monitor.{number, tele_header, rejected_name, count_name, rejects_register, lowered_block, only_if, read_count, write_count, drop_packet, reject_stmts, end_stmts, check_stmts, check_stmt, exit_stmts, exit_stmt}
 use Rattle.linked_halves.specs.Relations.{IsPort, Monitor}
 use Rattle.linked_halves.proofs.Lower.{Stands, open_by, written_open, Lowered, lowers}
 use Rattle.linked_halves.proofs.Fill.{is_in, one_of_is}
@@ -114,15 +112,19 @@ flagged r = in_store r (set_value r.store (rejected_name ∷ []) (word 1 0))
 abbrev pub updated : Property → Run → Run
 updated p r = (meaning_of (lowered_block p.tele) r).0
 
-abbrev pub telemetry_part : Property → Reads (Unit {0}) → Tele → Doing
-telemetry_part p r t = run_of (hop_of p.decls r) p.tele (fresh t no_sensors)
+abbrev pub telemetry_part : Property → Reads Contents → (tele sensors : Held) → Doing Held Held
+telemetry_part p r t z = run_of (hop_for p.decls r) p.tele (nothing_yet t z)
 
-module _ (p : Property) (small : IsSmall p) (links : List ℕ) (low : AllByRecursion (λ n. n < 512) links) where
+-- in front of the checker
+abbrev pub unflagged : Doing Held Held → Doing Held Held
+unflagged d = record d { rejected = false }
+
+module _ (p : Property) (small : IsSmall p) (linked_ports : List ℕ) (low : AllByRecursion (λ n. n < 512) linked_ports) where
   -- the exit part runs where forwarding does not drop the packet
-  pub exit_test : (b : Run) → b.store.headers (standard_root ∷ []) ≡ None → IsPort (b.store.values egress_spec) → meaning_of_stmt (exit_stmt p links) b ≡ (if is_dropped b.store then (b, Go) else meaning_of (exit_stmts p links) b)
+  pub exit_test : (b : Run) → b.store.headers (standard_root ∷ []) ≡ None → IsPort (b.store.values egress_spec) → meaning_of_stmt (exit_stmt p linked_ports) b ≡ (if is_dropped b.store then (b, Go) else meaning_of (exit_stmts p linked_ports) b)
   exit_test b standard port =
       let w = b.store.values egress_spec in
-      let body = meaning_of (exit_stmts p links) b in
+      let body = meaning_of (exit_stmts p linked_ports) b in
       let pick : Bool → Ended = λ t. if t then body else (b, Go) in
       let differs : Word → ℕ → Bool = λ v n. holds (bit (not (nat_eq (cast (sound_width (either_width n 0)) v.value) (cast (sound_width (either_width n 0)) (cast (sound_width (either_width n 0)) 511))))) in
       ap (λ o. pick (differs (shown o w) (shown o w).width)) standard
@@ -131,36 +133,36 @@ module _ (p : Property) (small : IsSmall p) (links : List ℕ) (low : AllByRecur
       ∙ test_of_not (nat_eq w.value 511) body (b, Go)
 
   -- the checker runs where the port has no link
-  pub check_test : (b : Run) (port : ℕ) → b.store.headers (standard_root ∷ []) ≡ None → b.store.values egress_port ≡ word 9 port → port < 512 → meaning_of_stmt (check_stmt p links) b ≡ (if is_in port links then (b, Go) else meaning_of (check_stmts p) b)
+  pub check_test : (b : Run) (port : ℕ) → b.store.headers (standard_root ∷ []) ≡ None → b.store.values egress_port ≡ word 9 port → port < 512 → meaning_of_stmt (check_stmt p linked_ports) b ≡ (if is_in port linked_ports then (b, Go) else meaning_of (check_stmts p) b)
   check_test b port standard h lt =
       let body = meaning_of (check_stmts p) b in
-      ap (λ w. if holds (bit (not (holds w))) then body else (b, Go)) (one_of_is egress_port links b.store port (ap₂ shown standard h) lt low)
-      ∙ test_of_negation (is_in port links) body (b, Go)
+      ap (λ w. if holds (bit (not (holds w))) then body else (b, Go)) (one_of_is egress_port linked_ports b.store port (ap₂ shown standard h) lt low)
+      ∙ test_of_negation (is_in port linked_ports) body (b, Go)
 
-  pub telemetry_runs : (r : Reads (Unit {0})) (b : Run) (t : Tele) → Monitor p.decls b.store t → Lowered p.decls false b (meaning_of (lowered_block p.tele) b) (telemetry_part p r t)
-  telemetry_runs r b t m = lowers (hop_of p.decls r) small.decls false p.tele b (fresh t no_sensors) small.tele (record { monitor = m; rejected = λ e. absurd (cc); reports = refl })
+  pub telemetry_runs : (r : Reads Contents) (b : Run) (t z : Held) → Monitor p.decls b.store t → Lowered p.decls false b (meaning_of (lowered_block p.tele) b) (telemetry_part p r t z)
+  telemetry_runs r b t z m = lowers (hop_for p.decls r) small.decls false p.tele b (nothing_yet t z) small.tele (record { monitor = m; rejected = λ e. absurd (cc); reports = refl })
 
   -- up to the checker
-  pub exit_runs : (r : Reads (Unit {0})) (b : Run) (t : Tele) → Monitor p.decls b.store t → (meaning_of (exit_stmts p links) b).0 ≡ (meaning_of_stmt (check_stmt p links) (updated p b)).0
-  exit_runs r b t m =
-      let tail = next (check_stmt p links) done in
-      ap (λ (e : Ended). e.0) (then_runs (lowered_block p.tele) tail b ∙ ap (λ g. after g (updated p b) (meaning_of tail)) (telemetry_runs r b t m).goes)
-      ∙ last_run (meaning_of_stmt (check_stmt p links) (updated p b))
+  pub exit_runs : (r : Reads Contents) (b : Run) (t z : Held) → Monitor p.decls b.store t → (meaning_of (exit_stmts p linked_ports) b).0 ≡ (meaning_of_stmt (check_stmt p linked_ports) (updated p b)).0
+  exit_runs r b t z m =
+      let tail = next (check_stmt p linked_ports) done in
+      ap (λ (e : Ended). e.0) (then_runs (lowered_block p.tele) tail b ∙ ap (λ g. after g (updated p b) (meaning_of tail)) (telemetry_runs r b t z m).goes)
+      ∙ last_run (meaning_of_stmt (check_stmt p linked_ports) (updated p b))
 
   -- with the flag, the store stands for the state in front of the checker
-  pub flag_stands : (b : Run) (d : Doing) → Stands p.decls false b.store d → Stands p.decls true (flagged b).store (fresh d.tele no_sensors)
+  pub flag_stands : (b : Run) (d : Doing Held Held) → Stands p.decls false b.store d → Stands p.decls true (flagged b).store (unflagged d)
   flag_stands b d s =
       record {
         monitor = record { plain = s.monitor.plain; standard = s.monitor.standard; valid = s.monitor.valid; mark = s.monitor.mark; tele = λ x e. s.monitor.tele x e; fits = s.monitor.fits };
         rejected = λ e. refl;
-        reports = refl;
+        reports = s.reports;
       }
 
-  pub check_runs : (r : Reads (Unit {0})) (b : Run) (d : Doing) → Stands p.decls true b.store d → Lowered p.decls true b (meaning_of (lowered_block p.check) b) (run_of (hop_of p.decls r) p.check d)
-  check_runs r b d s = lowers (hop_of p.decls r) small.decls true p.check b d small.check s
+  pub check_runs : (r : Reads Contents) (b : Run) (d : Doing Held Held) → Stands p.decls true b.store d → Lowered p.decls true b (meaning_of (lowered_block p.check) b) (run_of (hop_for p.decls r) p.check d)
+  check_runs r b d s = lowers (hop_for p.decls r) small.decls true p.check b d small.check s
 
   -- behind the checker
-  pub end_runs : (r : Run) (n : ℕ) (d : Doing) → Stands p.decls true r.store d → r.cells rejects_register ≡ word 32 n ∷ [] → (meaning_of end_stmts r).0 ≡ (if d.rejected then counted (closed r) n else closed r)
+  pub end_runs : (r : Run) (n : ℕ) (d : Doing Held Held) → Stands p.decls true r.store d → r.cells rejects_register ≡ word 32 n ∷ [] → (meaning_of end_stmts r).0 ≡ (if d.rejected then counted (closed r) n else closed r)
   end_runs r n d s cells =
       let c = closed r in
       let test : Stmt = only_if (path 0 (rejected_name ∷ [])) reject_stmts in

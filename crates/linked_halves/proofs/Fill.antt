@@ -15,31 +15,30 @@ use Rattle.p4_tree.specs.Parsing.{first_fit, bytes_of}
 use Rattle.p4_tree.specs.Pass.{zero_fields}
 use Rattle.p4_tree.specs.declared.statement.Op.TheVariants.{Equal}
 use Rattle.indus_tree.specs.Tree.{Decl}
-use Rattle.indus_tree.specs.State.{lookup}
+use Rattle.indus_tree.specs.State.{Held, lookup}
 use Rattle.indus_tree.specs.Start.{start_of_shape, start_of_decl, tele_start}
 use Rattle.indus_tree.specs.Reads.{scalar}
 use Rattle.indus_tree.specs.Names.{is_declared}
 use Rattle.indus_tree.specs.Small.{IsByteDecl}
-use Rattle.wire_linker.specs.WireProgram.{number}
-use Rattle.wire_linker.specs.Monitor.{tele_header, tele_path, mark_path, is_one_of}
-use Rattle.wire_linker.specs.Linked.{link_cases}
+use Rattle.linked_halves.specs.Monitor.{number, tele_header, tele_path, mark_path, is_port_of}
+use Rattle.linked_halves.specs.ParserStates.{link_cases}
 use Rattle.linked_halves.specs.Regions.{is_free}
 use Rattle.linked_halves.specs.LinkedParts.{tele_field, tele_fields}
-use Rattle.linked_halves.specs.Telemetry.{Tele, tele_word, tele_words, words_bits, tele_bytes, IsByteCell, IsFitTele}
+use Rattle.linked_halves.specs.Telemetry.{tele_word, tele_words, words_bits, tele_bytes, IsByteCell, IsFitTele}
 use Rattle.linked_halves.proofs.Apart.{text_decides, apart, not_both}
 use Rattle.linked_halves.proofs.Bits.{AreFor, fill, HasWords, IsWhole, whole_byte}
 
 -- ---- the telemetry's fields
 
 -- the store with the telemetry's words in their fields
-abbrev pub tele_fill : List Decl → Tele → Store → Store
+abbrev pub tele_fill : List Decl → Held → Store → Store
 tele_fill ds t s = fill tele_header (map tele_field ds) (map (λ d. tele_word t d.name) ds) s
 
-pub fill_headers : (ds : List Decl) (t : Tele) (s : Store) → (tele_fill ds t s).headers ≡ s.headers
+pub fill_headers : (ds : List Decl) (t : Held) (s : Store) → (tele_fill ds t s).headers ≡ s.headers
 fill_headers [] t s = refl
 fill_headers (d ∷ ds) t s = fill_headers ds t (set_value s (tele_path d.name) (tele_word t d.name))
 
-pub fill_other : (ds : List Decl) (t : Tele) (s : Store) (q : List (List ℕ)) → ((x : List ℕ) → same_path (tele_path x) q ≡ false) → (tele_fill ds t s).values q ≡ s.values q
+pub fill_other : (ds : List Decl) (t : Held) (s : Store) (q : List (List ℕ)) → ((x : List ℕ) → same_path (tele_path x) q ≡ false) → (tele_fill ds t s).values q ≡ s.values q
 fill_other [] t s q h = refl
 fill_other (d ∷ ds) t s q h =
     fill_other ds t (set_value s (tele_path d.name) (tele_word t d.name)) q h
@@ -58,16 +57,16 @@ or_true true b e = refl
 or_true false b e = e
 
 -- a write to the field of one name, seen at the field of another
-write_same : (s : Store) (y x : List ℕ) (t : Tele) → same_text y x ≡ true → (set_value s (tele_path y) (tele_word t y)).values (tele_path x) ≡ tele_word t x
+write_same : (s : Store) (y x : List ℕ) (t : Held) → same_text y x ≡ true → (set_value s (tele_path y) (tele_word t y)).values (tele_path x) ≡ tele_word t x
 write_same s y x t e =
     ap (λ b. cond b (tele_word t y) (s.values (tele_path x))) (and_true (same_text y x) ∙ e)
     ∙ ap (tele_word t) ((text_decides y x).0 e)
 
-write_other : (s : Store) (y x : List ℕ) (t : Tele) → same_text y x ≡ false → (set_value s (tele_path y) (tele_word t y)).values (tele_path x) ≡ s.values (tele_path x)
+write_other : (s : Store) (y x : List ℕ) (t : Held) → same_text y x ≡ false → (set_value s (tele_path y) (tele_word t y)).values (tele_path x) ≡ s.values (tele_path x)
 write_other s y x t e = ap (λ b. cond b (tele_word t y) (s.values (tele_path x))) (and_true (same_text y x) ∙ e)
 
 -- a field that holds its word goes on to hold it
-fill_keeps : (ds : List Decl) (t : Tele) (s : Store) (x : List ℕ) → s.values (tele_path x) ≡ tele_word t x → (tele_fill ds t s).values (tele_path x) ≡ tele_word t x
+fill_keeps : (ds : List Decl) (t : Held) (s : Store) (x : List ℕ) → s.values (tele_path x) ≡ tele_word t x → (tele_fill ds t s).values (tele_path x) ≡ tele_word t x
 fill_keeps [] t s x h = h
 fill_keeps (d ∷ ds) t s x h = fill_keeps ds t (set_value s (tele_path d.name) (tele_word t d.name)) x (one (same_text d.name x) refl)
   where
@@ -75,7 +74,7 @@ fill_keeps (d ∷ ds) t s x h = fill_keeps ds t (set_value s (tele_path d.name) 
     one true e = write_same s d.name x t e
     one false e = write_other s d.name x t e ∙ h
 
-pub fill_got : (ds : List Decl) (t : Tele) (s : Store) (x : List ℕ) → is_declared ds x ≡ true → (tele_fill ds t s).values (tele_path x) ≡ tele_word t x
+pub fill_got : (ds : List Decl) (t : Held) (s : Store) (x : List ℕ) → is_declared ds x ≡ true → (tele_fill ds t s).values (tele_path x) ≡ tele_word t x
 fill_got [] t s x h = not_both h refl
 fill_got (d ∷ ds) t s x h = one (same_text d.name x) refl h (λ i. fill_got ds t (set_value s (tele_path d.name) (tele_word t d.name)) x i)
   where
@@ -84,7 +83,7 @@ fill_got (d ∷ ds) t s x h = one (same_text d.name x) refl h (λ i. fill_got ds
     one false e h more = more h
 
 -- what the variables of an invalid header hold: its fields are 0
-abbrev pub zero_tele : Tele
+abbrev pub zero_tele : Held
 zero_tele x = word 8 0 ∷ []
 
 pub zero_is : (ds : List Decl) (s : Store) → zero_fields tele_header (map tele_field ds) s ≡ tele_fill ds zero_tele s
@@ -98,49 +97,49 @@ word_of_cell : (ws : List Word) → IsByteCell ws → scalar ws 8 ≡ word 8 (sc
 word_of_cell ws h = ap (λ (l : List Word). scalar l 8) h.one
 
 -- what fits all declarations fits all but the first
-fit_tail : (d : Decl) (ds : List Decl) (t : Tele) → IsFitTele (d ∷ ds) t → IsFitTele ds t
+fit_tail : (d : Decl) (ds : List Decl) (t : Held) → IsFitTele (d ∷ ds) t → IsFitTele ds t
 fit_tail d ds t h x e = h x (or_true (same_text d.name x) (is_declared ds x) e)
 
 -- a variable is declared by its own declaration
 is_declared-head : (d : Decl) (ds : List Decl) → is_declared (d ∷ ds) d.name ≡ true
 is_declared-head d ds = ap (λ b. b || is_declared ds d.name) ((text_decides d.name d.name).1 refl)
 
-fit_head : (d : Decl) (ds : List Decl) (t : Tele) → IsFitTele (d ∷ ds) t → IsByteCell (t d.name)
+fit_head : (d : Decl) (ds : List Decl) (t : Held) → IsFitTele (d ∷ ds) t → IsByteCell (t d.name)
 fit_head d ds t h = h d.name (is_declared-head d ds)
 
-words_for : (ds : List Decl) (t : Tele) → IsFitTele ds t → AreFor (map tele_field ds) (map (λ d. tele_word t d.name) ds)
+words_for : (ds : List Decl) (t : Held) → IsFitTele ds t → AreFor (map tele_field ds) (map (λ d. tele_word t d.name) ds)
 words_for [] t h = tt
 words_for (d ∷ ds) t h =
     let cell : IsByteCell (t d.name) = fit_head d ds t h in
     let wide : (tele_word t d.name).width ≡ 8 = ap (λ (w : Word). w.width) (word_of_cell (t d.name) cell) in
     (wide, subst (λ n. (tele_word t d.name).value < 2 ^ n) (sym wide) cell.low, words_for ds t (fit_tail d ds t h))
 
-pub tele_for : (ds : List Decl) (t : Tele) → IsFitTele ds t → AreFor (tele_fields ds) (tele_words ds t)
+pub tele_for : (ds : List Decl) (t : Held) → IsFitTele ds t → AreFor (tele_fields ds) (tele_words ds t)
 tele_for ds t h = (refl, omega arith, words_for ds t h)
 
-has_words : (all ds : List Decl) → ((x : List ℕ) → is_declared ds x ≡ true → is_declared all x ≡ true) → (s : Store) (t : Tele) → ((x : List ℕ) → is_declared all x ≡ true → s.values (tele_path x) ≡ tele_word t x) → HasWords tele_header (map tele_field ds) (map (λ d. tele_word t d.name) ds) s
+has_words : (all ds : List Decl) → ((x : List ℕ) → is_declared ds x ≡ true → is_declared all x ≡ true) → (s : Store) (t : Held) → ((x : List ℕ) → is_declared all x ≡ true → s.values (tele_path x) ≡ tele_word t x) → HasWords tele_header (map tele_field ds) (map (λ d. tele_word t d.name) ds) s
 has_words all [] i s t h = tt
 has_words all (d ∷ ds) i s t h =
     (h d.name (i d.name (is_declared-head d ds)), has_words all ds (λ x e. i x (or_true (same_text d.name x) (is_declared ds x) e)) s t h)
 
-pub tele_has : (ds : List Decl) (s : Store) (t : Tele) → s.values mark_path ≡ word 8 72 → ((x : List ℕ) → is_declared ds x ≡ true → s.values (tele_path x) ≡ tele_word t x) → HasWords tele_header (tele_fields ds) (tele_words ds t) s
+pub tele_has : (ds : List Decl) (s : Store) (t : Held) → s.values mark_path ≡ word 8 72 → ((x : List ℕ) → is_declared ds x ≡ true → s.values (tele_path x) ≡ tele_word t x) → HasWords tele_header (tele_fields ds) (tele_words ds t) s
 tele_has ds s t m h = (m, has_words ds ds (λ x e. e) s t h)
 
 -- the bits of a variable's word
 cell_bits : (ws : List Word) → IsByteCell ws → number_bits (scalar ws 8).width (scalar ws 8).value ≡ number_bits 8 (scalar ws 8).value
 cell_bits ws h = ap (λ (w : Word). number_bits w.width (scalar ws 8).value) (word_of_cell ws h)
 
-words_whole : (ds : List Decl) (t : Tele) → IsFitTele ds t → IsWhole (words_bits (map (λ d. tele_word t d.name) ds))
+words_whole : (ds : List Decl) (t : Held) → IsFitTele ds t → IsWhole (words_bits (map (λ d. tele_word t d.name) ds))
 words_whole [] t h = tt
 words_whole (d ∷ ds) t h =
     let rest : List ℕ = words_bits (map (λ d. tele_word t d.name) ds) in
     subst (λ (l : List ℕ). IsWhole (l ++ rest)) (sym (cell_bits (t d.name) (fit_head d ds t h)))
     (whole_byte (tele_word t d.name).value rest (words_whole ds t (fit_tail d ds t h)))
 
-pub tele_whole : (ds : List Decl) (t : Tele) → IsFitTele ds t → IsWhole (words_bits (tele_words ds t))
+pub tele_whole : (ds : List Decl) (t : Held) → IsFitTele ds t → IsWhole (words_bits (tele_words ds t))
 tele_whole ds t h = whole_byte 72 (words_bits (map (λ d. tele_word t d.name) ds)) (words_whole ds t h)
 
-length-words_bytes : (ds : List Decl) (t : Tele) → IsFitTele ds t → length (bytes_of (words_bits (map (λ d. tele_word t d.name) ds))) ≡ length ds
+length-words_bytes : (ds : List Decl) (t : Held) → IsFitTele ds t → length (bytes_of (words_bits (map (λ d. tele_word t d.name) ds))) ≡ length ds
 length-words_bytes [] t h = refl
 length-words_bytes (d ∷ ds) t h =
     let rest : List ℕ = words_bits (map (λ d. tele_word t d.name) ds) in
@@ -148,7 +147,7 @@ length-words_bytes (d ∷ ds) t h =
     ∙ ap suc (length-words_bytes ds t (fit_tail d ds t h))
 
 -- the telemetry has a byte for the mark and a byte for each variable
-pub length-tele_bytes : (ds : List Decl) (t : Tele) → IsFitTele ds t → length (tele_bytes ds t) ≡ suc (length ds)
+pub length-tele_bytes : (ds : List Decl) (t : Held) → IsFitTele ds t → length (tele_bytes ds t) ≡ suc (length ds)
 length-tele_bytes ds t h = ap suc (length-words_bytes ds t h)
 
 -- ---- tests of ports
@@ -161,7 +160,7 @@ holds_cast : (b : Bool) → holds (cast_word 1 (bit b)) ≡ b
 holds_cast true = refl
 holds_cast false = refl
 
-pub one_of_is : (p : List (List ℕ)) (links : List ℕ) (s : Store) (port : ℕ) → read s p ≡ word 9 port → port < 512 → AllByRecursion (λ n. n < 512) links → value_of (is_one_of p links) 1 s ≡ bit (is_in port links)
+pub one_of_is : (p : List (List ℕ)) (linked_ports : List ℕ) (s : Store) (port : ℕ) → read s p ≡ word 9 port → port < 512 → AllByRecursion (λ n. n < 512) linked_ports → value_of (is_port_of p linked_ports) 1 s ≡ bit (is_in port linked_ports)
 one_of_is p [] s port e lt low = refl
 one_of_is p (n ∷ ns) s port e lt low =
     let same : value_of (binary 0 Equal (path 0 p) (number 0 n)) 1 s ≡ bit (nat_eq port n) =
@@ -170,7 +169,7 @@ one_of_is p (n ∷ ns) s port e lt low =
     ap₂ (λ (a b : Word). bit (holds (cast_word 1 a) || holds (cast_word 1 b))) same (one_of_is p ns s port e lt low.1)
     ∙ ap₂ (λ (a b : Bool). bit (a || b)) (holds_cast (nat_eq port n)) (holds_cast (is_in port ns))
 
-pub case_is : (links : List ℕ) (s : Store) (port : ℕ) → port < 512 → AllByRecursion (λ n. n < 512) links → first_fit (link_cases links) (word 9 port ∷ []) s ≡ Some (if is_in port links then codes "hydra_taken" else codes "hydra_start")
+pub case_is : (linked_ports : List ℕ) (s : Store) (port : ℕ) → port < 512 → AllByRecursion (λ n. n < 512) linked_ports → first_fit (link_cases linked_ports) (word 9 port ∷ []) s ≡ Some (if is_in port linked_ports then codes "hydra_taken" else codes "hydra_start")
 case_is [] s port lt low = refl
 case_is (n ∷ ns) s port lt low =
     ap₂ (λ (b : Bool) (r : Option (List ℕ)). cond b (Some (codes "hydra_taken")) r)

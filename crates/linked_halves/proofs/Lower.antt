@@ -15,21 +15,22 @@ use Rattle.p4_tree.specs.Value.{value_of, own_width}
 use Rattle.p4_tree.specs.declared.statement.Op.TheVariants as p4
 use Rattle.p4_tree.specs.Statements.{Go, Run, Ended, after, in_store, meaning_of_stmt, meaning_of, meaning_of_else}
 use Rattle.indus_tree.specs.Tree as indus
-use Rattle.indus_tree.specs.State.{Hop, Doing, lookup, held_width, shape_width, put, put_cell, set_by_kind, set_cell}
+use Rattle.network_run.specs.PathMeaning.{Doing}
+use Rattle.indus_tree.specs.State.{Hop, Held, lookup, held_width, shape_width, put, put_cell, set_by_kind, set_cell}
 use Rattle.indus_tree.specs.declared.tree.DeclKind.TheVariants as kind
 use Rattle.indus_tree.specs.Names.{is_declared}
 use Rattle.indus_tree.specs.Small.{IsByteDecl, IsSmallSum, IsSmallTest, IsSmallStmt, IsSmallBlock}
 use Rattle.indus_tree.specs.Value as indus_value
 use Rattle.indus_tree.specs.Reads.{Seen, scalar, word_by_kind, variable_word, name_word}
 use Rattle.indus_tree.specs.Meaning.{seen_by, value_for, stmt_run, run_of}
-use Rattle.wire_linker.specs.Monitor.{tele_header, tele_path, rejected_name, lowered, lowered_stmt, lowered_block, lowered_else}
+use Rattle.linked_halves.specs.Monitor.{tele_header, tele_path, rejected_name, lowered, lowered_stmt, lowered_block, lowered_else}
 use Rattle.linked_halves.specs.Regions.{is_free}
 use Rattle.linked_halves.specs.Relations.{Monitor, Others}
-use Rattle.linked_halves.specs.Telemetry.{Tele, tele_word, IsByteCell}
+use Rattle.linked_halves.specs.Telemetry.{tele_word, IsByteCell}
 use Rattle.linked_halves.proofs.Apart.{free_apart}
 
 -- a store stands for a state of the property; the flag is there where the checker runs
-pub record Stands (ds : List indus.Decl) (checks : Bool) (s : Store) (d : Doing) : Type 0 where
+pub record Stands (ds : List indus.Decl) (checks : Bool) (s : Store) (d : Doing Held Held) : Type 0 where
   pub monitor : Monitor ds s d.tele
   pub rejected : checks ≡ true → s.values (rejected_name ∷ []) ≡ bit d.rejected
   pub reports : d.reports ≡ []
@@ -92,13 +93,13 @@ word_is [] all s x is = absurd (cc)
 word_is (d ∷ ds) all s x is = word_here (same_text d.name x) d (lookup ds x) (is_declared ds x) s x (All-head IsByteDecl d ds all) (word_is ds (All-tail IsByteDecl d ds all) s x) is
 
 -- where the first declaration is a byte's, and of the others what is declared is written as the packet's
-set_here : (b : Bool) (d : indus.Decl) (o : Option indus.Decl) (is_more : Bool) (x : List ℕ) (w : Word) (e : Doing) → IsByteDecl d → (is_more ≡ true → set_cell o x 0 w e ≡ set_by_kind kind.Tele x 0 w e) → (b || is_more) ≡ true
+set_here : (b : Bool) (d : indus.Decl) (o : Option indus.Decl) (is_more : Bool) (x : List ℕ) (w : Word) (e : Doing Held Held) → IsByteDecl d → (is_more ≡ true → set_cell o x 0 w e ≡ set_by_kind kind.Tele x 0 w e) → (b || is_more) ≡ true
     → set_cell (cond b (Some d) o) x 0 w e ≡ set_by_kind kind.Tele x 0 w e
 set_here true d o is_more x w e one more t = ap (λ k. set_by_kind k x 0 w e) one.kind
 set_here false d o is_more x w e one more t = more t
 
 -- an assignment to a declared name writes the packet's variable
-set_is : (ds : List indus.Decl) → All IsByteDecl ds → (x : List ℕ) (w : Word) (e : Doing) → is_declared ds x ≡ true → set_cell (lookup ds x) x 0 w e ≡ set_by_kind kind.Tele x 0 w e
+set_is : (ds : List indus.Decl) → All IsByteDecl ds → (x : List ℕ) (w : Word) (e : Doing Held Held) → is_declared ds x ≡ true → set_cell (lookup ds x) x 0 w e ≡ set_by_kind kind.Tele x 0 w e
 set_is [] all x w e is = absurd (cc)
 set_is (d ∷ ds) all x w e is = set_here (same_text d.name x) d (lookup ds x) (is_declared ds x) x w e (All-head IsByteDecl d ds all) (set_is ds (All-tail IsByteDecl d ds all) x w e) is
 
@@ -111,7 +112,7 @@ cell_width : (ws : List Word) (w : ℕ) → IsByteCell ws → (scalar ws w).widt
 cell_width ws w c = ap (λ us. (scalar us w).width) c.one
 
 -- a declared variable's field reads what the variable holds
-read_tele : (ds : List indus.Decl) (s : Store) (t : Tele) (x : List ℕ) → is_declared ds x ≡ true → Monitor ds s t → read s (tele_path x) ≡ tele_word t x
+read_tele : (ds : List indus.Decl) (s : Store) (t : Held) (x : List ℕ) → is_declared ds x ≡ true → Monitor ds s t → read s (tele_path x) ≡ tele_word t x
 read_tele ds s t x h m = ap₂ shown m.valid (m.tele x h)
 
 -- of two widths that are 8 or none, the first that is there is 8 or none
@@ -120,7 +121,7 @@ either_both zero u h k = k
 either_both (suc v) u h k = h
 
 -- the values of sums and tests over a store that holds the telemetry
-module _ (h : Hop) (decls : All IsByteDecl h.decls) (s : Store) (t sensors : Tele) (m : Monitor h.decls s t) where
+module _ (h : Hop) (decls : All IsByteDecl h.decls) (s : Store) (t sensors : Held) (m : Monitor h.decls s t) where
   abbrev seen : Seen
   seen = record { hop = h; items = []; tele = t; sensors = sensors }
 
@@ -196,7 +197,7 @@ set_byte true n ws lt h = record { one = refl; low = lt }
 set_byte false n ws lt h = h
 
 -- the flag is set, and so it is there, also where it was not before
-pub set_rejected : (ds : List indus.Decl) (before checks : Bool) (b : Run) (d : Doing) (r : Bool) → Stands ds before b.store d → Stands ds checks (set_value b.store (rejected_name ∷ []) (bit r)) (record d { rejected = r })
+pub set_rejected : (ds : List indus.Decl) (before checks : Bool) (b : Run) (d : Doing Held Held) (r : Bool) → Stands ds before b.store d → Stands ds checks (set_value b.store (rejected_name ∷ []) (bit r)) (record d { rejected = r })
 set_rejected ds before checks b d r s =
     record {
       monitor = record { plain = s.monitor.plain; standard = s.monitor.standard; valid = s.monitor.valid; mark = s.monitor.mark; tele = λ y i. s.monitor.tele y i; fits = s.monitor.fits };
@@ -205,14 +206,14 @@ set_rejected ds before checks b d r s =
     }
 
 -- statements stand for what a block does, leave all that is not the monitor's, and go on
-pub record Lowered (ds : List indus.Decl) (checks : Bool) (b : Run) (e : Ended) (d : Doing) : Type 0 where
+pub record Lowered (ds : List indus.Decl) (checks : Bool) (b : Run) (e : Ended) (d : Doing Held Held) : Type 0 where
   pub stands : Stands ds checks e.0.store d
   pub others : Others b e.0
   pub goes : e.1 ≡ Go
 
 module _ (ds : List indus.Decl) (checks : Bool) where
   -- a telemetry variable is set
-  set_tele : (b : Run) (d : Doing) (x : List ℕ) (n : ℕ) → n < 256 → Stands ds checks b.store d → Stands ds checks (set_value b.store (tele_path x) (word 8 n)) (record d { tele = put d.tele x (word 8 n ∷ []) })
+  set_tele : (b : Run) (d : Doing Held Held) (x : List ℕ) (n : ℕ) → n < 256 → Stands ds checks b.store d → Stands ds checks (set_value b.store (tele_path x) (word 8 n)) (record d { tele = put d.tele x (word 8 n ∷ []) })
   set_tele b d x n lt s =
       record {
         monitor =
@@ -229,18 +230,18 @@ module _ (ds : List indus.Decl) (checks : Bool) where
       }
 
   -- nothing is done
-  low_same : (b : Run) (d : Doing) → Stands ds checks b.store d → Lowered ds checks b (b, Go) d
+  low_same : (b : Run) (d : Doing Held Held) → Stands ds checks b.store d → Lowered ds checks b (b, Go) d
   low_same b d s = record { stands = s; others = others_same b; goes = refl }
 
   -- statements go on behind others
-  low_after : (b : Run) (e : Ended) (f : Run → Ended) (d d' : Doing) → Lowered ds checks b e d → ((r : Run) → Stands ds checks r.store d → Lowered ds checks r (f r) d') → Lowered ds checks b (after e.1 e.0 f) d'
+  low_after : (b : Run) (e : Ended) (f : Run → Ended) (d d' : Doing Held Held) → Lowered ds checks b e d → ((r : Run) → Stands ds checks r.store d → Lowered ds checks r (f r) d') → Lowered ds checks b (after e.1 e.0 f) d'
   low_after b e f d d' h k =
       let two = k e.0 h.stands in
       let all : Lowered ds checks b (f e.0) d' = record { stands = two.stands; others = others_then b e.0 (f e.0).0 h.others two.others; goes = two.goes } in
       rw h.goes all
 
   -- of two parts the same one is done
-  low_if : (b : Run) (t u : Bool) (e e' : Ended) (d d' : Doing) → t ≡ u → Lowered ds checks b e d → Lowered ds checks b e' d' → Lowered ds checks b (cond t e e') (cond u d d')
+  low_if : (b : Run) (t u : Bool) (e e' : Ended) (d d' : Doing Held Held) → t ≡ u → Lowered ds checks b e d → Lowered ds checks b e' d' → Lowered ds checks b (cond t e e') (cond u d d')
   low_if b true true e e' d d' q h k = h
   low_if b false false e e' d d' q h k = k
   low_if b true false e e' d d' q h k = absurd (cc)
@@ -248,25 +249,25 @@ module _ (ds : List indus.Decl) (checks : Bool) where
 
 module _ (h : Hop) (decls : All IsByteDecl h.decls) (checks : Bool) where
   -- an assignment to a variable
-  lowers_assign : (p : ℕ) (x : List ℕ) (e : indus.Expr) (b : Run) (d : Doing) → is_declared h.decls x ≡ true → IsSmallSum h.decls e → Stands h.decls checks b.store d → Lowered h.decls checks b (meaning_of_stmt (lowered_stmt (indus.assign p x e)) b) (stmt_run h [] (indus.assign p x e) d)
+  lowers_assign : (p : ℕ) (x : List ℕ) (e : indus.Expr) (b : Run) (d : Doing Held Held) → is_declared h.decls x ≡ true → IsSmallSum h.decls e → Stands h.decls checks b.store d → Lowered h.decls checks b (meaning_of_stmt (lowered_stmt (indus.assign p x e)) b) (stmt_run h [] (indus.assign p x e) d)
   lowers_assign p x e b d is i s =
       let cell = s.monitor.fits x is in
       let w = indus_value.value_of (seen_by h [] d) e 8 in
       let n = cast 8 w.value in
       let lt : n < 256 = mod-lt w.value (pow_pos 8) in
       let c = in_store b (set_value b.store (tele_path x) (word 8 n)) in
-      let d' : Doing = record d { tele = put d.tele x (word 8 n ∷ []) } in
+      let d' : Doing Held Held = record d { tele = put d.tele x (word 8 n ∷ []) } in
       let old : b.store.values (tele_path x) ≡ word 8 (tele_word d.tele x).value = s.monitor.tele x is ∙ ap (λ ws. scalar ws 8) cell.one in
       let low : meaning_of_stmt (assign 0 (tele_path x) (lowered e)) b ≡ (c, Go) =
       assignment b 0 (tele_path x) (lowered e) (word 8 (tele_word d.tele x).value) w (open_by (b.store.headers tele_header) (Some true) s.monitor.valid tt) old (sum_same h decls b.store d.tele d.sensors s.monitor e i) in
       let value : value_for h [] d x e ≡ word 8 n = ap (λ k. cast_word (sound_width k) (indus_value.value_of (seen_by h [] d) e k)) (held_is h.decls decls x is) in
       let own : set_cell (lookup h.decls x) x 0 (value_for h [] d x e) d ≡ d' =
-      set_is h.decls decls x (value_for h [] d x e) d is ∙ ap (λ v. set_by_kind kind.Tele x 0 v d) value ∙ ap (λ ws. let r : Doing = record d { tele = put d.tele x (put_cell ws 0 (word 8 n)) } in r) cell.one in
+      set_is h.decls decls x (value_for h [] d x e) d is ∙ ap (λ v. set_by_kind kind.Tele x 0 v d) value ∙ ap (λ ws. let r : Doing Held Held = record d { tele = put d.tele x (put_cell ws 0 (word 8 n)) } in r) cell.one in
       let one : Lowered h.decls checks b (c, Go) d' = record { stands = set_tele h.decls checks b d x n lt s; others = others_set b (tele_path x) (word 8 n) refl; goes = refl } in
       subst (λ r. Lowered h.decls checks b r (set_cell (lookup h.decls x) x 0 (value_for h [] d x e) d)) (sym low) (subst (λ r. Lowered h.decls checks b (c, Go) r) (sym own) one)
 
   -- a rejection
-  lowers_reject : (p : ℕ) (b : Run) (d : Doing) → checks ≡ true → Stands h.decls checks b.store d → Lowered h.decls checks b (meaning_of_stmt (lowered_stmt (indus.reject p)) b) (record d { rejected = true })
+  lowers_reject : (p : ℕ) (b : Run) (d : Doing Held Held) → checks ≡ true → Stands h.decls checks b.store d → Lowered h.decls checks b (meaning_of_stmt (lowered_stmt (indus.reject p)) b) (record d { rejected = true })
   lowers_reject p b d is s =
       let c = in_store b (set_value b.store (rejected_name ∷ []) (bit true)) in
       let low : meaning_of_stmt (assign 0 (rejected_name ∷ []) (flag 0 true)) b ≡ (c, Go) =
@@ -277,7 +278,7 @@ module _ (h : Hop) (decls : All IsByteDecl h.decls) (checks : Bool) where
 
   mutual
     -- a statement
-    lowers_one : (o : indus.Stmt) (b : Run) (d : Doing) → IsSmallStmt h.decls checks o → Stands h.decls checks b.store d → Lowered h.decls checks b (meaning_of_stmt (lowered_stmt o) b) (stmt_run h [] o d)
+    lowers_one : (o : indus.Stmt) (b : Run) (d : Doing Held Held) → IsSmallStmt h.decls checks o → Stands h.decls checks b.store d → Lowered h.decls checks b (meaning_of_stmt (lowered_stmt o) b) (stmt_run h [] o d)
     lowers_one (indus.assign p x e) b d i s = lowers_assign p x e b d i.0 i.1 s
     lowers_one (indus.choice p e a c) b d i s =
         let test = value_of (lowered e) 1 b.store in
@@ -288,7 +289,7 @@ module _ (h : Hop) (decls : All IsByteDecl h.decls) (checks : Bool) where
     lowers_one _ b d i s = absurd i
 
     -- a block
-    pub lowers : (ss : indus.Stmts) (b : Run) (d : Doing) → IsSmallBlock h.decls checks ss → Stands h.decls checks b.store d → Lowered h.decls checks b (meaning_of (lowered_block ss) b) (run_of h ss d)
+    pub lowers : (ss : indus.Stmts) (b : Run) (d : Doing Held Held) → IsSmallBlock h.decls checks ss → Stands h.decls checks b.store d → Lowered h.decls checks b (meaning_of (lowered_block ss) b) (run_of h ss d)
     lowers indus.done b d i s = low_same h.decls checks b d s
     lowers (indus.next o ss) b d i s =
         low_after h.decls checks b (meaning_of_stmt (lowered_stmt o) b) (meaning_of (lowered_block ss)) (stmt_run h [] o d) (run_of h ss (stmt_run h [] o d)) (lowers_one o b d i.0 s) (λ q t. lowers ss q (stmt_run h [] o d) i.1 t)

@@ -12,7 +12,7 @@ use Rattle.p4_tree.specs.Value.{value_of}
 use Rattle.p4_tree.specs.Statements.{Run}
 use Rattle.p4_tree.specs.Parsing.{Field, Header, ParserError, NoError, PacketTooShort, Reading, width_sum, field_taken, fields_taken, with_valid, Parsed, goes_on, stops, extracted, extracted_at, unless_stopped, call_parsed, stmt_parsed, body_parsed, fits, fits_each, fits_all, first_fit, chosen, state_after, ParserEnd, parser_end, Turned, ends, leads, led, turned, in_state, one_turn, on_turned, turns_of, fields_bits, if_valid, header_bits, deparse_of}
 use Rattle.indus_tree.specs.Tree.{Decl}
-use Rattle.wire_linker.specs.Monitor.{tele_header}
+use Rattle.linked_halves.specs.Monitor.{tele_header}
 use Rattle.linked_halves.specs.Regions.{is_mine, is_own_header}
 use Rattle.linked_halves.specs.Forwarding.{IsOwnExpr, IsOwnExtract, IsOwnParse, IsOwnKeyset, IsOwnCase, IsOwnTransition, IsOwnState}
 use Rattle.linked_halves.specs.LinkedParts.{telemetry, own_name, renamed_case, renamed_transition, renamed_state}

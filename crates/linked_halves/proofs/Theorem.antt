@@ -6,16 +6,18 @@ use Rattle.std.proofs.lemmas.List.Elements.{All-head, All-tail, All-cons, All-ni
 use Rattle.bit_values.specs.Bits.{Word}
 use Rattle.p4_tree.specs.Parts.{Cells}
 use Rattle.p4_tree.specs.Pass.{Registers, parts_enter, zero_cells, start_cells}
+use Rattle.indus_tree.specs.State.{Contents, Held}
 use Rattle.indus_tree.specs.Start.{tele_start}
+use Rattle.indus_tree.specs.Law.{law_of}
 use Rattle.network_run.specs.Network.{Link, Wiring, far_end_among, at_edge, IsLinkOf}
-use Rattle.network_run.specs.PathMeaning.{entry_part}
-use Rattle.linkage.specs.HalvesLaws.{carried, reads_at, EnterAgrees}
+use Rattle.network_run.specs.PathMeaning.{reads_at, entry_part}
+use Rattle.linkage.specs.HalvesLaws.{carried, EnterAgrees}
 use Rattle.linkage.proofs.Runs.{linkage}
-use Rattle.wire_linker.specs.Monitor.{rejects_register}
+use Rattle.linked_halves.specs.Monitor.{rejects_register}
 use Rattle.linked_halves.specs.Regions.{is_mine}
 use Rattle.linked_halves.specs.LinkedParts.{rejects_cells, linked_parts}
-use Rattle.linked_halves.specs.Telemetry.{Tele, telemetry_of, IsFitTele}
-use Rattle.linked_halves.specs.Networks.{entered_of, law_of, cells_of, registers_of, ports_at}
+use Rattle.linked_halves.specs.Telemetry.{telemetry_of, IsFitTele}
+use Rattle.linked_halves.specs.Networks.{entered_of, cells_of, registers_of, ports_at}
 use Rattle.linked_halves.specs.Relations.{KeptBy, HeldBy}
 use Rattle.linked_halves.specs.Given.{Given, IsGiven, forwarding_machine, linked_machine, AnyEntries, NoVariable, NoContents, KeepsHalves, IsLinked}
 use Rattle.linked_halves.proofs.Apart.{apart_names}
@@ -76,25 +78,25 @@ module _ (g : Given) (is : IsGiven g) where
   wired : (s port : ℕ) → is_in port (ports_at g.network.links s) ≡ not (at_edge g.network s port)
   wired s port = listed g.network.links s port ∙ none_is (far_end_among g.network.links s port)
 
-  abbrev Enters : ℕ → ℕ → ℕ → Registers → Registers → (ℕ → Unit {0}) → Tele → List ℕ → Bool → Type 0
-  Enters s port k a b c t frame e =
+  abbrev Enters : ℕ → ℕ → ℕ → Registers → Registers → (ℕ → Contents) → (tele sensors : Held) → List ℕ → Bool → Type 0
+  Enters s port k a b c t z frame e =
       EnterAgrees g.network (law_of g.property) (telemetry_of g.property.decls) KeptBy (HeldBy g.property.decls) (IsFitTele g.property.decls) s e c k
-      (entry_part (law_of g.property) (reads_at s e false [] c) t tt)
+      (entry_part (law_of g.property) (reads_at s e false [] c) t z)
       (entered_of (parts_enter g.forwarding a port frame))
       (entered_of (parts_enter (linked_parts g.forwarding g.property (ports_at g.network.links s)) b port (carried (telemetry_of g.property.decls) e t frame)))
 
-  enters : (s port k : ℕ) (a b : Registers) (c : ℕ → Unit {0}) (t : Tele) (frame : List ℕ) (e : Bool) → at_edge g.network s port ≡ e → port < 512 → KeptBy s a tt c k b → IsFitTele g.property.decls t → (e ≡ true → t ≡ tele_start g.property.decls) → Enters s port k a b c t frame e
-  enters s port k a b c t frame true e lt kept fits start =
-      enter_edge g.forwarding is.forwarding g.property is.property (ports_at g.network.links s) (low s) g.network s port k a b c t frame (reads_at s true false [] c) kept lt (wired s port ∙ ap not e) (start refl) refl
-  enters s port k a b c t frame false e lt kept fits start =
-      enter_link g.forwarding is.forwarding g.property is.property (ports_at g.network.links s) (low s) g.network s port k a b c t frame (reads_at s false false [] c) kept lt (wired s port ∙ ap not e) fits refl
+  enters : (s port k : ℕ) (a b : Registers) (c : ℕ → Contents) (t z : Held) (frame : List ℕ) (e : Bool) → at_edge g.network s port ≡ e → port < 512 → KeptBy s a z c k b → IsFitTele g.property.decls t → (e ≡ true → t ≡ tele_start g.property.decls) → Enters s port k a b c t z frame e
+  enters s port k a b c t z frame true e lt kept fits start =
+      enter_edge g.forwarding is.forwarding g.property is.property (ports_at g.network.links s) (low s) g.network s port k a b c t z frame (reads_at s true false [] c) kept lt (wired s port ∙ ap not e) (start refl) refl
+  enters s port k a b c t z frame false e lt kept fits start =
+      enter_link g.forwarding is.forwarding g.property is.property (ports_at g.network.links s) (low s) g.network s port k a b c t z frame (reads_at s false false [] c) kept lt (wired s port ∙ ap not e) fits refl
 
   pub laws : KeepsHalves g
   laws =
       record {
-        enters = λ s port k a b z c t frame known lt kept fits start short. let ports = is.ports in enters s port k a b c t frame (at_edge g.network s port) refl (omega arith) kept fits start;
+        enters = λ s port k a b z c t frame known lt kept fits start short. let ports = is.ports in enters s port k a b c t z frame (at_edge g.network s port) refl (omega arith) kept fits start;
         leaves = λ s k first a b z c t q q' known kept held.
-            leaves_agree g.forwarding is.forwarding g.property is.property (ports_at g.network.links s) (low s) g.network s k first c (wired s) a b t q q' kept held;
+            leaves_agree g.forwarding is.forwarding g.property is.property (ports_at g.network.links s) (low s) g.network s k first c (wired s) a b t z q q' kept held;
         sets = λ s v k a b z c x known kept named fit. absurd named;
         starts = λ s e c known fit fits. record { own = λ x o. cells_own g.forwarding.registers x o; rejects = refl };
         forwards = λ s k a b z c known kept. same_cells g.forwarding.registers a b is.forwarding.registers kept.own;

@@ -3,6 +3,8 @@ use Rattle.std.specs.Prelude.{ℕ, ◌≤◌}
 use Rattle.p4_tree.specs.Parts.{Parts}
 use Rattle.p4_tree.specs.Pass.{Registers, Queued}
 use Rattle.indus_tree.specs.Tree.{Property}
+use Rattle.indus_tree.specs.State.{Contents}
+use Rattle.indus_tree.specs.Law.{law_of}
 use Rattle.indus_tree.specs.Small.{IsSmall}
 use Rattle.network_run.specs.Machine.{Machine}
 use Rattle.network_run.specs.Network.{Wiring, IsWiring}
@@ -11,7 +13,7 @@ use Rattle.linkage.specs.HalvesLaws.{HalvesLaws}
 use Rattle.linked_halves.specs.Forwarding.{IsForwarding}
 use Rattle.linked_halves.specs.LinkedParts.{linked_parts}
 use Rattle.linked_halves.specs.Telemetry.{telemetry_of, IsFitTele}
-use Rattle.linked_halves.specs.Networks.{machine_of, law_of, registers_of, ports_at}
+use Rattle.linked_halves.specs.Networks.{machine_of, registers_of, ports_at}
 use Rattle.linked_halves.specs.Relations.{KeptBy, HeldBy}
 
 -- a forwarding program, a property and a network
@@ -29,11 +31,11 @@ pub record IsGiven (g : Given) : Type 0 where
   pub ports : g.network.ports ≤ 512
 
 -- the same program at each switch
-abbrev pub forwarding_machine : Given → Machine (Unit {0}) Registers Queued (Unit {0})
+abbrev pub forwarding_machine : Given → Machine (Unit {0}) Registers Queued Contents
 forwarding_machine g = machine_of (λ s. g.forwarding)
 
 -- the linked program of each switch
-abbrev pub linked_machine : Given → Machine (Unit {0}) Registers Queued (Unit {0})
+abbrev pub linked_machine : Given → Machine (Unit {0}) Registers Queued Contents
 linked_machine g = machine_of (λ s. linked_parts g.forwarding g.property (ports_at g.network.links s))
 
 -- there are no entries, and no control variables
@@ -43,7 +45,7 @@ AnyEntries s e = Unit {0}
 abbrev pub NoVariable : ℕ → Type 0
 NoVariable v = ⊥
 
-abbrev pub NoContents : (switch variable : ℕ) → Unit {0} → Type 0
+abbrev pub NoContents : (switch variable : ℕ) → Contents → Type 0
 NoContents s v c = ⊥
 
 -- a linked enter and a linked leave keep to the laws of the two halves

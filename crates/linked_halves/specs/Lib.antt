@@ -1,6 +1,8 @@
--- What callers rest on: which forwarding programs are linked, the linked parts, and what is said of them.
+-- What callers rest on: which forwarding programs are linked, the monitor, the linked parts, and what is said of them.
 pub mod Regions
 pub mod Forwarding
+pub mod Monitor
+pub mod ParserStates
 pub mod LinkedParts
 pub mod Telemetry
 pub mod Networks

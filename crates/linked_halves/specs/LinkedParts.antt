@@ -5,8 +5,8 @@ use Rattle.p4_tree.specs.Tree.{done, next, Case, Transition, nowhere, to, select
 use Rattle.p4_tree.specs.Parsing.{Field, Header}
 use Rattle.p4_tree.specs.Parts.{Cells, Parts}
 use Rattle.indus_tree.specs.Tree.{Decl, Property}
-use Rattle.wire_linker.specs.Monitor.{tele_header, tele_name, rejects_register, entry_stmt, exit_stmt}
-use Rattle.wire_linker.specs.Linked.{first_state, taken_state}
+use Rattle.linked_halves.specs.Monitor.{tele_header, tele_name, rejects_register, entry_stmt, exit_stmt}
+use Rattle.linked_halves.specs.ParserStates.{first_state, taken_state}
 
 -- the field of a variable
 abbrev pub tele_field : Decl → Field
@@ -40,19 +40,19 @@ abbrev pub renamed_state : ParserState → ParserState
 renamed_state s = record s { name = own_name s.name; next = renamed_transition s.next }
 
 -- how the frame arrived, the telemetry where it stands, and then the program's own states
-abbrev pub linked_states : (links : List ℕ) → List ParserState → List ParserState
-linked_states links own = first_state links ∷ taken_state ∷ map renamed_state own
+abbrev pub linked_states : (linked_ports : List ℕ) → List ParserState → List ParserState
+linked_states linked_ports own = first_state linked_ports ∷ taken_state ∷ map renamed_state own
 
-abbrev pub linked_parts : Parts → Property → (links : List ℕ) → Parts
-linked_parts f p links =
+abbrev pub linked_parts : Parts → Property → (linked_ports : List ℕ) → Parts
+linked_parts f p linked_ports =
     record {
       registers = rejects_cells ∷ f.registers;
       headers = telemetry p.decls ∷ f.headers;
       metadata = f.metadata;
-      states = linked_states links f.states;
+      states = linked_states linked_ports f.states;
       verify = f.verify;
-      ingress = next (entry_stmt p links) f.ingress;
-      egress = and_then f.egress (next (exit_stmt p links) done);
+      ingress = next (entry_stmt p linked_ports) f.ingress;
+      egress = and_then f.egress (next (exit_stmt p linked_ports) done);
       compute = f.compute;
       emits = tele_header ∷ f.emits;
     }

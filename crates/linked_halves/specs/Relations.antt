@@ -9,9 +9,10 @@ use Rattle.p4_tree.specs.Pass.{Registers, Queued}
 use Rattle.indus_tree.specs.Tree.{Decl}
 use Rattle.indus_tree.specs.Names.{is_declared}
 use Rattle.linkage.specs.Linkage.{report_receiver}
-use Rattle.wire_linker.specs.Monitor.{tele_header, mark_path, tele_path, rejects_register}
+use Rattle.linked_halves.specs.Monitor.{tele_header, mark_path, tele_path, rejects_register}
 use Rattle.linked_halves.specs.Regions.{is_mine, is_free, is_readable, is_writable, is_own_header}
-use Rattle.linked_halves.specs.Telemetry.{Tele, tele_word, IsFitTele}
+use Rattle.indus_tree.specs.State.{Contents, Held}
+use Rattle.linked_halves.specs.Telemetry.{tele_word, IsFitTele}
 
 -- the digest is a report
 abbrev pub is_report : Digest → Bool
@@ -49,7 +50,7 @@ pub record Others (a b : Run) : Type 0 where
   pub digests : b.digests ≡ a.digests
 
 -- the store holds the telemetry of tele values
-pub record Monitor (ds : List Decl) (s : Store) (t : Tele) : Type 0 where
+pub record Monitor (ds : List Decl) (s : Store) (t : Held) : Type 0 where
   pub plain : s.headers [] ≡ None
   pub standard : s.headers (standard_root ∷ []) ≡ None
   pub valid : s.headers tele_header ≡ Some true
@@ -58,12 +59,12 @@ pub record Monitor (ds : List Decl) (s : Store) (t : Tele) : Type 0 where
   pub fits : IsFitTele ds t
 
 -- what a switch keeps in the linked network: its own registers, and the number of rejected packets
-pub record KeptBy (s : ℕ) (a : Registers) (z : Unit {0}) (c : ℕ → Unit {0}) (k : ℕ) (b : Registers) : Type 0 where
+pub record KeptBy (s : ℕ) (a : Registers) (z : Held) (c : ℕ → Contents) (k : ℕ) (b : Registers) : Type 0 where
   pub own : (x : List ℕ) → is_mine x ≡ false → b x ≡ a x
   pub rejects : b rejects_register ≡ word 32 (k % 2 ^ 32) ∷ []
 
 -- a queued packet of the linked network: the own headers, metadata and remaining bytes, and the telemetry
-pub record HeldBy (ds : List Decl) (s : ℕ) (first : Bool) (q : Queued) (t : Tele) (q' : Queued) : Type 0 where
+pub record HeldBy (ds : List Decl) (s : ℕ) (first : Bool) (q : Queued) (t : Held) (q' : Queued) : Type 0 where
   pub alike : Alike (bare q.store) (bare q'.store)
   pub monitor : Monitor ds q'.store t
   pub rest : q'.rest ≡ q.rest

@@ -4,20 +4,17 @@ use Rattle.bit_values.specs.Bits.{Word, word}
 use Rattle.bit_values.specs.BitLists.{number_bits}
 use Rattle.p4_tree.specs.Parsing.{bytes_of}
 use Rattle.indus_tree.specs.Tree.{Decl}
+use Rattle.indus_tree.specs.State.{Held}
 use Rattle.indus_tree.specs.Names.{is_declared}
 use Rattle.indus_tree.specs.Reads.{scalar}
 use Rattle.linkage.specs.Linkage as law
 
--- what each name holds
-abbrev pub Tele : Type 0
-Tele = List ℕ → List Word
-
 -- the word of a variable of one byte
-abbrev pub tele_word : Tele → List ℕ → Word
+abbrev pub tele_word : Held → List ℕ → Word
 tele_word t x = scalar (t x) 8
 
 -- the words of the telemetry: the mark, hexadecimal 48, and the variables in order of declaration
-abbrev pub tele_words : List Decl → Tele → List Word
+abbrev pub tele_words : List Decl → Held → List Word
 tele_words ds t = word 8 72 ∷ map (λ d. tele_word t d.name) ds
 
 -- the bits of words, in order
@@ -26,11 +23,11 @@ words_bits [] = []
 words_bits (w ∷ ws) = number_bits w.width w.value ++ words_bits ws
 
 -- the bytes that stand before a frame on a link
-abbrev pub tele_bytes : List Decl → Tele → List ℕ
+abbrev pub tele_bytes : List Decl → Held → List ℕ
 tele_bytes ds t = bytes_of (words_bits (tele_words ds t))
 
 -- the telemetry, as the network law takes it
-abbrev pub telemetry_of : List Decl → law.Telemetry Tele
+abbrev pub telemetry_of : List Decl → law.Telemetry Held
 telemetry_of ds = record { bytes = tele_bytes ds; size = suc (length ds) }
 
 -- a variable holds one number of a byte
@@ -39,5 +36,5 @@ pub record IsByteCell (ws : List Word) : Type 0 where
   pub low : (scalar ws 8).value < 256
 
 -- each declared variable does
-abbrev pub IsFitTele : List Decl → Tele → Type 0
+abbrev pub IsFitTele : List Decl → Held → Type 0
 IsFitTele ds t = (x : List ℕ) → is_declared ds x ≡ true → IsByteCell (t x)

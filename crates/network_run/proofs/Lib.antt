@@ -5,3 +5,4 @@ pub mod Same
 pub mod Ends
 pub mod Hops
 pub mod Counts
+pub mod Passage

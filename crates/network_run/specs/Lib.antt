@@ -5,6 +5,7 @@ pub mod Events
 pub mod NetworkRun
 pub mod PathMeaning
 pub mod World
+pub mod Hop
 -- What serves the proofs: the words of the small laws, and the examples of the worked rows.
 pub mod RunLaws
 pub mod Example

@@ -58,16 +58,14 @@ pub record Path (T Z : Type 0) : Type 0 where
 abbrev pub nothing_yet : {T Z : Type 0} → T → Z → Doing T Z
 nothing_yet tele sensors = record { tele = tele; sensors = sensors; rejected = false; reports = [] }
 
--- what the blocks read at a half
+-- what the blocks read at a half of a passage of a switch
+abbrev pub reads_at :
+    {C : Type 0} → (switch : ℕ) → (first last : Bool) → (view : List Word) → (ℕ → C) → Reads C
+reads_at s first last view c =
+    record { switch = s; first = first; last = last; view = view; contents = c }
+
 abbrev pub reads_of : {C : Type 0} → Half C → Reads C
-reads_of h =
-    record {
-      switch = h.switch;
-      first = h.first;
-      last = h.last;
-      view = h.view;
-      contents = h.contents;
-    }
+reads_of h = reads_at h.switch h.first h.last h.view h.contents
 
 -- the reports of packet i at switch s, in order
 abbrev pub reported_by : (i s : ℕ) → List Report → List Reported

@@ -1,5 +1,5 @@
 -- A world, which is all that a run is handed besides the network and the programs, and the run in
--- it. Read `PathMeaning` before it.
+-- it. Read `PathMeaning` before it and `linkage`'s `Linkage` after it.
 use Rattle.std.specs.Prelude.{◌≡◌, ℕ, ◌+◌, ◌<◌, ◌≤◌, List, [], ◌++◌, length, take, true, slice_get, Option, Some, None, All}
 use Rattle.network_run.specs.Machine.{Machine}
 use Rattle.network_run.specs.Network.{Wiring, at_edge, Place, Flying, Over, Net}

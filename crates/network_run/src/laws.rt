@@ -1,10 +1,13 @@
 // The small laws of the run, each on a function that does nothing.
 ghost use Rattle.std.specs.Prelude.{◌≡◌, ℕ, ◌<◌, List, [], ◌∷◌, length};
+ghost use Rattle.bit_values.specs.Bits.{Word};
 ghost use Rattle.network_run.specs.Machine.{Machine};
 ghost use Rattle.network_run.specs.Network.{Wiring, Place, Flying, Waiting, Over, Net};
 ghost use Rattle.network_run.specs.Events.{Event, Enter, Leave, WholeEvent, Hop, closing};
 ghost use Rattle.network_run.specs.NetworkRun.{Limits, happens, run_of_halves, run_of_hops};
+ghost use Rattle.network_run.specs.PathMeaning.{Property, Path};
 ghost use Rattle.network_run.specs.World.{World, net_after, net_at_end};
+ghost use Rattle.network_run.specs.Hop.{DropIsHop, PassageIsHop};
 ghost use Rattle.network_run.specs.RunLaws.{SameHalves, IsOver, NoneWaits, AllHavePassedFewer, times_ended};
 
 /// Two machines whose halves give the same have the same runs: over every list of events, and in
@@ -81,4 +84,15 @@ pub fn whole_hops_are_half_hops<Entries, Kept, Queued, Contents>()
     ensures over_stays { (m : Machine Entries Kept Queued Contents) (net : Wiring) (limits : Limits)
         (w : Net Kept Queued Contents) (i : ℕ) →
         w.packets i ≡ Over → run_of_hops m net limits w (Hop i ∷ []) ≡ w }
+{}
+
+/// The path meaning of the two halves of a passage, one directly behind the other in the log, is a
+/// whole hop: the tele values of the packet, the sensors of the switch, the reports and the verdict.
+/// So is that of the one half of a dropped packet.
+pub fn a_passage_is_a_hop<Tele, Sensors, Contents>()
+    ensures dropped { (p : Property Tele Sensors Contents) (net : Wiring) (w : Path Tele Sensors)
+        (i s port : ℕ) (view : List Word) (c : ℕ → Contents) → DropIsHop p net w i s port view c }
+    ensures passed { (p : Property Tele Sensors Contents) (net : Wiring) (w : Path Tele Sensors)
+        (i s port to : ℕ) (entry exit : List Word) (before after : ℕ → Contents) →
+        PassageIsHop p net w i s port to entry exit before after }
 {}

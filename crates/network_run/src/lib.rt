@@ -4,7 +4,8 @@
 //! get `run_of_halves`, the run over half-hops, `run_of_hops`, the run over whole hops, and
 //! `path_meaning`, the fold of a property's parts over the log of a run. They know no language: a
 //! machine is what the switches' programs do, a property is what its blocks do. `specs/Machine`,
-//! `Network`, `Events`, `NetworkRun`, `PathMeaning` and `World` are read in this order.
+//! `Network`, `Events`, `NetworkRun`, `PathMeaning` and `World` are read in this order; `Hop` is
+//! what a property does at a whole hop.
 //!
 //! Follows: Hydra, "Hydra: Effective Runtime Network Verification", SIGCOMM 2023, for init,
 //! telemetry and checker.
@@ -17,6 +18,6 @@ mod laws;
 mod rows;
 
 pub use laws::{
-    closing_ends_every_packet, each_packet_ends_once, equal_halves_give_equal_runs,
+    a_passage_is_a_hop, closing_ends_every_packet, each_packet_ends_once, equal_halves_give_equal_runs,
     other_places_change_nothing, passed_stays_below_the_limit, whole_hops_are_half_hops,
 };

@@ -9,10 +9,11 @@ use Rattle.p4_tree.specs.Parts.{Roots, Parts, path_under, expr_under, stmt_under
 use Rattle.p4_tree.specs.declared.statement.Op.TheVariants as p4
 use Rattle.indus_tree.specs.Tree as indus
 use Rattle.lex_text.specs.Marks.{is_one_of as is_name_of}
-use Rattle.wire_linker.specs.WireProgram.{number, send_by, wire_ingress, wire_program}
-use Rattle.wire_linker.specs.Monitor.{tele_header, tele_name, rejected_name, count_name, rejects_register, lowered_op, lowered, lowered_stmt, lowered_block, lowered_else, is_one_of, entry_stmts, entry_stmt, end_stmts, check_stmts, check_stmt, exit_stmts, exit_stmt}
+use Rattle.linked_halves.specs.Monitor.{number, tele_header, tele_name, rejected_name, count_name, rejects_register, lowered_op, lowered, lowered_stmt, lowered_block, lowered_else, is_port_of, entry_stmts, entry_stmt, end_stmts, check_stmts, check_stmt, exit_stmts, exit_stmt}
+use Rattle.wire_linker.specs.WireProgram.{send_by, wire_ingress, wire_program}
 use Rattle.wire_linker.specs.Linked as program
-use Rattle.wire_linker.specs.Linked.{link_cases, linked_wire}
+use Rattle.linked_halves.specs.ParserStates.{link_case, link_cases, taken_state}
+use Rattle.wire_linker.specs.Linked.{linked_wire}
 use Rattle.linked_halves.specs.Regions.{is_mine}
 use Rattle.linked_halves.specs.Forwarding.{IsForwarding}
 use Rattle.linked_halves.specs.LinkedParts as parts
@@ -32,7 +33,7 @@ lowered_under _ = refl
 
 mutual
   stmt_same : (s : indus.Stmt) → stmt_under roots (lowered_stmt s) ≡ lowered_stmt s
-  stmt_same (indus.assign p x e) = ap (assign 0 (Rattle.wire_linker.specs.Monitor.tele_path x)) (lowered_under e)
+  stmt_same (indus.assign p x e) = ap (assign 0 (Rattle.linked_halves.specs.Monitor.tele_path x)) (lowered_under e)
   stmt_same (indus.choice p e a b) =
       ap (λ t. choice 0 t (block 0 (stmts_under roots (lowered_block a))) (else_under roots (lowered_else b))) (lowered_under e)
       ∙ ap₂ (λ x y. choice 0 (lowered e) (block 0 x) y) (block_same a) (else_same b)
@@ -47,7 +48,7 @@ mutual
   else_same indus.done = refl
   else_same (indus.next s ss) = ap₂ (λ x y. otherwise (block 0 (next x y))) (stmt_same s) (block_same ss)
 
-one_of_same : (p : List (List ℕ)) → path_under roots p ≡ p → (links : List ℕ) → expr_under roots (is_one_of p links) ≡ is_one_of p links
+one_of_same : (p : List (List ℕ)) → path_under roots p ≡ p → (linked_ports : List ℕ) → expr_under roots (is_port_of p linked_ports) ≡ is_port_of p linked_ports
 one_of_same p e [] = refl
 one_of_same p e (n ∷ ns) = ap₂ (λ q r. binary 0 p4.Either (binary 0 p4.Equal (path 0 q) (number 0 n)) r) e (one_of_same p e ns)
 
@@ -58,24 +59,24 @@ joined_under (next s ss) b = ap (next (stmt_under roots s)) (joined_under ss b)
 joined_same : (a : indus.Stmts) (b : Stmts) → stmts_under roots b ≡ b → stmts_under roots (and_then (lowered_block a) b) ≡ and_then (lowered_block a) b
 joined_same a b e = joined_under (lowered_block a) b ∙ ap₂ and_then (block_same a) e
 
-entry_same : (p : indus.Property) (links : List ℕ) → stmt_under roots (entry_stmt p links) ≡ entry_stmt p links
-entry_same p links =
-    ap₂ (λ t b. choice 0 (negation 0 t) (block 0 (next (Rattle.wire_linker.specs.Monitor.on_header (codes "setValid")) (next (assign 0 Rattle.wire_linker.specs.Monitor.mark_path (number 8 72)) b))) without)
-    (one_of_same Rattle.p4_tree.specs.Standard.ingress_port refl links) (block_same p.init)
+entry_same : (p : indus.Property) (linked_ports : List ℕ) → stmt_under roots (entry_stmt p linked_ports) ≡ entry_stmt p linked_ports
+entry_same p linked_ports =
+    ap₂ (λ t b. choice 0 (negation 0 t) (block 0 (next (Rattle.linked_halves.specs.Monitor.on_header (codes "setValid")) (next (assign 0 Rattle.linked_halves.specs.Monitor.mark_path (number 8 72)) b))) without)
+    (one_of_same Rattle.p4_tree.specs.Standard.ingress_port refl linked_ports) (block_same p.init)
 
-check_same : (p : indus.Property) (links : List ℕ) → stmt_under roots (check_stmt p links) ≡ check_stmt p links
-check_same p links =
+check_same : (p : indus.Property) (linked_ports : List ℕ) → stmt_under roots (check_stmt p linked_ports) ≡ check_stmt p linked_ports
+check_same p linked_ports =
     ap₂ (λ t b. choice 0 (negation 0 t) (block 0 (next (Rattle.p4_tree.specs.Tree.var 0 Rattle.p4_tree.specs.declared.statement.PTy.TheVariants.Bool rejected_name (Rattle.std.specs.Prelude.Some (flag 0 false))) b)) without)
-    (one_of_same Rattle.p4_tree.specs.Standard.egress_port refl links) (joined_same p.check end_stmts refl)
+    (one_of_same Rattle.p4_tree.specs.Standard.egress_port refl linked_ports) (joined_same p.check end_stmts refl)
 
-exit_same : (p : indus.Property) (links : List ℕ) → stmt_under roots (exit_stmt p links) ≡ exit_stmt p links
-exit_same p links =
+exit_same : (p : indus.Property) (linked_ports : List ℕ) → stmt_under roots (exit_stmt p linked_ports) ≡ exit_stmt p linked_ports
+exit_same p linked_ports =
     ap (λ b. choice 0 (binary 0 p4.Differ (path 0 Rattle.p4_tree.specs.Standard.egress_spec) (number 0 511)) (block 0 b) without)
-    (joined_same p.tele (next (check_stmt p links) done) (ap (λ s. next s done) (check_same p links)))
+    (joined_same p.tele (next (check_stmt p linked_ports) done) (ap (λ s. next s done) (check_same p linked_ports)))
 
-cases_same : (links : List ℕ) → map (case_under roots) (link_cases links) ≡ link_cases links
+cases_same : (linked_ports : List ℕ) → map (case_under roots) (link_cases linked_ports) ≡ link_cases linked_ports
 cases_same [] = refl
-cases_same (n ∷ ns) = ap (λ cs. program.link_case n ∷ cs) (cases_same ns)
+cases_same (n ∷ ns) = ap (λ cs. link_case n ∷ cs) (cases_same ns)
 
 fields_same : (ds : List indus.Decl) → map field_of (map program.tele_field ds) ≡ map parts.tele_field ds
 fields_same [] = refl
@@ -90,7 +91,7 @@ built fields cases entry exit =
       metadata = [];
       states =
           record { place = 0; name = codes "start"; body = []; next = Rattle.p4_tree.specs.Tree.select 0 (path 0 Rattle.p4_tree.specs.Standard.ingress_port ∷ []) cases }
-          ∷ program.taken_state
+          ∷ taken_state
           ∷ Rattle.wire_linker.specs.WireProgram.passing_state (codes "hydra_start") (codes "accept")
           ∷ [];
       verify = done;
@@ -100,14 +101,14 @@ built fields cases entry exit =
       emits = tele_header ∷ [];
     }
 
-pub linked_wire_parts : (p : indus.Property) (links : List ℕ) → parts_of (linked_wire p links) ≡ linked_parts (parts_of wire_program) p links
-linked_wire_parts p links =
-    let e0 = stmt_under roots (entry_stmt p links) in
-    let e1 = stmt_under roots (exit_stmt p links) in
-    let cs = map (case_under roots) (link_cases links) in
+pub linked_wire_parts : (p : indus.Property) (linked_ports : List ℕ) → parts_of (linked_wire p linked_ports) ≡ linked_parts (parts_of wire_program) p linked_ports
+linked_wire_parts p linked_ports =
+    let e0 = stmt_under roots (entry_stmt p linked_ports) in
+    let e1 = stmt_under roots (exit_stmt p linked_ports) in
+    let cs = map (case_under roots) (link_cases linked_ports) in
     ap (λ fs. built fs cs e0 e1) (fields_same p.decls)
-    ∙ ap (λ c. built (map parts.tele_field p.decls) c e0 e1) (cases_same links)
-    ∙ ap₂ (λ a b. built (map parts.tele_field p.decls) (link_cases links) a b) (entry_same p links) (exit_same p links)
+    ∙ ap (λ c. built (map parts.tele_field p.decls) c e0 e1) (cases_same linked_ports)
+    ∙ ap₂ (λ a b. built (map parts.tele_field p.decls) (link_cases linked_ports) a b) (entry_same p linked_ports) (exit_same p linked_ports)
 
 -- the wire program uses no name of the monitor's
 abbrev wire_states : List ParserState
@@ -176,20 +177,20 @@ other_names ingress egress =
     ∷ (ingress ++ (codes "WireEgress" ∷ codes "hdr" ∷ codes "meta" ∷ codes "standard_metadata"
     ∷ (egress ++ (codes "WireCompute" ∷ codes "hdr" ∷ codes "meta" ∷ codes "WireDeparser" ∷ codes "packet" ∷ codes "hdr" ∷ []))))
 
-ingress_names : (p : indus.Property) (links : List ℕ) → names_in (next (entry_stmt p links) wire_ingress) ≡ []
-ingress_names p links = ap (λ (x : List (List ℕ)). (x ++ []) ++ []) (block_names p.init)
+ingress_names : (p : indus.Property) (linked_ports : List ℕ) → names_in (next (entry_stmt p linked_ports) wire_ingress) ≡ []
+ingress_names p linked_ports = ap (λ (x : List (List ℕ)). (x ++ []) ++ []) (block_names p.init)
 
-egress_names : (p : indus.Property) (links : List ℕ) → names_in (next (exit_stmt p links) done) ≡ rejected_name ∷ count_name ∷ []
-egress_names p links =
-    ap (λ (x : List (List ℕ)). (x ++ []) ++ []) (joined_names p.tele (next (check_stmt p links) done))
+egress_names : (p : indus.Property) (linked_ports : List ℕ) → names_in (next (exit_stmt p linked_ports) done) ≡ rejected_name ∷ count_name ∷ []
+egress_names p linked_ports =
+    ap (λ (x : List (List ℕ)). (x ++ []) ++ []) (joined_names p.tele (next (check_stmt p linked_ports) done))
     ∙ ap (λ (x : List (List ℕ)). ((((rejected_name ∷ x) ++ []) ++ []) ++ []) ++ []) (joined_names p.check end_stmts)
 
 others_known : AllByRecursion IsKnown (other_names [] (rejected_name ∷ count_name ∷ []))
 others_known = (refl, (refl, (refl, (refl, (refl, (refl, (refl, (refl, (refl, (refl, (refl, (refl, (refl, (refl, (refl, (refl, (refl, (refl, (refl, (refl, (refl, (refl, (refl, (refl, (refl, (refl, (refl, (refl, (refl, (refl, (refl, tt)))))))))))))))))))))))))))))))
 
-pub linked_names : (p : indus.Property) (links : List ℕ) → AllByRecursion IsKnown (names_of (linked_wire p links))
-linked_names p links =
+pub linked_names : (p : indus.Property) (linked_ports : List ℕ) → AllByRecursion IsKnown (names_of (linked_wire p linked_ports))
+linked_names p linked_ports =
     let fields : List (List ℕ) = map (λ f. f.1) (map program.tele_field p.decls) in
-    let is : names_of (linked_wire p links) ≡ codes "hydra_tele_t" ∷ codes "hydra_mark" ∷ (fields ++ other_names [] (rejected_name ∷ count_name ∷ [])) =
-    ap₂ (λ i e. codes "hydra_tele_t" ∷ codes "hydra_mark" ∷ (fields ++ other_names i e)) (ingress_names p links) (egress_names p links) in
+    let is : names_of (linked_wire p linked_ports) ≡ codes "hydra_tele_t" ∷ codes "hydra_mark" ∷ (fields ++ other_names [] (rejected_name ∷ count_name ∷ [])) =
+    ap₂ (λ i e. codes "hydra_tele_t" ∷ codes "hydra_mark" ∷ (fields ++ other_names i e)) (ingress_names p linked_ports) (egress_names p linked_ports) in
     subst (AllByRecursion IsKnown) (sym is) (refl, (refl, field_names p.decls (other_names [] (rejected_name ∷ count_name ∷ [])) others_known))

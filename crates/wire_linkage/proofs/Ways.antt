@@ -9,6 +9,7 @@ use Rattle.p4_tree.specs.Statements.{Digest}
 use Rattle.p4_tree.specs.Pass as pass
 use Rattle.p4_tree.specs.Pass.{Registers, Queued, parts_enter, parts_leave, start_cells}
 use Rattle.indus_tree.specs.Tree.{Property}
+use Rattle.indus_tree.specs.State.{Contents}
 use Rattle.network_run.specs.Machine as law_machine
 use Rattle.network_run.specs.Network as law
 use Rattle.network_run.specs.Network.{IsWiring, IsLinkOf, far_end_among, Flying, Waiting, Over}
@@ -22,9 +23,9 @@ use Rattle.wire_machine.specs.Machine.{Machine, goes_to}
 use Rattle.wire_network.specs.Travel.{Net, Fate, left, dropped, lost, left_from, passed, is_end, far_end, Way, on_link, behind, at_switch, no_way, travel}
 use Rattle.wire_network.specs.declared.link.Link.{Link}
 use Rattle.linked_halves.specs.Telemetry.{telemetry_of}
-use Rattle.linked_halves.specs.Networks.{digest_of, machine_of, going_of}
-use Rattle.wire_linkage.specs.Line.{line3, program_at, linked_line, one_packet, run_of_frame}
-use Rattle.wire_linkage.specs.Ways.{line3_links, machines, net_before, told_of, edges_of, dropped_of, lost_of, ShowsWay}
+use Rattle.linked_halves.specs.Networks.{network_digest, machine_of, going_of}
+use Rattle.wire_linkage.specs.Line.{wire_line, program_at, linked_line, one_packet, run_of_frame}
+use Rattle.wire_linkage.specs.Ways.{wire_line_links, machines, net_before, told_of, edges_of, dropped_of, lost_of, ShowsWay}
 
 eq_by : (a b : ℕ) (c d : Bool) → nat_eq a b ≡ c → nat_eq b a ≡ d → c ≡ d
 eq_by a b true true h k = refl
@@ -45,13 +46,13 @@ more_is : (a b : ℕ) → nat_lt a b ≡ not (nat_le b a)
 more_is a b = more_by a b (nat_lt a b) (nat_le b a) refl refl
 
 -- the links join ports of the three switches
-pub line3_is : IsWiring line3
-line3_is =
+pub wire_line_is : IsWiring wire_line
+wire_line_is =
     let one : law.Link = record { one = 0; one_port = 2; other = 1; other_port = 1 } in
     let two : law.Link = record { one = 1; one_port = 2; other = 2; other_port = 1 } in
-    let first : IsLinkOf line3 one = record { one = omega arith; one_port = omega arith; other = omega arith; other_port = omega arith } in
-    let second : IsLinkOf line3 two = record { one = omega arith; one_port = omega arith; other = omega arith; other_port = omega arith } in
-    All-cons (IsLinkOf line3) one (two ∷ []) first (All-cons (IsLinkOf line3) two [] second (All-nil (IsLinkOf line3)))
+    let first : IsLinkOf wire_line one = record { one = omega arith; one_port = omega arith; other = omega arith; other_port = omega arith } in
+    let second : IsLinkOf wire_line two = record { one = omega arith; one_port = omega arith; other = omega arith; other_port = omega arith } in
+    All-cons (IsLinkOf wire_line) one (two ∷ []) first (All-cons (IsLinkOf wire_line) two [] second (All-nil (IsLinkOf wire_line)))
 
 -- the far end of a port
 abbrev link_of : Link → law.Link
@@ -65,20 +66,20 @@ far_among (l ∷ ls) s port =
     ap₂ (λ a b. cond a (Some (l.far_switch, l.far_port)) (cond b (Some (l.switch, l.port)) (far_end_among (map link_of ls) s port))) one other
     ∙ ap (λ o. cond (is_end l.switch l.port s port) (Some (l.far_switch, l.far_port)) (cond (is_end l.far_switch l.far_port s port) (Some (l.switch, l.port)) o)) (far_among ls s port)
 
-far_same : (s port : ℕ) → law.far_end line3 s port ≡ far_end line3_links s port
-far_same s port = far_among line3_links s port
+far_same : (s port : ℕ) → law.far_end wire_line s port ≡ far_end wire_line_links s port
+far_same s port = far_among wire_line_links s port
 
 -- digests
-told_all : (s : ℕ) (ds : List Digest) → map told_of (map (λ d. (s, d)) ds) ≡ told_by 0 s (map digest_of ds)
+told_all : (s : ℕ) (ds : List Digest) → map told_of (map (λ d. (s, d)) ds) ≡ told_by 0 s (map network_digest ds)
 told_all s [] = refl
 told_all s (d ∷ ds) = ap (λ l. told_of (s, d) ∷ l) (told_all s ds)
 
-told_more : (s : ℕ) (before : List (ℕ × Digest)) (ds : List Digest) → map told_of (before ++ map (λ d. (s, d)) ds) ≡ map told_of before ++ told_by 0 s (map digest_of ds)
+told_more : (s : ℕ) (before : List (ℕ × Digest)) (ds : List Digest) → map told_of (before ++ map (λ d. (s, d)) ds) ≡ map told_of before ++ told_by 0 s (map network_digest ds)
 told_more s before ds = map-append told_of before (map (λ d. (s, d)) ds) ∙ ap (λ l. map told_of before ++ l) (told_all s ds)
 
-told_twice : (s : ℕ) (before : List (ℕ × Digest)) (ds es : List Digest) → (map told_of before ++ told_by 0 s (map digest_of ds)) ++ told_by 0 s (map digest_of es) ≡ map told_of (before ++ map (λ d. (s, d)) (ds ++ es))
+told_twice : (s : ℕ) (before : List (ℕ × Digest)) (ds es : List Digest) → (map told_of before ++ told_by 0 s (map network_digest ds)) ++ told_by 0 s (map network_digest es) ≡ map told_of (before ++ map (λ d. (s, d)) (ds ++ es))
 told_twice s before ds es =
-    ap (λ l. l ++ told_by 0 s (map digest_of es)) (sym (told_more s before ds))
+    ap (λ l. l ++ told_by 0 s (map network_digest es)) (sym (told_more s before ds))
     ∙ sym (told_more s (before ++ map (λ d. (s, d)) ds) es)
     ∙ ap (map told_of) (append_assoc before (map (λ d. (s, d)) ds) (map (λ d. (s, d)) es) ∙ ap (λ l. before ++ l) (sym (map-append (λ d. (s, d)) ds es)))
 
@@ -110,29 +111,29 @@ module _ (parts : ℕ → Parts) where
     limits = record { hops = hops; link = limit }
 
     abbrev W : Type 0
-    W = law.Net Registers Queued (Unit {0})
+    W = law.Net Registers Queued Contents
 
-    abbrev run : W → List (Event (Unit {0})) → W
-    run = run_of_halves (machine_of parts) line3 limits
+    abbrev run : W → List (Event Contents) → W
+    run = run_of_halves (machine_of parts) wire_line limits
 
     -- the packet is at its end
     over_stays : (k : ℕ) (w : W) → w.packets 0 ≡ Over → run w (to_its_end 0 k) ≡ w
-    over_stays zero w e = ap (leaves (machine_of parts) line3 limits w 0) e
+    over_stays zero w e = ap (leaves (machine_of parts) wire_line limits w 0) e
     over_stays (suc k) w e =
-        ap (λ u. run (enters (machine_of parts) line3 limits u 0 (u.packets 0)) (to_its_end 0 k)) (ap (leaves (machine_of parts) line3 limits w 0) e)
-        ∙ ap (λ u. run u (to_its_end 0 k)) (ap (enters (machine_of parts) line3 limits w 0) e)
+        ap (λ u. run (enters (machine_of parts) wire_line limits u 0 (u.packets 0)) (to_its_end 0 k)) (ap (leaves (machine_of parts) wire_line limits w 0) e)
+        ∙ ap (λ u. run u (to_its_end 0 k)) (ap (enters (machine_of parts) wire_line limits w 0) e)
         ∙ over_stays k w e
 
     -- what follows a passage, of which so many may come yet
-    abbrev behind_it : ℕ → List (Event (Unit {0}))
+    abbrev behind_it : ℕ → List (Event Contents)
     behind_it zero = []
     behind_it (suc k) = Enter 0 ∷ to_its_end 0 k
 
     over_rests : (k : ℕ) (w : W) → w.packets 0 ≡ Over → run w (behind_it k) ≡ w
     over_rests zero w e = refl
-    over_rests (suc k) w e = ap (λ u. run u (to_its_end 0 k)) (ap (enters (machine_of parts) line3 limits w 0) e) ∙ over_stays k w e
+    over_rests (suc k) w e = ap (λ u. run u (to_its_end 0 k)) (ap (enters (machine_of parts) wire_line limits w 0) e) ∙ over_stays k w e
 
-    next_events : (k : ℕ) (w : W) → run w (to_its_end 0 k) ≡ run (leaves (machine_of parts) line3 limits w 0 (w.packets 0)) (behind_it k)
+    next_events : (k : ℕ) (w : W) → run w (to_its_end 0 k) ≡ run (leaves (machine_of parts) wire_line limits w 0 (w.packets 0)) (behind_it k)
     next_events zero w = refl
     next_events (suc k) w = refl
 
@@ -161,8 +162,8 @@ module _ (parts : ℕ → Parts) where
           record w {
             switches = put w.switches s cells;
             packets = put w.packets 0 (queued_or_over s port m o);
-            log = w.log ++ entry_half line3 0 s port [] (w.contents s) ∷ [];
-            told = w.told ++ told_by 0 s (map digest_of ds);
+            log = w.log ++ entry_half wire_line 0 s port [] (w.contents s) ∷ [];
+            told = w.told ++ told_by 0 s (map network_digest ds);
             dropped = w.dropped ++ dropped_if_none 0 o;
           }
 
@@ -171,7 +172,7 @@ module _ (parts : ℕ → Parts) where
       passed_by cells ds after es q =
           record (in_queue cells ds (Some q)) {
             switches = put (put w.switches s cells) s after;
-            told = (w.told ++ told_by 0 s (map digest_of ds)) ++ told_by 0 s (map digest_of es);
+            told = (w.told ++ told_by 0 s (map network_digest ds)) ++ told_by 0 s (map network_digest es);
           }
 
       abbrev net_by : Registers → List Digest → Net
@@ -184,8 +185,8 @@ module _ (parts : ℕ → Parts) where
       switches_by : (cells after : Registers) → slice_set n.switches s (record { parts = parts s; registers = after }) ≡ machines parts (put (put w.switches s cells) s after)
       switches_by cells after = ap (λ l. slice_set l s (record { parts = parts s; registers = after })) comes.switches ∙ two_put w.switches s cells after comes.known
 
-      told_is : (ds es : List Digest) → (w.told ++ told_by 0 s (map digest_of ds)) ++ told_by 0 s (map digest_of es) ≡ map told_of (n.told ++ map (λ d. (s, d)) (ds ++ es))
-      told_is ds es = ap (λ l. (l ++ told_by 0 s (map digest_of ds)) ++ told_by 0 s (map digest_of es)) comes.told ∙ told_twice s n.told ds es
+      told_is : (ds es : List Digest) → (w.told ++ told_by 0 s (map network_digest ds)) ++ told_by 0 s (map network_digest es) ≡ map told_of (n.told ++ map (λ d. (s, d)) (ds ++ es))
+      told_is ds es = ap (λ l. (l ++ told_by 0 s (map network_digest ds)) ++ told_by 0 s (map network_digest es)) comes.told ∙ told_twice s n.told ds es
 
       module _ (cells : Registers) (ds : List Digest) (q : Queued) (after : Registers) (es : List Digest) where
         abbrev here : W
@@ -204,7 +205,7 @@ module _ (parts : ℕ → Parts) where
         dropped_there = ends_by (law_run.dropped here 0) dropped refl refl refl comes.edges (ap (λ l. (l ++ []) ++ 0 ∷ []) comes.dropped_none) comes.lost_none
 
         abbrev logged : pass.Going → W
-        logged g = record here { log = here.log ++ exit_half line3 0 s port g.port [] (here.contents s) ∷ [] }
+        logged g = record here { log = here.log ++ exit_half wire_line 0 s port g.port [] (here.contents s) ∷ [] }
 
         lost_there : (g : pass.Going) (u : W) → ShowsWay parts (run (lost_if true (logged g) 0 u) (behind_it k)) (there, lost)
         lost_there g u = ends_by (lost_if true (logged g) 0 u) lost refl refl refl comes.edges none_more (ap (λ l. l ++ 0 ∷ []) comes.lost_none)
@@ -264,58 +265,58 @@ module _ (parts : ℕ → Parts) where
         abbrev law_going : pass.Going → law_machine.Going
         law_going g = record { port = g.port; frame = g.frame; view = [] }
 
-        by_far : (g : pass.Going) (o : Option (ℕ × ℕ)) → law.far_end line3 s g.port ≡ o → ShowsWay parts (run (law_run.sent line3 limits (logged g) 0 s m (law_going g) o (length here.log)) (behind_it k)) (on_link more limit there s g.port g.frame o)
+        by_far : (g : pass.Going) (o : Option (ℕ × ℕ)) → law.far_end wire_line s g.port ≡ o → ShowsWay parts (run (law_run.sent wire_line limits (logged g) 0 s m (law_going g) o (length here.log)) (behind_it k)) (on_link more limit there s g.port g.frame o)
         by_far g None e = by_edge g (nat_lt longest_frame (length g.frame)) (nat_le (length g.frame) 65535) (more_is 65535 (length g.frame))
         by_far g (Some far) e =
-            by_link g far (far_end_is line3 line3_is s g.port far e).known k refl (nat_lt limit (length g.frame)) (nat_le (length g.frame) limit) (more_is limit (length g.frame)) onward
+            by_link g far (far_end_is wire_line wire_line_is s g.port far e).known k refl (nat_lt limit (length g.frame)) (nat_le (length g.frame) limit) (more_is limit (length g.frame)) onward
 
-        leaves_by : (o : Option pass.Going) → ShowsWay parts (run (law_run.went line3 limits here 0 s port m (going_of o)) (behind_it k)) (behind more line3_links limit there s (goes_to o))
+        leaves_by : (o : Option pass.Going) → ShowsWay parts (run (law_run.went wire_line limits here 0 s port m (going_of o)) (behind_it k)) (behind more wire_line_links limit there s (goes_to o))
         leaves_by None = dropped_there
         leaves_by (Some g) =
-            subst (λ far. ShowsWay parts (run (law_run.sent line3 limits (logged g) 0 s m (law_going g) (law.far_end line3 s g.port) (length here.log)) (behind_it k)) (on_link more limit there s g.port g.frame far)) (far_same s g.port)
-            (by_far g (law.far_end line3 s g.port) refl)
+            subst (λ far. ShowsWay parts (run (law_run.sent wire_line limits (logged g) 0 s m (law_going g) (law.far_end wire_line s g.port) (length here.log)) (behind_it k)) (on_link more limit there s g.port g.frame far)) (far_same s g.port)
+            (by_far g (law.far_end wire_line s g.port) refl)
 
       abbrev machine : Machine
       machine = record { parts = parts s; registers = w.switches s }
 
       -- where the packet is queued, or dropped
-      queued_by : (cells : Registers) (ds : List Digest) (o : Option Queued) → ShowsWay parts (run (leaves (machine_of parts) line3 limits (in_queue cells ds o) 0 ((in_queue cells ds o).packets 0)) (behind_it k)) (behind more line3_links limit (passed n s (left_from machine cells ds o)) s (left_from machine cells ds o).out)
+      queued_by : (cells : Registers) (ds : List Digest) (o : Option Queued) → ShowsWay parts (run (leaves (machine_of parts) wire_line limits (in_queue cells ds o) 0 ((in_queue cells ds o).packets 0)) (behind_it k)) (behind more wire_line_links limit (passed n s (left_from machine cells ds o)) s (left_from machine cells ds o).out)
       queued_by cells ds None =
           subst (λ v. ShowsWay parts v (net_by cells ds, dropped)) (sym (over_rests k (in_queue cells ds None) refl))
           (record {
             switches = ap (λ l. slice_set l s (record { parts = parts s; registers = cells })) comes.switches ∙ one_put w.switches s cells comes.known;
-            told = ap (λ l. l ++ told_by 0 s (map digest_of ds)) comes.told ∙ sym (told_more s n.told ds);
+            told = ap (λ l. l ++ told_by 0 s (map network_digest ds)) comes.told ∙ sym (told_more s n.told ds);
             edges = comes.edges;
             dropped = ap (λ l. l ++ 0 ∷ []) comes.dropped_none;
             lost = comes.lost_none;
           })
       queued_by cells ds (Some q) =
           let half = parts_leave (parts s) cells q in
-          subst (λ cs. ShowsWay parts (run (law_run.left line3 limits (in_queue cells ds (Some q)) 0 s port m ((machine_of parts).leave s cs q)) (behind_it k)) (behind more line3_links limit (passed n s (left_from machine cells ds (Some q))) s (left_from machine cells ds (Some q)).out)) (sym (put_at w.switches s cells))
+          subst (λ cs. ShowsWay parts (run (law_run.left wire_line limits (in_queue cells ds (Some q)) 0 s port m ((machine_of parts).leave s cs q)) (behind_it k)) (behind more wire_line_links limit (passed n s (left_from machine cells ds (Some q))) s (left_from machine cells ds (Some q)).out)) (sym (put_at w.switches s cells))
           (leaves_by cells ds q half.registers half.digests half.going)
 
-      step : ShowsWay parts (run w (Enter 0 ∷ to_its_end 0 k)) (at_switch more line3_links limit n s port frame (slice_get n.switches s))
+      step : ShowsWay parts (run w (Enter 0 ∷ to_its_end 0 k)) (at_switch more wire_line_links limit n s port frame (slice_get n.switches s))
       step =
           let half = parts_enter (parts s) (w.switches s) port frame in
-          let enters_is : run w (Enter 0 ∷ to_its_end 0 k) ≡ run (in_queue half.registers half.digests half.queued) (to_its_end 0 k) = ap (λ x. run (enters (machine_of parts) line3 limits w 0 x) (to_its_end 0 k)) comes.place in
+          let enters_is : run w (Enter 0 ∷ to_its_end 0 k) ≡ run (in_queue half.registers half.digests half.queued) (to_its_end 0 k) = ap (λ x. run (enters (machine_of parts) wire_line limits w 0 x) (to_its_end 0 k)) comes.place in
           let known_machine : slice_get n.switches s ≡ Some machine = ap (λ l. slice_get l s) comes.switches ∙ machine_is w.switches s comes.known in
-          subst (λ v. ShowsWay parts v (at_switch more line3_links limit n s port frame (slice_get n.switches s))) (sym (enters_is ∙ next_events k (in_queue half.registers half.digests half.queued)))
-          (subst (λ o. ShowsWay parts (run (leaves (machine_of parts) line3 limits (in_queue half.registers half.digests half.queued) 0 ((in_queue half.registers half.digests half.queued).packets 0)) (behind_it k)) (at_switch more line3_links limit n s port frame o)) (sym known_machine)
+          subst (λ v. ShowsWay parts v (at_switch more wire_line_links limit n s port frame (slice_get n.switches s))) (sym (enters_is ∙ next_events k (in_queue half.registers half.digests half.queued)))
+          (subst (λ o. ShowsWay parts (run (leaves (machine_of parts) wire_line limits (in_queue half.registers half.digests half.queued) 0 ((in_queue half.registers half.digests half.queued).packets 0)) (behind_it k)) (at_switch more wire_line_links limit n s port frame o)) (sym known_machine)
           (queued_by half.registers half.digests half.queued))
 
-    follows : (k : ℕ) → Follows k (travel k line3_links limit)
+    follows : (k : ℕ) → Follows k (travel k wire_line_links limit)
     follows zero w n s port frame m comes passes = step zero no_way refl w n s port frame m comes passes
-    follows (suc k) w n s port frame m comes passes = step (suc k) (travel k line3_links limit) (follows k) w n s port frame m comes passes
+    follows (suc k) w n s port frame m comes passes = step (suc k) (travel k wire_line_links limit) (follows k) w n s port frame m comes passes
 
   -- the first step leaves the packet where it is
-  from_start : (k limit : ℕ) (w : law.Net Registers Queued (Unit {0})) (n : Net) (s port : ℕ) (frame : List ℕ) → Comes (suc k) limit w n s port frame 0
-      → ShowsWay parts (run_of_halves (machine_of parts) line3 (limits (suc k) limit) w (to_its_end 0 (suc k) ++ [])) (travel k line3_links limit n s port frame)
+  from_start : (k limit : ℕ) (w : law.Net Registers Queued Contents) (n : Net) (s port : ℕ) (frame : List ℕ) → Comes (suc k) limit w n s port frame 0
+      → ShowsWay parts (run_of_halves (machine_of parts) wire_line (limits (suc k) limit) w (to_its_end 0 (suc k) ++ [])) (travel k wire_line_links limit n s port frame)
   from_start k limit w n s port frame comes =
-      subst (λ es. ShowsWay parts (run_of_halves (machine_of parts) line3 (limits (suc k) limit) w es) (travel k line3_links limit n s port frame)) (sym (append-nil (to_its_end 0 (suc k))))
-      (subst (λ v. ShowsWay parts (run_of_halves (machine_of parts) line3 (limits (suc k) limit) v (Enter 0 ∷ to_its_end 0 k)) (travel k line3_links limit n s port frame)) (sym (ap (leaves (machine_of parts) line3 (limits (suc k) limit) w 0) comes.place))
+      subst (λ es. ShowsWay parts (run_of_halves (machine_of parts) wire_line (limits (suc k) limit) w es) (travel k wire_line_links limit n s port frame)) (sym (append-nil (to_its_end 0 (suc k))))
+      (subst (λ v. ShowsWay parts (run_of_halves (machine_of parts) wire_line (limits (suc k) limit) v (Enter 0 ∷ to_its_end 0 k)) (travel k wire_line_links limit n s port frame)) (sym (ap (leaves (machine_of parts) wire_line (limits (suc k) limit) w 0) comes.place))
       (follows (suc k) limit k w n s port frame 0 comes (let all : 0 + suc k ≡ suc k = omega arith in all)))
 
-pub way_is_run : (p : Property) (frame : List ℕ) → ShowsWay (λ s. parts_of (program_at p s)) (run_of_frame p frame) (travel 63 line3_links (longest_frame + (telemetry_of p.decls).size) (net_before p) 0 1 frame)
+pub way_is_run : (p : Property) (frame : List ℕ) → ShowsWay (λ s. parts_of (program_at p s)) (run_of_frame p frame) (travel 63 wire_line_links (longest_frame + (telemetry_of p.decls).size) (net_before p) 0 1 frame)
 unfolding run_of_frame
 way_is_run p frame =
     from_start (λ s. parts_of (program_at p s)) 63 (longest_frame + (telemetry_of p.decls).size) (first_net (linked_line p) (one_packet frame)) (net_before p) 0 1 frame

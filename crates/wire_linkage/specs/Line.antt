@@ -4,6 +4,7 @@ use Rattle.p4_tree.specs.Tree.{Program}
 use Rattle.p4_tree.specs.Parts.{parts_of}
 use Rattle.p4_tree.specs.Pass.{Registers, Queued}
 use Rattle.indus_tree.specs.Tree.{Property}
+use Rattle.indus_tree.specs.State.{Contents, members}
 use Rattle.network_run.specs.Machine.{Machine}
 use Rattle.network_run.specs.Network.{Wiring, Net}
 use Rattle.network_run.specs.World.{World, net_at_end}
@@ -13,8 +14,8 @@ use Rattle.linked_halves.specs.Telemetry.{telemetry_of}
 use Rattle.linked_halves.specs.Networks.{machine_of, ports_at}
 
 -- three switches in a line, port 2 of each joined to port 1 of the next
-abbrev pub line3 : Wiring
-line3 =
+abbrev pub wire_line : Wiring
+wire_line =
     record {
       switches = 3;
       ports = 512;
@@ -23,28 +24,28 @@ line3 =
 
 -- the linked program of a switch
 abbrev pub program_at : Property → (switch : ℕ) → Program
-program_at p s = linked_wire p (ports_at line3.links s)
+program_at p s = linked_wire p (ports_at wire_line.links s)
 
 -- the wire program at each switch
-abbrev pub plain_line : Machine (Unit {0}) Registers Queued (Unit {0})
+abbrev pub plain_line : Machine (Unit {0}) Registers Queued Contents
 plain_line = machine_of (λ s. parts_of wire_program)
 
 -- the linked program at each switch
-abbrev pub linked_line : Property → Machine (Unit {0}) Registers Queued (Unit {0})
+abbrev pub linked_line : Property → Machine (Unit {0}) Registers Queued Contents
 linked_line p = machine_of (λ s. parts_of (program_at p s))
 
 -- one packet that comes to the first switch by port 1 and may pass 64 switches, without a schedule: it goes on
--- to its end
-abbrev pub one_packet : (frame : List ℕ) → World (Unit {0}) (Unit {0})
+-- to its end. No number names a control variable, so their contents are no matter
+abbrev pub one_packet : (frame : List ℕ) → World (Unit {0}) Contents
 one_packet frame =
     record {
       hops = 64;
       entries = λ s. tt;
-      contents = λ s v. tt;
+      contents = λ s v. members [];
       packets = record { switch = 0; port = 1; frame = frame } ∷ [];
       events = [];
     }
 
 -- the network of the linked programs at the end
-unfoldable pub run_of_frame : Property → (frame : List ℕ) → Net Registers Queued (Unit {0})
-run_of_frame p frame = net_at_end (linked_line p) line3 (telemetry_of p.decls).size (one_packet frame)
+unfoldable pub run_of_frame : Property → (frame : List ℕ) → Net Registers Queued Contents
+run_of_frame p frame = net_at_end (linked_line p) wire_line (telemetry_of p.decls).size (one_packet frame)

@@ -3,15 +3,17 @@ use Rattle.std.specs.Prelude.{◌≡◌, ℕ, ◌∷◌, true, ◌||◌}
 use Rattle.std.specs.List.{AllByRecursion}
 use Rattle.p4_tree.specs.Parts.{parts_of}
 use Rattle.indus_tree.specs.Tree.{Property}
+use Rattle.indus_tree.specs.Law.{law_of}
+use Rattle.indus_tree.specs.State.{Contents}
 use Rattle.lex_text.specs.Marks.{is_one_of}
 use Rattle.linkage.specs.Linkage.{Linkage}
 use Rattle.wire_linker.specs.WireProgram.{wire_program}
 use Rattle.linked_halves.specs.Regions.{is_mine}
 use Rattle.linked_halves.specs.LinkedParts.{rejects_cells}
 use Rattle.linked_halves.specs.Telemetry.{telemetry_of}
-use Rattle.linked_halves.specs.Networks.{law_of, registers_of}
+use Rattle.linked_halves.specs.Networks.{registers_of}
 use Rattle.linked_halves.specs.Given.{AnyEntries, NoVariable, NoContents}
-use Rattle.wire_linkage.specs.Line.{line3, program_at, plain_line, linked_line}
+use Rattle.wire_linkage.specs.Line.{wire_line, program_at, plain_line, linked_line}
 use Rattle.wire_linkage.specs.Declared.{names_of}
 
 -- over every valid world, the linked programs are a linkage of the wire program and the property; each name that
@@ -19,7 +21,7 @@ use Rattle.wire_linkage.specs.Declared.{names_of}
 -- one that counts rejected packets
 pub record IsWireLinkage (p : Property) : Type 0 where
   pub linkage :
-      Linkage plain_line (linked_line p) line3 (law_of p) (telemetry_of p.decls) (registers_of (parts_of wire_program))
+      Linkage plain_line (linked_line p) wire_line (law_of p) (telemetry_of p.decls) (registers_of (parts_of wire_program))
       AnyEntries NoVariable NoContents
   pub names : (s : ℕ) → AllByRecursion (λ x. (is_one_of (names_of wire_program) x || is_mine x) ≡ true) (names_of (program_at p s))
   pub registers : (s : ℕ) → (parts_of (program_at p s)).registers ≡ rejects_cells ∷ (parts_of wire_program).registers

@@ -4,16 +4,17 @@ use Rattle.p4_tree.specs.Parts.{Parts, parts_of}
 use Rattle.p4_tree.specs.Pass.{Registers, Queued, start_cells}
 use Rattle.p4_tree.specs.Statements.{Digest}
 use Rattle.indus_tree.specs.Tree.{Property}
+use Rattle.indus_tree.specs.State.{Contents}
 use Rattle.network_run.specs.Network as law
 use Rattle.wire_machine.specs.Machine.{Machine}
 use Rattle.wire_network.specs.Travel.{Net, Fate, left, dropped, lost}
 use Rattle.wire_network.specs.declared.link.Link.{Link}
-use Rattle.linked_halves.specs.Networks.{digest_of}
+use Rattle.linked_halves.specs.Networks.{network_digest}
 use Rattle.wire_linkage.specs.Line.{program_at}
 
--- the links of `line3`, as the program holds them
-abbrev pub line3_links : List Link
-line3_links =
+-- the links of `wire_line`, as the program holds them
+abbrev pub wire_line_links : List Link
+wire_line_links =
     record { switch = 0; port = 2; far_switch = 1; far_port = 1 }
     ∷ record { switch = 1; port = 2; far_switch = 2; far_port = 1 }
     ∷ []
@@ -33,7 +34,7 @@ net_before p =
 
 -- a digest of packet 0
 abbrev pub told_of : ℕ × Digest → law.Told
-told_of t = record { packet = 0; switch = t.0; digest = digest_of t.1 }
+told_of t = record { packet = 0; switch = t.0; digest = network_digest t.1 }
 
 -- the lists of a run in which packet 0 ended so
 abbrev pub edges_of : Fate → List law.Sent
@@ -52,7 +53,7 @@ lost_of dropped = []
 lost_of lost = 0 ∷ []
 
 -- the run shows what the way gave
-pub record ShowsWay (parts : ℕ → Parts) (w : law.Net Registers Queued (Unit {0})) (way : Net × Fate) : Type 0 where
+pub record ShowsWay (parts : ℕ → Parts) (w : law.Net Registers Queued Contents) (way : Net × Fate) : Type 0 where
   pub switches : way.0.switches ≡ machines parts w.switches
   pub told : w.told ≡ map told_of way.0.told
   pub edges : w.edges ≡ edges_of way.1

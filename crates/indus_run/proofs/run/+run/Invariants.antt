@@ -2,7 +2,7 @@ use Rattle.std.proofs.Common.{◌≡◌, ◌++◌, map, drop}
 use Rattle.indus_tree.specs.View.{block_of}
 use Rattle.indus_tree.specs.Meaning.{block_run, named, run_turns}
 use Rattle.indus_values.specs.View.{IsShaped, cells_of, decls_of, doing_of, hop_of}
-use Rattle.indus_run.specs.Reports.{AreShort}
+use Rattle.indus_tree.specs.Reports.{AreShort}
 use Rattle.indus_run.proofs.run.+run.Given as goal
 
 abbrev pub invariant-block_run-loop-s : goal.invariant-block_run-loop-s

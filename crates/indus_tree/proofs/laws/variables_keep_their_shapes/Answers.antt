@@ -9,7 +9,7 @@ pub returns-clause-blocks : goal.returns-clause-blocks
 returns-clause-blocks c h items ss d shaped = block_keeps h ss items d shaped
 
 pub returns-clause-entry : goal.returns-clause-entry
-returns-clause-entry c p h d shaped = entry_keeps p h d shaped
+returns-clause-entry c p r tele sensors shaped = entry_keeps p r tele sensors shaped
 
 pub returns-clause-exit : goal.returns-clause-exit
-returns-clause-exit c p h d shaped = exit_keeps p h d shaped
+returns-clause-exit c p r tele sensors shaped = exit_keeps p r tele sensors shaped

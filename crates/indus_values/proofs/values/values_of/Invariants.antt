@@ -2,7 +2,7 @@ use Rattle.std.proofs.Common.{◌≡◌, ◌+◌, ◌++◌, drop, length}
 use Rattle.indus_tree.specs.View.{exprs_of}
 use Rattle.indus_tree.specs.Value.{values_of}
 use Rattle.indus_values.specs.View.{seen_of}
-use Rattle.indus_values.specs.Values.{exprs_count}
+use Rattle.indus_tree.specs.Tree.{exprs_count}
 use Rattle.indus_values.proofs.values.values_of.Given as goal
 
 abbrev pub invariant-loop-e : goal.invariant-loop-e

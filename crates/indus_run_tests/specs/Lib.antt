@@ -1,0 +1,3 @@
+-- What serves the worked rows.
+pub mod Properties
+pub mod Logs

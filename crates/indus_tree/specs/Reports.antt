@@ -1,0 +1,25 @@
+-- Reports of at most eight values, which is a rule of types.
+use Rattle.std.specs.Prelude.{◌≤◌}
+use Rattle.indus_tree.specs.Tree.{exprs_count, Stmt, Stmts, assign, cell, push, choice, loop, reject, report, done, next, Property}
+
+abbrev mutual
+  -- no report in a statement has more values
+  pub IsShort : Stmt → Type 0
+  IsShort (assign p x e) = Unit {0}
+  IsShort (cell p x i e) = Unit {0}
+  IsShort (push p x e) = Unit {0}
+  IsShort (choice p e a b) = AreShort a × AreShort b
+  IsShort (loop p xs ls a) = AreShort a
+  IsShort (reject p) = Unit {0}
+  IsShort (report p n es) = exprs_count es ≤ 8
+
+  -- no report in a block has more values
+  pub AreShort : Stmts → Type 0
+  AreShort done = Unit {0}
+  AreShort (next s ss) = IsShort s × AreShort ss
+
+-- no report of a property has more values
+pub record HasShortReports (p : Property) : Type 0 where
+  pub init : AreShort p.init
+  pub tele : AreShort p.tele
+  pub check : AreShort p.check
