@@ -127,10 +127,10 @@ abbrev pub is_truth : Shape → Bool
 is_truth (one ty.Bool) = true
 is_truth _ = false
 
--- a header's path: `hdr` and two names more, or `meta` or `standard_metadata` and one; and where it asks whether a header
--- is valid, `hdr` and the header's name
+-- a header's path: `hdr` and two names more, or `meta` or `standard_metadata` and one; and where it is called, as
+-- `hdr.h.isValid()`, `hdr`, the header's name and `isValid`
 abbrev pub bad_path : List (List ℕ) → (valid : Bool) → Bool
-bad_path (r ∷ h ∷ []) true = not (same_text r (codes "hdr"))
+bad_path (r ∷ h ∷ f ∷ []) true = not (same_text r (codes "hdr") && same_text f (codes "isValid"))
 bad_path (r ∷ f ∷ []) false = not (same_text r (codes "meta") || same_text r (codes "standard_metadata"))
 bad_path (r ∷ h ∷ f ∷ []) false = not (same_text r (codes "hdr"))
 bad_path _ _ = true

@@ -96,7 +96,7 @@ fn bad_path(path: &[Name], valid: bool) -> bool
     ensures { result ≡ bad_path path.now valid }
 {
     match (path, valid) {
-        ([r, _h], true) => !is(r, "hdr"),
+        ([r, _h, f], true) => !(is(r, "hdr") && is(f, "isValid")),
         ([r, _f], false) => !(is(r, "meta") || is(r, "standard_metadata")),
         ([r, _h, _f], false) => !is(r, "hdr"),
         _ => true,
