@@ -40,7 +40,7 @@ variables =
     declared 0 Tele (codes "l") (list (Bit 8) 4) ∷ declared 0 Tele (codes "k") (list Truth 2) ∷
     started 0 Sensor (codes "s") (one (Bit 8)) (bare 0 5) ∷ declared 0 Sensor (codes "a") (list (Bit 16) 3) ∷
     header 0 (codes "h") (one (Bit 9)) (codes "standard_metadata" ∷ codes "ingress_port" ∷ []) false ∷
-    header 0 (codes "v") (one Truth) (codes "hdr" ∷ codes "eth" ∷ []) true ∷
+    header 0 (codes "v") (one Truth) (codes "hdr" ∷ codes "eth" ∷ codes "isValid" ∷ []) true ∷
     declared 0 Control (codes "c") (one (Bit 8)) ∷ declared 0 Control (codes "e") (set (Bit 8 ∷ Truth ∷ [])) ∷
     declared 0 Control (codes "d") (dict (Bit 9 ∷ []) (Bit 8)) ∷ []
 
