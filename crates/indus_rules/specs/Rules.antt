@@ -1,6 +1,6 @@
 -- The rules: each is a test of a site, `broken`. A property is well typed where no rule is broken at any of its sites.
 -- Read `Sites` and `Uses` before it.
-use Rattle.std.specs.Prelude.{ℕ, ◌+◌, ◌^◌, List, [], ◌∷◌, Bool, true, false, not, ◌&&◌, ◌||◌, nat_eq, nat_lt, Option, Some, None, if◌then◌else◌, length, codes}
+use Rattle.std.specs.Prelude.{ℕ, ◌+◌, ◌^◌, List, [], ◌∷◌, Bool, true, false, not, ◌&&◌, ◌||◌, nat_eq, nat_lt, Option, Some, None, is_some, if◌then◌else◌, length, codes}
 use Rattle.lex_text.specs.Names.{same_text}
 use Rattle.lex_text.specs.declared.literal.Literal.{Literal}
 use Rattle.rule_sites.specs.Sites.{Sites, BreaksAt, AllFine, first_rule, first_broken}
@@ -22,10 +22,6 @@ use Rattle.indus_rules.specs.declared.rule.Rule.TheVariants.{NameTwice, NoSuchNa
 
 -- ---- NameTwice: a name is declared that is declared before, or is one of the language's own; an item of a loop has a
 -- name that stands for something already, or for another item of the loop
-
-abbrev pub is_some : {A : Type 0} → Option A → Bool
-is_some None = false
-is_some (Some a) = true
 
 abbrev pub declared_twice : (before : List Decl) → List ℕ → Bool
 declared_twice ds x = is_some (lookup ds x) || is_some (builtin_of x)
