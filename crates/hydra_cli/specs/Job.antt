@@ -6,8 +6,8 @@ use Rattle.std.specs.declared.alloc.Global.{Global}
 use Rattle.indus_tree.specs.Small.{IsSmall}
 use Rattle.indus_tree.specs.Tree.{Property}
 use Rattle.indus_tree.specs.View.{property_of}
+use Rattle.indus_tree.specs.declared.tree.Property as code_property
 use Rattle.indus_rules.specs.Rules.{IsWellTyped}
-use Rattle.indus_types.specs.declared.typed.TypedProperty.{TypedProperty}
 use Rattle.hydra_cli.specs.declared.job.Job as code
 use Rattle.hydra_cli.specs.declared.job.Job.TheVariants as variants
 use Rattle.hydra_cli.specs.declared.job.Output.{Output}
@@ -18,9 +18,9 @@ pub data Job : Type 0 where
   -- a property that breaks no rule of types
   check : (property : Property) → Job
 
--- the tree of a typed property
-abbrev pub typed_of : TypedProperty → Property
-typed_of t = property_of t.property
+-- the tree of a typed property, which is seen as the property
+abbrev pub typed_of : code_property.Property → Property
+typed_of t = property_of t
 
 -- the job that a value of the program stands for
 abbrev pub job_of : code.Job → Job

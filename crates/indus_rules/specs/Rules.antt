@@ -1,6 +1,6 @@
 -- The rules: each is a test of a site, `broken`. A property is well typed where no rule is broken at any of its sites.
 -- Read `Sites` and `Uses` before it.
-use Rattle.std.specs.Prelude.{ℕ, ◌+◌, ◌^◌, List, [], ◌∷◌, Bool, true, false, not, ◌&&◌, ◌||◌, nat_eq, nat_lt, Option, Some, None, if◌then◌else◌, length, codes}
+use Rattle.std.specs.Prelude.{ℕ, ◌+◌, ◌^◌, List, [], ◌∷◌, Bool, true, false, not, ◌&&◌, ◌||◌, nat_eq, nat_lt, Option, Some, None, is_some, if◌then◌else◌, length, codes}
 use Rattle.lex_text.specs.Names.{same_text}
 use Rattle.lex_text.specs.declared.literal.Literal.{Literal}
 use Rattle.rule_sites.specs.Sites.{Sites, BreaksAt, AllFine, first_rule, first_broken}
@@ -22,10 +22,6 @@ use Rattle.indus_rules.specs.declared.rule.Rule.TheVariants.{NameTwice, NoSuchNa
 
 -- ---- NameTwice: a name is declared that is declared before, or is one of the language's own; an item of a loop has a
 -- name that stands for something already, or for another item of the loop
-
-abbrev pub is_some : {A : Type 0} → Option A → Bool
-is_some None = false
-is_some (Some a) = true
 
 abbrev pub declared_twice : (before : List Decl) → List ℕ → Bool
 declared_twice ds x = is_some (lookup ds x) || is_some (builtin_of x)
@@ -127,10 +123,10 @@ abbrev pub is_truth : Shape → Bool
 is_truth (one ty.Bool) = true
 is_truth _ = false
 
--- a header's path: `hdr` and two names more, or `meta` or `standard_metadata` and one; and where it asks whether a header
--- is valid, `hdr` and the header's name
+-- a header's path: `hdr` and two names more, or `meta` or `standard_metadata` and one; and where it is called, as
+-- `hdr.h.isValid()`, `hdr`, the header's name and `isValid`
 abbrev pub bad_path : List (List ℕ) → (valid : Bool) → Bool
-bad_path (r ∷ h ∷ []) true = not (same_text r (codes "hdr"))
+bad_path (r ∷ h ∷ f ∷ []) true = not (same_text r (codes "hdr") && same_text f (codes "isValid"))
 bad_path (r ∷ f ∷ []) false = not (same_text r (codes "meta") || same_text r (codes "standard_metadata"))
 bad_path (r ∷ h ∷ f ∷ []) false = not (same_text r (codes "hdr"))
 bad_path _ _ = true

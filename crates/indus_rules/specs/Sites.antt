@@ -127,9 +127,13 @@ decl_sites before (d ∷ ds) = both (both (here (at_decl before d)) (start_sites
 abbrev pub sight : Property → Block → Sight
 sight p b = record { decls = p.decls; loops = []; block = b }
 
--- a property: its declarations, and then its three blocks
+-- the three blocks of a property
+abbrev pub blocks_sites : Property → Sites Site
+blocks_sites p = both (block_sites (sight p block.Init) p.init) (both (block_sites (sight p block.Tele) p.tele) (block_sites (sight p block.Check) p.check))
+
+-- a property: its declarations, and then its blocks
 abbrev pub property_sites : Property → Sites Site
-property_sites p = both (decl_sites [] p.decls) (both (block_sites (sight p block.Init) p.init) (both (block_sites (sight p block.Tele) p.tele) (block_sites (sight p block.Check) p.check)))
+property_sites p = both (decl_sites [] p.decls) (blocks_sites p)
 
 -- ---- of the program's values
 

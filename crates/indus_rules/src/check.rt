@@ -2,7 +2,7 @@
 
 ghost use Rattle.std.specs.Prelude.{◌≡◌, IfOk};
 ghost use Rattle.indus_tree.specs.View.{block_of, expr_of, exprs_of, shape_of, stmt_of};
-ghost use Rattle.indus_scopes.specs.Scopes.{stands, scope_of};
+ghost use Rattle.indus_scopes.specs.Scopes.{own, stands, scope_of};
 ghost use Rattle.indus_rules.specs.Sites.{wants_of, head_want, tail_wants, index_wants, member_wants, push_want, shape_index_wants, shape_member_wants, expr_sites, all_sites, within, stmt_sites, block_sites};
 ghost use Rattle.indus_rules.specs.Rules.{first};
 
@@ -98,11 +98,20 @@ fn push_want(r: &Role) -> Kind
 }
 
 /// The first broken rule of an expression of whose place `want` is wanted.
-#[cycle(expr)]
 pub fn check_expr(scope: &Scope, want: Kind, e: &Expr) -> Option<(u32, Rule)>
     ensures { result ≡ first (expr_sites (scope_of scope.now) want (expr_of e.now)) }
 {
-    if let Some(rule) = rule_of_expr(scope, want, e) {
+    check_known(scope, scope.own(e), want, e)
+}
+
+/// The same, where it is known what the expression is of its own. So this is asked once at each level
+/// of an expression.
+#[cycle(expr)]
+fn check_known(scope: &Scope, kind: Kind, want: Kind, e: &Expr) -> Option<(u32, Rule)>
+    requires { kind ≡ own (scope_of scope.now) (expr_of e.now) }
+    ensures { result ≡ first (expr_sites (scope_of scope.now) want (expr_of e.now)) }
+{
+    if let Some(rule) = rule_of_expr(scope, kind, want, e) {
         return Some((place_of_expr(e), rule));
     }
     match e {
@@ -112,18 +121,24 @@ pub fn check_expr(scope: &Scope, want: Kind, e: &Expr) -> Option<(u32, Rule)>
         Expr::Length(_, _) => None,
         Expr::Index(_, x, keys) => check_all(scope, index_wants(&scope.role(x)), keys),
         Expr::Member(_, keys, x) => check_all(scope, member_wants(&scope.role(x)), keys),
-        Expr::Not(_, a) => check_expr(scope, Kind::Truth, a),
-        Expr::Invert(_, a) => check_expr(scope, as_number(join(scope.own(a), want)), a),
+        Expr::Not(_, a) => check_known(scope, scope.own(a), Kind::Truth, a),
+        Expr::Invert(_, a) => {
+            let kind = scope.own(a);
+            check_known(scope, kind, as_number(join(kind, want)), a)
+        }
         Expr::Bin(_, op, a, b) => {
             let manner = manner_of(*op);
             let left = scope.own(a);
             let right = scope.own(b);
-            match check_expr(scope, left_want(manner, left, right, want), a) {
+            match check_known(scope, left, left_want(manner, left, right, want), a) {
                 Some(fault) => Some(fault),
-                None => check_expr(scope, right_want(manner, left, right, want), b),
+                None => check_known(scope, right, right_want(manner, left, right, want), b),
             }
         }
-        Expr::Cast(_, _, a) => check_expr(scope, as_number(scope.own(a)), a),
+        Expr::Cast(_, _, a) => {
+            let kind = scope.own(a);
+            check_known(scope, kind, as_number(kind), a)
+        }
     }
 }
 
@@ -133,8 +148,8 @@ fn check_all(scope: &Scope, wants: Wants, all: &[Expr]) -> Option<(u32, Rule)>
 {
     let mut wants = wants;
     for e in all {
-        let want = head_want(wants, scope.own(e));
-        match check_expr(scope, want, e) {
+        let kind = scope.own(e);
+        match check_known(scope, kind, head_want(wants, kind), e) {
             Some(fault) => return Some(fault),
             None => {}
         }

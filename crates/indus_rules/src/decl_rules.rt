@@ -8,14 +8,15 @@ ghost use Rattle.indus_rules.specs.Rules.{rule_at, declared_twice, bad_width, ba
 
 use crate::expr_rules::bad_bits;
 use crate::rule::Rule;
+use indus_scopes::declared::Declared;
 use indus_scopes::scope::{builtin_of, is};
-use indus_tree::{Decl, DeclKind, Expr, Shape, Ty, find};
+use indus_tree::{Decl, DeclKind, Expr, Shape, Ty};
 use lex_text::Name;
 
-fn declared_twice(before: &[Decl], name: &Name) -> bool
-    ensures { result ≡ declared_twice (map decl_of before.now) name.now }
+fn declared_twice(before: &Declared, name: &Name) -> bool
+    ensures { result ≡ declared_twice (map decl_of before.now.decls.now) name.now }
 {
-    find(before, name).is_some() || builtin_of(name).is_some()
+    before.find(name).is_some() || builtin_of(name).is_some()
 }
 
 fn bad_width(t: Ty) -> bool
@@ -96,7 +97,7 @@ fn bad_path(path: &[Name], valid: bool) -> bool
     ensures { result ≡ bad_path path.now valid }
 {
     match (path, valid) {
-        ([r, _h], true) => !is(r, "hdr"),
+        ([r, _h, f], true) => !(is(r, "hdr") && is(f, "isValid")),
         ([r, _f], false) => !(is(r, "meta") || is(r, "standard_metadata")),
         ([r, _h, _f], false) => !is(r, "hdr"),
         _ => true,
@@ -122,8 +123,8 @@ fn ill_declared(d: &Decl) -> bool
 }
 
 /// The first rule that is broken at a declaration behind others.
-pub fn rule_of_decl(before: &[Decl], d: &Decl) -> Option<Rule>
-    ensures { result ≡ rule_at (at_decl (map decl_of before.now) (decl_of d.now)) }
+pub fn rule_of_decl(before: &Declared, d: &Decl) -> Option<Rule>
+    ensures { result ≡ rule_at (at_decl (map decl_of before.now.decls.now) (decl_of d.now)) }
 {
     if declared_twice(before, &d.name) {
         Some(Rule::NameTwice)

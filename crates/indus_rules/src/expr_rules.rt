@@ -2,7 +2,7 @@
 
 ghost use Rattle.std.specs.Prelude.{◌≡◌};
 ghost use Rattle.indus_tree.specs.View.{expr_of};
-ghost use Rattle.indus_scopes.specs.Scopes.{scope_of};
+ghost use Rattle.indus_scopes.specs.Scopes.{own, scope_of};
 ghost use Rattle.indus_rules.specs.Sites.{at_expr};
 ghost use Rattle.indus_rules.specs.Rules.{is_init, number_width, too_wide, bad_bits, cites_missing, ill_used, hop_in_init, ill_sized, rule_at, expr_place};
 
@@ -96,16 +96,17 @@ fn ill_sized(want: Kind, e: &Expr) -> bool
     }
 }
 
-/// The first rule that is broken at an expression of whose place `want` is wanted.
-pub fn rule_of_expr(scope: &Scope, want: Kind, e: &Expr) -> Option<Rule>
+/// The first rule that is broken at an expression that is of this kind of its own, and of whose place
+/// `want` is wanted.
+pub fn rule_of_expr(scope: &Scope, kind: Kind, want: Kind, e: &Expr) -> Option<Rule>
+    requires { kind ≡ own (scope_of scope.now) (expr_of e.now) }
     ensures { result ≡ rule_at (at_expr (scope_of scope.now) want (expr_of e.now)) }
 {
-    let own = scope.own(e);
     if cites_missing(scope, e) {
         Some(Rule::NoSuchName)
-    } else if widths_differ(own, want) {
+    } else if widths_differ(kind, want) {
         Some(Rule::WidthDiffers)
-    } else if kinds_differ(own, want) || ill_used(scope, want, e) {
+    } else if kinds_differ(kind, want) || ill_used(scope, want, e) {
         Some(Rule::KindDiffers)
     } else if hop_in_init(scope, e) {
         Some(Rule::WrongBlock)

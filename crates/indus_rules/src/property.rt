@@ -1,14 +1,17 @@
 //! The first broken rule of a property.
 
-ghost use Rattle.std.specs.Prelude.{◌≡◌, [], map, IfOk};
+ghost use Rattle.std.specs.Prelude.{◌≡◌, [], map, IfNone, IfOk};
 ghost use Rattle.std.specs.Option.{option_map};
 ghost use Rattle.indus_tree.specs.View.{block_of, decl_of, expr_of, property_of, shape_of};
-ghost use Rattle.indus_rules.specs.Sites.{start_want, start_sites, decl_sites, property_sites, block_sites, sight};
-ghost use Rattle.indus_rules.specs.Rules.{first};
+ghost use Rattle.indus_scopes.specs.NameTable.{names_of, texts};
+ghost use Rattle.indus_rules.specs.Sites.{at_decl, start_want, start_sites, decl_sites, property_sites, block_sites, blocks_sites};
+ghost use Rattle.indus_rules.specs.Rules.{first, rule_at};
 
 use crate::check::{check_block, check_expr};
 use crate::decl_rules::rule_of_decl;
 use crate::rule::Rule;
+use indexmap::IndexSet;
+use indus_scopes::declared::Declared;
 use indus_scopes::kind::{Kind, kind_of};
 use indus_scopes::scope::{Block, Scope};
 use indus_tree::{Decl, Expr, Property, Shape, Stmt};
@@ -31,7 +34,10 @@ fn check_start(alloc: Global, start: &Option<Expr>, s: &Shape) -> Option<(u32, R
         None => None,
         Some(e) => {
             let scope = Scope {
-                decls: &[],
+                decls: Declared {
+                    decls: &[],
+                    names: &IndexSet::new(alloc),
+                },
                 loops: Vec::new(alloc),
                 block: Block::Init,
             };
@@ -40,30 +46,50 @@ fn check_start(alloc: Global, start: &Option<Expr>, s: &Shape) -> Option<(u32, R
     }
 }
 
-fn check_decls(alloc: Global, decls: &[Decl]) -> Option<(u32, Rule)>
-    ensures { result ≡ first (decl_sites [] (map decl_of decls.now)) }
+/// The first broken rule of the declarations; where there is none, their names are put into the table.
+fn check_decls(
+    alloc: Global,
+    names: &mut IndexSet<String>,
+    decls: &[Decl],
+) -> Result<Option<(u32, Rule)>, AllocError>
+    requires { names.old.keys ≡ [] }
+    ensures fault { IfOk result (λ o. o ≡ first (decl_sites [] (map decl_of decls.now))) }
+    ensures named { IfOk result (λ o. IfNone o (texts names.new.keys ≡ names_of (map decl_of decls.now))) }
 {
     for (i, d) in decls.iter().enumerate() {
-        if let Some(rule) = rule_of_decl(&decls[..i], d) {
-            return Some((d.at, rule));
+        if let Some(rule) = rule_of_next(names, &decls[..i], d) {
+            return Ok(Some((d.at, rule)));
         }
         if let Some(fault) = check_start(alloc, &d.start, &d.shape) {
-            return Some(fault);
+            return Ok(Some(fault));
         }
+        names.insert(String::from_str(alloc, d.name.as_str())?)?;
     }
-    None
+    Ok(None)
 }
 
-fn check_part(
+/// The first broken rule of a declaration behind those of the table.
+fn rule_of_next(names: &IndexSet<String>, before: &[Decl], d: &Decl) -> Option<Rule>
+    requires { texts names.now.keys ≡ names_of (map decl_of before.now) }
+    ensures { result ≡ rule_at (at_decl (map decl_of before.now) (decl_of d.now)) }
+{
+    let before = Declared {
+        decls: before,
+        names,
+    };
+    rule_of_decl(&before, d)
+}
+
+fn check_part<'a>(
     alloc: Global,
-    p: &Property,
+    decls: Declared<'a>,
     block: Block,
-    body: &[Stmt],
+    body: &'a [Stmt],
 ) -> Result<Option<(u32, Rule)>, AllocError>
-    ensures { IfOk result (λ o. o ≡ first (block_sites (sight (property_of p.now) block) (block_of body.now))) }
+    ensures { IfOk result (λ o. o ≡ first (block_sites (record { decls = map decl_of decls.entry.decls.now; loops = []; block = block }) (block_of body.now))) }
 {
     let scope = Scope {
-        decls: &p.decls,
+        decls,
         loops: Vec::new(alloc),
         block,
     };
@@ -74,14 +100,31 @@ fn check_part(
 pub fn first_fault(alloc: Global, p: &Property) -> Result<Option<(u32, Rule)>, AllocError>
     ensures { IfOk result (λ o. o ≡ first (property_sites (property_of p.now))) }
 {
-    if let Some(fault) = check_decls(alloc, &p.decls) {
+    let mut names = IndexSet::new(alloc);
+    if let Some(fault) = check_decls(alloc, &mut names, &p.decls)? {
         return Ok(Some(fault));
     }
-    if let Some(fault) = check_part(alloc, p, Block::Init, &p.init)? {
+    check_blocks(alloc, &names, p)
+}
+
+/// The first broken rule of the blocks.
+fn check_blocks(
+    alloc: Global,
+    names: &IndexSet<String>,
+    p: &Property,
+) -> Result<Option<(u32, Rule)>, AllocError>
+    requires { texts names.now.keys ≡ names_of (map decl_of p.now.decls.items) }
+    ensures { IfOk result (λ o. o ≡ first (blocks_sites (property_of p.now))) }
+{
+    let decls = Declared {
+        decls: &p.decls,
+        names,
+    };
+    if let Some(fault) = check_part(alloc, decls, Block::Init, &p.init)? {
         return Ok(Some(fault));
     }
-    if let Some(fault) = check_part(alloc, p, Block::Tele, &p.tele)? {
+    if let Some(fault) = check_part(alloc, decls, Block::Tele, &p.tele)? {
         return Ok(Some(fault));
     }
-    check_part(alloc, p, Block::Check, &p.check)
+    check_part(alloc, decls, Block::Check, &p.check)
 }

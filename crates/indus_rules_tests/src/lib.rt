@@ -2,12 +2,14 @@
 #![tactic(auto)]
 
 #[cfg(test)]
+mod answers;
+#[cfg(test)]
 mod checks;
 #[cfg(test)]
-mod place_rows;
+mod properties;
 #[cfg(test)]
 mod rule_rows;
 #[cfg(test)]
-mod samples;
-#[cfg(test)]
 mod sum_rows;
+#[cfg(test)]
+mod tree_rows;

@@ -111,7 +111,7 @@ abbrev pub loop_of : code_loop.Loop → Around
 loop_of l = record { names = l.names.now; lists = l.lists.now }
 
 abbrev pub scope_of : code.Scope → Sight
-scope_of s = record { decls = map decl_of s.decls.now; loops = map loop_of s.loops.items; block = s.block }
+scope_of s = record { decls = map decl_of s.decls.decls.now; loops = map loop_of s.loops.items; block = s.block }
 
 abbrev pub stands : code_role.Role → Stands
 stands Missing = missing

@@ -1,7 +1,7 @@
 //! What an expression is, and what its place wants.
 
 ghost use Rattle.std.specs.Prelude.{◌≡◌};
-ghost use Rattle.indus_scopes.specs.Kinds.{kind_of, is_open, join, as_number, kinds_differ, widths_differ, manner_of, left_want, right_want, binary_kind, width_in};
+ghost use Rattle.indus_scopes.specs.Kinds.{kind_of, is_open, join, as_number, kinds_differ, widths_differ, manner_of, left_want, right_want, width_in};
 
 use indus_tree::{Op, Ty};
 
@@ -109,17 +109,6 @@ pub fn manner_of(op: Op) -> Manner
         Op::Less | Op::LessEq | Op::More | Op::MoreEq => Manner::Order,
         Op::Equal | Op::Differ => Manner::Same,
         Op::Both | Op::Either => Manner::Logic,
-    }
-}
-
-/// What an operator with such operands is.
-pub fn binary_kind(c: Manner, a: Kind, b: Kind) -> Kind
-    ensures { result ≡ binary_kind c a b }
-{
-    match c {
-        Manner::Like => as_number(join(a, b)),
-        Manner::Shift => as_number(a),
-        Manner::Same | Manner::Order | Manner::Logic => Kind::Truth,
     }
 }
 

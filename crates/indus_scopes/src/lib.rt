@@ -2,7 +2,7 @@
 //!
 //! The layer above gets `Scope`, which is what is in sight at a place: `role` is what a name stands for
 //! there, and `own` what an expression is, whatever its place wants. `kind` has what places want of
-//! operands, and `uses` as what a name may be used.
+//! operands, `uses` as what a name may be used, and `Declared::find` is the declaration of a name.
 //!
 //! `specs/Kinds`, `Scopes` and `Uses` are read in this order. No rule is told here.
 //!
@@ -10,6 +10,7 @@
 //! project's profile.
 #![tactic(auto)]
 
+pub mod declared;
 pub mod kind;
 pub mod scope;
 pub mod uses;

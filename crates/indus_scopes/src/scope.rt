@@ -1,14 +1,13 @@
 //! What a name stands for at a place.
 
 ghost use Rattle.std.specs.Prelude.{◌≡◌, map};
-ghost use Rattle.std.specs.Option.{option_map};
 ghost use Rattle.lex_text.specs.Names.{same_text};
-ghost use Rattle.indus_tree.specs.State.{lookup};
 ghost use Rattle.indus_tree.specs.View.{decl_of, expr_of, shape_of};
 ghost use Rattle.indus_scopes.specs.Scopes.{item_in, item_of, builtin_of, role_of, stands, scope_of, loop_of, read_kind, index_kind, scalar_kind, element_kind, shape_item, list_item, own};
 
-use crate::kind::{Kind, as_number, binary_kind, kind_of, manner_of};
-use indus_tree::{Decl, DeclKind, Expr, Shape, find};
+use crate::declared::Declared;
+use crate::kind::{Kind, Manner, as_number, is_open, kind_of, manner_of};
+use indus_tree::{Decl, DeclKind, Expr, Shape};
 use lex_text::Name;
 
 /// A block of a property.
@@ -29,7 +28,7 @@ pub struct Loop<'a> {
 /// What is in sight at a place, innermost loop first.
 #[derive(Drop)]
 pub struct Scope<'a> {
-    pub decls: &'a [Decl],
+    pub decls: Declared<'a>,
     pub loops: Vec<Loop<'a>>,
     pub block: Block,
 }
@@ -67,18 +66,18 @@ pub fn shape_item(s: &Shape) -> Kind
     }
 }
 
-fn list_item(decls: &[Decl], list: &Name) -> Kind
-    ensures { result ≡ list_item (map decl_of decls.now) list.now }
+fn list_item(decls: &Declared, list: &Name) -> Kind
+    ensures { result ≡ list_item (map decl_of decls.now.decls.now) list.now }
 {
-    match find(decls, list) {
+    match decls.find(list) {
         Some(d) => shape_item(&d.shape),
         None => Kind::Unknown,
     }
 }
 
 /// An item of a loop.
-fn item_in(decls: &[Decl], names: &[Name], lists: &[Name], name: &Name) -> Option<Kind>
-    ensures { result ≡ item_in (map decl_of decls.now) names.now lists.now name.now }
+fn item_in(decls: &Declared, names: &[Name], lists: &[Name], name: &Name) -> Option<Kind>
+    ensures { result ≡ item_in (map decl_of decls.now.decls.now) names.now lists.now name.now }
 {
     match names {
         [] => None,
@@ -102,8 +101,8 @@ fn item_in(decls: &[Decl], names: &[Name], lists: &[Name], name: &Name) -> Optio
 }
 
 /// An item of one of the loops.
-fn item_of(decls: &[Decl], loops: &[Loop], name: &Name) -> Option<Kind>
-    ensures { result ≡ item_of (map decl_of decls.now) (map loop_of loops.now) name.now }
+fn item_of(decls: &Declared, loops: &[Loop], name: &Name) -> Option<Kind>
+    ensures { result ≡ item_of (map decl_of decls.now.decls.now) (map loop_of loops.now) name.now }
 {
     match loops {
         [] => None,
@@ -132,11 +131,11 @@ impl<'a> Scope<'a> {
     pub fn role(&self, name: &Name) -> Role<'a>
         ensures { stands result ≡ role_of (scope_of self.now) name.now }
     {
-        match item_of(self.decls, &self.loops, name) {
+        match item_of(&self.decls, &self.loops, name) {
             Some(k) => Role::Item(k),
             None => match builtin_of(name) {
                 Some(k) => Role::Builtin(k),
-                None => match find(self.decls, name) {
+                None => match self.decls.find(name) {
                     Some(d) => Role::Variable(d),
                     None => Role::Missing,
                 },
@@ -203,7 +202,18 @@ impl<'a> Scope<'a> {
             Expr::Member(_, _, _) => Kind::Truth,
             Expr::Not(_, _) => Kind::Truth,
             Expr::Invert(_, a) => as_number(self.own(a)),
-            Expr::Bin(_, op, a, b) => binary_kind(manner_of(*op), self.own(a), self.own(b)),
+            Expr::Bin(_, op, a, b) => match manner_of(*op) {
+                Manner::Like => {
+                    let left = self.own(a);
+                    if is_open(left) {
+                        as_number(self.own(b))
+                    } else {
+                        as_number(left)
+                    }
+                }
+                Manner::Shift => as_number(self.own(a)),
+                Manner::Same | Manner::Order | Manner::Logic => Kind::Truth,
+            },
             Expr::Cast(_, w, _) => Kind::Number(*w),
         }
     }

@@ -1,6 +1,7 @@
 //! What well-typedness says of a tree.
 
 ghost use Rattle.indus_types.specs.Facts.{EachFine, FineAgrees, ReportsAreShort};
+ghost use Rattle.indus_types.specs.Faults.{AnsweredIsBroken};
 ghost use Rattle.indus_types.specs.Fits.{KnowsWidths};
 ghost use Rattle.indus_types.specs.StaticWidths.{SightsAreSound, SightsAreSeen, ValuesHaveStaticWidths, PartsAreServed};
 ghost use Rattle.indus_types.specs.Views.{HopsShowDeclared};
@@ -8,6 +9,11 @@ ghost use Rattle.indus_types.specs.Views.{HopsShowDeclared};
 /// Of a well-typed property each site is fine by itself.
 pub fn each_is_fine()
     ensures { EachFine }
+{}
+
+/// A rule for which a property is refused is broken at the place that is named.
+pub fn an_answered_rule_is_broken()
+    ensures { AnsweredIsBroken }
 {}
 
 /// A fine expression cites known names, and its kind and width are those that its place wants.

@@ -1,9 +1,9 @@
 //! Indus properties that keep the rules of types, and their sums.
 //!
 //! The layer above gets `check_property`, which takes a property exactly where it breaks no rule, and
-//! `TypedProperty`, whose ghost field says so, so that nothing else makes one. It answers the
-//! telemetry's bits, the weight and the reads of a control variable. `laws` says what well-typedness
-//! says of a tree.
+//! `TypedProperty`, whose invariant says so, so that nothing else makes one. Contracts see it as the
+//! property. It answers the telemetry's bits, the weight and the reads of a control variable. `laws`
+//! says what well-typedness says of a tree.
 //!
 //! The rules are those of `indus_rules`; `specs/Sums`, `Facts`, `Fits`, `StaticWidths` and `Views` are the words
 //! of this crate.

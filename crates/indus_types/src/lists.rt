@@ -4,14 +4,15 @@ ghost use Rattle.std.specs.Prelude.{◌≡◌, map};
 ghost use Rattle.indus_tree.specs.View.{decl_of, shape_of};
 ghost use Rattle.indus_types.specs.Sums.{is_list, size_of, smallest};
 
-use indus_tree::{Decl, Shape, find};
+use indus_scopes::declared::Declared;
+use indus_tree::Shape;
 use lex_text::Name;
 
 /// The size of a list, and 0 where the name is of no list.
-pub fn size_of(decls: &[Decl], name: &Name) -> u8
-    ensures { result ≡ size_of (map decl_of decls.now) name.now }
+pub fn size_of(decls: &Declared, name: &Name) -> u8
+    ensures { result ≡ size_of (map decl_of decls.now.decls.now) name.now }
 {
-    match find(decls, name) {
+    match decls.find(name) {
         Some(d) => match &d.shape {
             Shape::List(_, n) => *n,
             _ => 0,
@@ -21,10 +22,10 @@ pub fn size_of(decls: &[Decl], name: &Name) -> u8
 }
 
 /// Whether the name is of a list.
-pub fn is_list(decls: &[Decl], name: &Name) -> bool
-    ensures { result ≡ is_list (map decl_of decls.now) name.now }
+pub fn is_list(decls: &Declared, name: &Name) -> bool
+    ensures { result ≡ is_list (map decl_of decls.now.decls.now) name.now }
 {
-    match find(decls, name) {
+    match decls.find(name) {
         Some(d) => match &d.shape {
             Shape::List(_, _) => true,
             _ => false,
@@ -34,8 +35,8 @@ pub fn is_list(decls: &[Decl], name: &Name) -> bool
 }
 
 /// The smallest size of some lists.
-pub fn smallest(decls: &[Decl], lists: &[Name]) -> u8
-    ensures { result ≡ smallest (map decl_of decls.now) lists.now }
+pub fn smallest(decls: &Declared, lists: &[Name]) -> u8
+    ensures { result ≡ smallest (map decl_of decls.now.decls.now) lists.now }
 {
     match lists {
         [] => 0,

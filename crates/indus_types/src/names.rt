@@ -2,7 +2,8 @@
 
 ghost use Rattle.std.specs.Prelude.{◌≡◌, [], map, IfOk};
 ghost use Rattle.indus_tree.specs.View.{decl_of};
-ghost use Rattle.indus_types.specs.NameTable.{AreNew, names_of, texts};
+ghost use Rattle.indus_scopes.specs.NameTable.{names_of, texts};
+ghost use Rattle.indus_types.specs.NameTable.{AreNew};
 
 use indexmap::IndexSet;
 use indus_tree::Decl;

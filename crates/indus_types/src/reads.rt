@@ -2,11 +2,14 @@
 
 ghost use Rattle.std.specs.Prelude.{◌≡◌, ◌*◌, map};
 ghost use Rattle.indus_tree.specs.View.{block_of, decl_of, expr_of, exprs_of, property_of, stmt_of};
+ghost use Rattle.indus_scopes.specs.NameTable.{names_of, texts};
 ghost use Rattle.indus_types.specs.Sums.{cut, is_v, expr_reads, exprs_reads, stmt_reads, block_reads, nth_lookups, IsControl};
 
 use crate::lists::smallest;
-use indus_rules::same;
-use indus_tree::{Decl, Expr, Property, Stmt};
+use indexmap::IndexSet;
+use indus_scopes::declared::Declared;
+use indus_scopes::scope::same;
+use indus_tree::{Expr, Property, Stmt};
 use lex_text::Name;
 
 /// 1 where the name is the variable's.
@@ -57,8 +60,8 @@ fn exprs_reads(all: &[Expr], variable: &Name) -> u32
 /// The reads of a statement.
 #[tactic(auto, using(crate::proofs::Cuts::cut_times))]
 #[cycle(stmt_reads)]
-fn stmt_reads(s: &Stmt, decls: &[Decl], variable: &Name) -> u32
-    ensures { result ≡ cut (stmt_reads (map decl_of decls.now) variable.now (stmt_of s.now)) }
+fn stmt_reads(s: &Stmt, decls: &Declared, variable: &Name) -> u32
+    ensures { result ≡ cut (stmt_reads (map decl_of decls.now.decls.now) variable.now (stmt_of s.now)) }
 {
     match s {
         Stmt::Assign(_, _, e) => expr_reads(e, variable),
@@ -74,8 +77,8 @@ fn stmt_reads(s: &Stmt, decls: &[Decl], variable: &Name) -> u32
 }
 
 #[cycle(stmt_reads)]
-fn block_reads(all: &[Stmt], decls: &[Decl], variable: &Name) -> u32
-    ensures { result ≡ cut (block_reads (map decl_of decls.now) variable.now (block_of all.now)) }
+fn block_reads(all: &[Stmt], decls: &Declared, variable: &Name) -> u32
+    ensures { result ≡ cut (block_reads (map decl_of decls.now.decls.now) variable.now (block_of all.now)) }
 {
     let mut sum: u32 = 0;
     for s in all {
@@ -84,16 +87,22 @@ fn block_reads(all: &[Stmt], decls: &[Decl], variable: &Name) -> u32
     sum
 }
 
-/// How often the control variable at this place among the declarations is read.
+/// How often the control variable at this place among the declarations is read, where the names have
+/// this table.
 #[tactic(auto, using(crate::proofs::Places::nth_decl))]
-pub fn lookups(p: &Property, variable: u32) -> u32
-    requires { IsControl (property_of p.now) variable }
+pub fn lookups(p: &Property, names: &IndexSet<String>, variable: u32) -> u32
+    requires named { texts names.now.keys ≡ names_of (map decl_of p.now.decls.items) }
+    requires control { IsControl (property_of p.now) variable }
     ensures { result ≡ cut (nth_lookups (property_of p.now) variable) }
 {
+    let decls = Declared {
+        decls: &p.decls,
+        names,
+    };
     match p.decls.get(variable as usize) {
-        Some(d) => block_reads(&p.init, &p.decls, &d.name)
-            .saturating_add(block_reads(&p.tele, &p.decls, &d.name))
-            .saturating_add(block_reads(&p.check, &p.decls, &d.name)),
+        Some(d) => block_reads(&p.init, &decls, &d.name)
+            .saturating_add(block_reads(&p.tele, &decls, &d.name))
+            .saturating_add(block_reads(&p.check, &decls, &d.name)),
         None => 0,
     }
 }

@@ -5,7 +5,6 @@ ghost use Rattle.indus_tree.specs.Hops.{variable_number};
 ghost use Rattle.indus_tree.specs.View.{property_of};
 ghost use Rattle.indus_rules.specs.Rules.{IsWellTyped};
 ghost use Rattle.indus_types.specs.Faults.{HasCause};
-ghost use Rattle.indus_types.specs.NameTable.{names_of, texts};
 ghost use Rattle.indus_types.specs.Sums.{cut, cut_wide, property_bits, property_weight, nth_lookups, IsControl};
 
 use crate::fault::TypeFault;
@@ -15,20 +14,36 @@ use indexmap::IndexSet;
 use indus_rules::first_fault;
 use indus_tree::Property;
 use std::alloc::{AllocError, Global};
+use std::marker::Model;
 
-/// A property that breaks no rule.
+/// A property that breaks no rule. Contracts see it as the property.
 #[derive(Drop)]
 pub struct TypedProperty {
-    pub property: Property,
-    /// The declared names, in the order in which they are first seen.
-    pub names: IndexSet<String>,
-    pub ghost typed: { IsWellTyped (property_of property) },
-    pub ghost named: { texts names.keys ≡ names_of (property_of property).decls },
+    property: Property,
+    /// The declared names, in their order.
+    names: IndexSet<String>,
+}
+
+impl Model for TypedProperty {
+    ghost use Rattle.std.specs.Coded.{codes};
+    ghost use Rattle.indus_tree.specs.declared.tree.Property.{Property};
+    ghost use Rattle.indus_tree.specs.contracts.tree.Expr as expr;
+    ghost use Rattle.indus_tree.specs.contracts.tree.Stmt as stmt;
+    ghost use Rattle.indus_tree.specs.View.{property_of};
+    ghost use Rattle.indus_types.specs.NameTable.{IsTabled};
+
+    ghost Value = { Property };
+
+    ghost coded = { Prim.hlevel (codes, expr.the_row.coded, stmt.the_row.coded) };
+
+    ghost view = { λ t. t.property };
+
+    ghost invariant = { λ t. IsTabled (property_of t.property) t.names.keys };
 }
 
 /// The property itself, exactly where it breaks no rule.
 pub fn check_property(alloc: Global, p: Property) -> Result<TypedProperty, TypeFault>
-    ensures ok { IfOk result (λ t. property_of t.property ≡ property_of p) }
+    ensures ok { IfOk result (λ t. property_of t ≡ property_of p) }
     ensures typed { IfOk result (λ _. IsWellTyped (property_of p)) }
     ensures cause { IfErr result (HasCause (property_of p)) }
 {
@@ -41,7 +56,7 @@ pub fn check_property(alloc: Global, p: Property) -> Result<TypedProperty, TypeF
 /// A property that breaks no rule, with the table of its names.
 fn with_names(alloc: Global, property: Property) -> Result<TypedProperty, AllocError>
     requires { IsWellTyped (property_of property) }
-    ensures { IfOk result (λ t. property_of t.property ≡ property_of property) }
+    ensures { IfOk result (λ t. property_of t ≡ property_of property) }
 {
     let names = name_table(alloc, &property.decls)?;
     Ok(TypedProperty { property, names })
@@ -50,15 +65,15 @@ fn with_names(alloc: Global, property: Property) -> Result<TypedProperty, AllocE
 impl TypedProperty {
     /// The property.
     pub fn property(&self) -> &Property
-        ensures same { result.now ≡ self.now.property }
-        ensures typed { IsWellTyped (property_of result.now) }
+        ensures same { result.now ≡ self.now }
+        ensures typed { IsWellTyped (property_of self.now) }
     {
         &self.property
     }
 
     /// An equal property with the same places.
     pub fn copy(&self, alloc: Global) -> Result<TypedProperty, AllocError>
-        ensures { IfOk result (λ t. property_of t.property ≡ property_of self.now.property) }
+        ensures { IfOk result (λ t. property_of t ≡ property_of self.now) }
     {
         let property = self.property.copy(alloc)?;
         with_names(alloc, property)
@@ -66,31 +81,31 @@ impl TypedProperty {
 
     /// The place of a name among the declarations.
     pub fn number(&self, name: &str) -> Option<usize>
-        ensures { result ≡ variable_number (property_of self.now.property).decls name.now }
+        ensures { result ≡ variable_number (property_of self.now).decls name.now }
     {
         self.names.get_index_of(name)
     }
 
     /// The bits of the telemetry, cut at the greatest number.
     pub fn tele_bits(&self) -> u64
-        ensures { result ≡ cut_wide (property_bits (property_of self.now.property)) }
+        ensures { result ≡ cut_wide (property_bits (property_of self.now)) }
     {
         bits::property_bits(&self.property)
     }
 
     /// The weight, cut at the greatest number.
     pub fn weight(&self) -> u32
-        ensures { result ≡ cut (property_weight (property_of self.now.property)) }
+        ensures { result ≡ cut (property_weight (property_of self.now)) }
     {
-        weight::property_weight(&self.property)
+        weight::property_weight(&self.property, &self.names)
     }
 
     /// How often the control variable at this place among the declarations is read, cut at the
     /// greatest number.
     pub fn lookups(&self, variable: u32) -> u32
-        requires { IsControl (property_of self.now.property) variable }
-        ensures { result ≡ cut (nth_lookups (property_of self.now.property) variable) }
+        requires { IsControl (property_of self.now) variable }
+        ensures { result ≡ cut (nth_lookups (property_of self.now) variable) }
     {
-        reads::lookups(&self.property, variable)
+        reads::lookups(&self.property, &self.names, variable)
     }
 }

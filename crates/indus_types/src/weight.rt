@@ -2,9 +2,12 @@
 
 ghost use Rattle.std.specs.Prelude.{◌≡◌, ◌+◌, ◌*◌, map};
 ghost use Rattle.indus_tree.specs.View.{block_of, decl_of, expr_of, exprs_of, property_of, shape_of, stmt_of};
+ghost use Rattle.indus_scopes.specs.NameTable.{names_of, texts};
 ghost use Rattle.indus_types.specs.Sums.{cut, expr_weight, exprs_weight, stmt_weight, block_weight, cells_in, sensor_cells, property_weight};
 
 use crate::lists::{is_list, size_of, smallest};
+use indexmap::IndexSet;
+use indus_scopes::declared::Declared;
 use indus_tree::{Decl, DeclKind, Expr, Property, Shape, Stmt};
 
 /// The weight of something done n times, each of the given weight and 1 more.
@@ -20,8 +23,8 @@ fn repeated(n: u8, each: u32) -> u32
 /// The weight of an expression.
 #[tactic(auto, using(crate::proofs::Cuts::cut_turns))]
 #[cycle(expr_weight)]
-fn expr_weight(e: &Expr, decls: &[Decl]) -> u32
-    ensures { result ≡ cut (expr_weight (map decl_of decls.now) (expr_of e.now)) }
+fn expr_weight(e: &Expr, decls: &Declared) -> u32
+    ensures { result ≡ cut (expr_weight (map decl_of decls.now.decls.now) (expr_of e.now)) }
 {
     match e {
         Expr::Num(_, _) => 1,
@@ -46,8 +49,8 @@ fn expr_weight(e: &Expr, decls: &[Decl]) -> u32
 }
 
 #[cycle(expr_weight)]
-fn exprs_weight(all: &[Expr], decls: &[Decl]) -> u32
-    ensures { result ≡ cut (exprs_weight (map decl_of decls.now) (exprs_of all.now)) }
+fn exprs_weight(all: &[Expr], decls: &Declared) -> u32
+    ensures { result ≡ cut (exprs_weight (map decl_of decls.now.decls.now) (exprs_of all.now)) }
 {
     let mut sum: u32 = 0;
     for e in all {
@@ -59,8 +62,8 @@ fn exprs_weight(all: &[Expr], decls: &[Decl]) -> u32
 /// The weight of a statement.
 #[tactic(auto, using(crate::proofs::Cuts::cut_turns))]
 #[cycle(stmt_weight)]
-fn stmt_weight(s: &Stmt, decls: &[Decl]) -> u32
-    ensures { result ≡ cut (stmt_weight (map decl_of decls.now) (stmt_of s.now)) }
+fn stmt_weight(s: &Stmt, decls: &Declared) -> u32
+    ensures { result ≡ cut (stmt_weight (map decl_of decls.now.decls.now) (stmt_of s.now)) }
 {
     match s {
         Stmt::Assign(_, _, e) => expr_weight(e, decls).saturating_add(1),
@@ -81,8 +84,8 @@ fn stmt_weight(s: &Stmt, decls: &[Decl]) -> u32
 }
 
 #[cycle(stmt_weight)]
-fn block_weight(all: &[Stmt], decls: &[Decl]) -> u32
-    ensures { result ≡ cut (block_weight (map decl_of decls.now) (block_of all.now)) }
+fn block_weight(all: &[Stmt], decls: &Declared) -> u32
+    ensures { result ≡ cut (block_weight (map decl_of decls.now.decls.now) (block_of all.now)) }
 {
     let mut sum: u32 = 0;
     for s in all {
@@ -113,12 +116,17 @@ fn sensor_cells(decls: &[Decl]) -> u32
     sum
 }
 
-/// The weight of a property.
-pub fn property_weight(p: &Property) -> u32
+/// The weight of a property with the table of its names.
+pub fn property_weight(p: &Property, names: &IndexSet<String>) -> u32
+    requires { texts names.now.keys ≡ names_of (map decl_of p.now.decls.items) }
     ensures { result ≡ cut (property_weight (property_of p.now)) }
 {
-    block_weight(&p.init, &p.decls)
-        .saturating_add(block_weight(&p.tele, &p.decls))
-        .saturating_add(block_weight(&p.check, &p.decls))
+    let decls = Declared {
+        decls: &p.decls,
+        names,
+    };
+    block_weight(&p.init, &decls)
+        .saturating_add(block_weight(&p.tele, &decls))
+        .saturating_add(block_weight(&p.check, &decls))
         .saturating_add(sensor_cells(&p.decls))
 }

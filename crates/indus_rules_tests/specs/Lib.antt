@@ -1,0 +1,2 @@
+-- Declarations that no text spells.
+pub mod Single
