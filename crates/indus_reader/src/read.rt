@@ -22,7 +22,7 @@ use lex_words::Halt;
 use std::alloc::Global;
 
 /// The property that all tokens spell.
-#[tactic(auto, unfolding(crate::specs::Reading::property_at, crate::specs::Reading::whole_at))]
+#[tactic(auto, unfolding(crate::specs::Reading::property_at, crate::specs::Reading::whole_at, lex_words::specs::Reading::all_read))]
 fn property(alloc: Global, text: &[u8], list: &[Token]) -> Result<Property, Halt>
     requires fits { AreIn text.now list.now }
     requires fair { AreWords Indus (words_of Indus text.now list.now) }

@@ -1,5 +1,5 @@
 -- Reading words from left to right, with one word of choice: what a reader gives, and its steps. A reader is a function of the list of words and a place in it.
-use Rattle.std.specs.Prelude.{◌≡◌, ℕ, zero, suc, ◌+◌, List, [], ◌∷◌, Option, Result, Ok, Err, if◌then◌else◌, slice_get}
+use Rattle.std.specs.Prelude.{◌≡◌, ℕ, zero, suc, ◌+◌, List, [], ◌∷◌, length, Option, Result, Ok, Err, if◌then◌else◌, slice_get, nat_lt}
 use Rattle.lex_words.specs.Seen.{Word, at_key}
 use Rattle.lex_words.specs.declared.halt.Halt.{Halt}
 use Rattle.lex_words.specs.declared.halt.Halt.TheVariants as halt
@@ -59,3 +59,7 @@ module _ (ws : List Word) where
   unfoldable pub until : {A : Type 0} → Key → (ℕ → Read A) → ℕ → ℕ → Read (List A)
   until k item zero i = Err spent
   until k item (suc n) i = look i (λ o. if at_key k o then Ok ([], i) else (item i >>= λ x. until k item n x.1 >>= λ y. Ok (x.0 ∷ y.0, y.1)))
+
+  -- what is read, where it has to be all words
+  unfoldable pub all_read : {A : Type 0} → Read A → Result A Fault
+  all_read r = r >>= λ x. (if nat_lt x.1 (length ws) then Err (wrong x.1) else Ok x.0)
