@@ -9,14 +9,14 @@ use Rattle.lex_words.specs.Seen.{Word, name, number, key, at_key}
 use Rattle.lex_words.specs.Reading.{Read, ◌>>=◌, expect_at}
 use Rattle.lex_words.proofs.KeyCodes.{at_key-is}
 use Rattle.lex_words.proofs.Standing.{Stands-length}
-use Rattle.lex_words.proofs.Spelled.{Reads, Reads-bind, Reads-map, Reads-ok, Reads-cond, Reads-expect}
+use Rattle.lex_words.proofs.Spelled.{Reads, Reads-bind, Reads-map, Reads-ok, Reads-cond, Reads-expect, Reads-room, Reads-named, Reads-open}
 use Rattle.indus_tree.specs.Tree.{Expr, num, member, none, more, exprs_from}
 use Rattle.indus_tree.specs.Height.{expr_height, exprs_height}
 use Rattle.indus_spelling.specs.Operators.{top}
 use Rattle.indus_spelling.specs.Expressions.{Spells, SpellsAll, a_tuple, in_brackets, tighter, last}
 use Rattle.indus_expressions.specs.Reading.{Reader, all_of, listed_at, tuple_at, group_at, head_at, left_at, climb, layer, expr_at, inside_of, below_of, under_of}
 use Rattle.indus_expressions.proofs.Layers.{expr_at-layer}
-use Rattle.indus_expressions.proofs.SoundSteps.{zero_word, some_name, on_level, a_number_up, Reads-room, Reads-named, Reads-open}
+use Rattle.indus_expressions.proofs.SoundSteps.{zero_word, some_name, on_level, a_number_up}
 use Rattle.indus_expressions.proofs.SoundLists.{Low, LowAll, ReadsEach, AreSeveral, then_at, Reads-several, Reads-list}
 use Rattle.indus_expressions.proofs.SoundJoins.{Reads-chain, Reads-climb}
 use Rattle.indus_expressions.proofs.SoundOperands.{Reads-operand}

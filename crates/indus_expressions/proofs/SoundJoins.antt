@@ -10,7 +10,7 @@ use Rattle.lex_words.specs.Brackets.{left_by}
 use Rattle.lex_words.specs.Reading.{high, Read}
 use Rattle.lex_words.proofs.KeyCodes.{at_key-is, found_is_key}
 use Rattle.lex_words.proofs.Standing.{Stands-length}
-use Rattle.lex_words.proofs.Spelled.{Reads, Reads-bind, Reads-map, Reads-word, Reads-high, Reads-ok, Reads-spent, Reads-cond}
+use Rattle.lex_words.proofs.Spelled.{Reads, Reads-bind, Reads-map, Reads-word, Reads-high, Reads-ok, Reads-spent, Reads-cond, Reads-named}
 use Rattle.indus_tree.specs.Tree.{Expr, num, member, binary, none, more}
 use Rattle.indus_tree.specs.Height.{expr_height}
 use Rattle.indus_tree.specs.declared.tree.Op.{Op}
@@ -19,7 +19,7 @@ use Rattle.indus_spelling.specs.declared.operator.Join.{Join}
 use Rattle.indus_spelling.specs.declared.operator.Join.TheVariants.{Binary, Member}
 use Rattle.indus_spelling.specs.Expressions.{Spells, tighter, joined, a_member}
 use Rattle.indus_expressions.specs.Reading.{Reader, of_level, join_in, right_at, turn, chain, climb}
-use Rattle.indus_expressions.proofs.SoundSteps.{zero_word, some_name, a_number_up, expr_tall, Reads-named}
+use Rattle.indus_expressions.proofs.SoundSteps.{zero_word, some_name, a_number_up, expr_tall}
 use Rattle.indus_expressions.proofs.SoundLists.{Low, ReadsEach}
 
 -- ---- what a key joins

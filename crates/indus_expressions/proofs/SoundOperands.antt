@@ -7,12 +7,12 @@ use Rattle.lex_words.specs.declared.key.Key.TheVariants.{True, False, Bit, Lengt
 use Rattle.lex_words.specs.Seen.{Word, name, number, key, name_in, number_in, at_key}
 use Rattle.lex_words.specs.Brackets.{left_by}
 use Rattle.lex_words.proofs.KeyCodes.{at_key-is, name_word, number_word}
-use Rattle.lex_words.proofs.Spelled.{Reads, Reads-bind, Reads-word, Reads-wrong, Reads-ok, Reads-cond, Reads-expect}
+use Rattle.lex_words.proofs.Spelled.{Reads, Reads-bind, Reads-word, Reads-wrong, Reads-ok, Reads-cond, Reads-expect, Reads-room, Reads-named, Reads-numbered, Reads-open}
 use Rattle.indus_tree.specs.Tree.{Expr, num, flag, read, count, index, negation, inversion, cast, exprs_from}
 use Rattle.indus_spelling.specs.Operators.{top, IsSize}
 use Rattle.indus_spelling.specs.Expressions.{Spells, SpellsAll, a_number, a_true, a_false, a_name, an_index, a_length, a_not, an_inversion, a_cast, in_brackets, last}
 use Rattle.indus_expressions.specs.Reading.{Reader, flag_at, numeral_at, index_at, variable_at, count_at, negation_at, inversion_at, cast_at, bracket_at, opened_at, leaf_at, operand_at}
-use Rattle.indus_expressions.proofs.SoundSteps.{zero_word, some_name, zero_size, a_number_up, Reads-room, Reads-named, Reads-numbered, Reads-sized, Reads-open}
+use Rattle.indus_expressions.proofs.SoundSteps.{zero_word, some_name, zero_size, a_number_up, Reads-sized}
 use Rattle.indus_expressions.proofs.SoundLists.{Low, LowAll, ReadsEach, Reads-list}
 
 some_is : {A : Type 0} (o : Option A) → is_some o ≡ true → (x : A) × (o ≡ Some x)

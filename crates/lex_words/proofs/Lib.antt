@@ -13,3 +13,5 @@ pub mod Spelled
 pub mod OpenBehind
 pub mod Whole
 pub mod OneAnswer
+pub mod Named
+pub mod Turns

@@ -8,3 +8,5 @@ pub mod Brackets
 pub mod Faults
 -- What readers are made of.
 pub mod Reading
+pub mod Moving
+pub mod Placed

@@ -3,10 +3,10 @@ use Rattle.std.proofs.lemmas.Result.{err_from_is_err_and}
 use Rattle.std.proofs.lemmas.List.{map_push}
 use Rattle.lex_text.specs.declared.token.Words.TheVariants.{Indus}
 use Rattle.lex_words.specs.Seen.{words_of}
-use Rattle.lex_words.proofs.Loops.{Fails-bind, Fails-along}
+use Rattle.lex_words.proofs.Loops.{Fails-bind, Fails-along, then_ok}
 use Rattle.indus_tree.specs.View.{decl_of}
 use Rattle.indus_reader.specs.Declaring.{decl_at, decls_at}
-use Rattle.indus_reader.proofs.Turns.{decls_end, decls_go_on, then_ok}
+use Rattle.indus_reader.proofs.Turns.{decls_end, decls_go_on}
 use Rattle.indus_reader.proofs.decl.declarations.Goals as goal
 
 pub items-init : goal.items-init

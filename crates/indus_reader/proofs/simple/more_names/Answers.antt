@@ -2,11 +2,10 @@ use Rattle.std.proofs.Common.{◌+◌, ◌-◌, length, [], ◌∷◌, ◌++◌,
 use Rattle.std.proofs.lemmas.Result.{err_from_is_err_and}
 use Rattle.lex_text.specs.declared.token.Words.TheVariants.{Indus}
 use Rattle.lex_words.specs.Seen.{words_of}
-use Rattle.lex_words.specs.Reading.{more_of}
+use Rattle.lex_words.specs.Reading.{more_of, named_at}
 use Rattle.lex_words.specs.declared.key.Key.TheVariants.{Comma}
-use Rattle.lex_words.proofs.Loops.{Fails-bind, Fails-along, Front, more_ends, more_goes_on}
-use Rattle.indus_expressions.specs.Reading.{named_at}
-use Rattle.indus_reader.proofs.Turns.{names_front, then_ok}
+use Rattle.lex_words.proofs.Loops.{Fails-bind, Fails-along, Front, more_ends, more_goes_on, then_ok}
+use Rattle.indus_reader.proofs.Turns.{names_front}
 use Rattle.indus_reader.proofs.simple.more_names.Goals as goal
 
 pub items-init : goal.items-init

@@ -2,9 +2,8 @@ use Rattle.std.proofs.Common.{◌≡◌, ℕ, ◌+◌, ◌-◌, ◌≤◌, lengt
 use Rattle.lex_text.specs.declared.token.Words.TheVariants.{Indus}
 use Rattle.lex_words.specs.declared.key.Key.TheVariants.{Comma}
 use Rattle.lex_words.specs.Seen.{words_of}
-use Rattle.lex_words.specs.Reading.{more_of}
+use Rattle.lex_words.specs.Reading.{more_of, named_at}
 use Rattle.lex_words.proofs.Loops.{Front}
-use Rattle.indus_expressions.specs.Reading.{named_at}
 use Rattle.indus_reader.specs.Reading.{more_names_at}
 use Rattle.indus_reader.proofs.simple.more_names.Given as goal
 

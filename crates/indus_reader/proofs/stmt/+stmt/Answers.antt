@@ -3,12 +3,12 @@ use Rattle.std.proofs.lemmas.Result.{err_from_is_err_and}
 use Rattle.std.proofs.lemmas.List.{map_push}
 use Rattle.lex_text.specs.declared.token.Words.TheVariants.{Indus}
 use Rattle.lex_words.specs.Seen.{words_of}
-use Rattle.lex_words.proofs.Loops.{Fails-bind, Fails-along, Front, Front-nil}
+use Rattle.lex_words.proofs.Loops.{Fails-bind, Fails-along, Front, Front-nil, then_ok}
 use Rattle.indus_tree.specs.Tree.{block_from}
 use Rattle.indus_tree.specs.View.{stmt_of}
 use Rattle.indus_spelling.specs.Properties.{reports_in, block_reports}
 use Rattle.indus_reader.specs.Reading.{many_at, stmt_at}
-use Rattle.indus_reader.proofs.Turns.{many_ends, many_goes_on, reports-push, then_ok}
+use Rattle.indus_reader.proofs.Turns.{many_ends, many_goes_on, reports-push}
 use Rattle.indus_reader.proofs.stmt.+stmt.Goals as goal
 
 pub statements-items-init : goal.statements-items-init

@@ -4,9 +4,9 @@ use Rattle.lex_text.specs.declared.token.Words.TheVariants.{Indus}
 use Rattle.lex_words.specs.Seen.{words_of}
 use Rattle.lex_words.specs.Reading.{more_of}
 use Rattle.lex_words.specs.declared.key.Key.TheVariants.{Comma}
-use Rattle.lex_words.proofs.Loops.{Fails-bind, Fails-along, Front, more_ends, more_goes_on}
+use Rattle.lex_words.proofs.Loops.{Fails-bind, Fails-along, Front, more_ends, more_goes_on, then_ok}
 use Rattle.indus_reader.specs.Declaring.{type_at}
-use Rattle.indus_reader.proofs.Turns.{others_front, then_ok}
+use Rattle.indus_reader.proofs.Turns.{others_front}
 use Rattle.indus_reader.proofs.types.other_types.Goals as goal
 
 pub items-init : goal.items-init
