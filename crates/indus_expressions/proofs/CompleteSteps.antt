@@ -6,12 +6,12 @@ use Rattle.lex_text.specs.declared.literal.Literal.{Literal}
 use Rattle.lex_words.specs.declared.key.Key.{Key}
 use Rattle.lex_words.specs.declared.key.Key.TheVariants.{True, False, Bit, In, Length, Not, Tilde, Open, Close, SquareOpen, SquareClose, Less, More, Comma}
 use Rattle.lex_words.specs.Seen.{Word, name, number, key, at_key}
-use Rattle.lex_words.specs.Reading.{Fault, wrong, Read, ◌>>=◌, either, expect_at, more_of}
+use Rattle.lex_words.specs.Reading.{Fault, wrong, Read, ◌>>=◌, either, expect_at, more_of, named_at, numbered_at}
 use Rattle.lex_words.proofs.KeyCodes.{at_key-is, at_key-same}
 use Rattle.indus_tree.specs.Tree.{Expr, num, flag, read, count, index, member, negation, inversion, cast, exprs_from}
 use Rattle.indus_tree.specs.Height.{expr_height}
 use Rattle.indus_spelling.specs.Operators.{top, IsSize}
-use Rattle.indus_expressions.specs.Reading.{Reader, named_at, sized_at, numbered_at, rest_of, all_of, flag_at, numeral_at, index_at, variable_at, count_at, negation_at, inversion_at, cast_at, bracket_at, leaf_at, operand_at, climb, listed_at, tuple_at, group_at, layer}
+use Rattle.indus_expressions.specs.Reading.{Reader, sized_at, rest_of, all_of, flag_at, numeral_at, index_at, variable_at, count_at, negation_at, inversion_at, cast_at, bracket_at, leaf_at, operand_at, climb, listed_at, tuple_at, group_at, layer}
 use Rattle.indus_expressions.proofs.Heads.{room_ok, open_ok, climbs, bind_bind, Grouped, operand_high, operand_deep, operand_open, group_open, Head, head_other, head_opens}
 
 -- a before what is read

@@ -5,10 +5,10 @@ use Rattle.std.specs.Prelude.{slice_get, nat_lt, ◌==◌}
 use Rattle.lex_words.specs.declared.key.Key.{Key}
 use Rattle.lex_words.specs.declared.key.Key.TheVariants.{Bit, Open, Close, Comma}
 use Rattle.lex_words.specs.Seen.{Word, key, at_key}
-use Rattle.lex_words.specs.Reading.{high, deep, Read, ◌>>=◌, expect_at}
+use Rattle.lex_words.specs.Reading.{high, deep, Read, ◌>>=◌, expect_at, room_at, open_at}
 use Rattle.indus_tree.specs.Tree.{Expr}
 use Rattle.indus_spelling.specs.Operators.{top}
-use Rattle.indus_expressions.specs.Reading.{Reader, room_at, open_at, cast_at, bracket_at, opened_at, operand_at, chain, climb, tuple_at, group_at, head_at, layer}
+use Rattle.indus_expressions.specs.Reading.{Reader, cast_at, bracket_at, opened_at, operand_at, chain, climb, tuple_at, group_at, head_at, layer}
 
 -- ---- steps
 

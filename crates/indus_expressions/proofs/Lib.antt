@@ -1,6 +1,5 @@
 -- The pure readers' equations, and the turns of the code's loops.
 pub mod Layers
-pub mod Named
 pub mod Turns
 -- What is read rests on the words up to its end.
 pub mod Heads

@@ -6,29 +6,21 @@ use Rattle.std.specs.Prelude.{slice_get, nat_le, nat_lt, is_some, ◌==◌}
 use Rattle.lex_text.specs.declared.literal.Literal.{Literal}
 use Rattle.lex_words.specs.declared.key.Key.TheVariants.{True, False, Bit, In, Length, Not, Tilde, Open, Close, SquareOpen, SquareClose, Less, More, Comma}
 use Rattle.lex_words.specs.Seen.{Word, key, key_in, name_in, number_in, at_key}
-use Rattle.lex_words.specs.Reading.{wrong, high, deep, Read, ◌>>=◌, look, expect_at}
+use Rattle.lex_words.specs.Reading.{wrong, high, deep, Read, ◌>>=◌, look, expect_at, named, numbered, room_at, named_at, numbered_at, open_at}
 use Rattle.lex_words.proofs.KeyCodes.{at_key-is}
-use Rattle.lex_words.proofs.Locality.{Agree, Follows, Follows-from, Follows-bind, Follows-later, Follows-cond, Follows-wrong, Follows-spent, Follows-ok, Follows-look, Follows-expect, Follows-more}
+use Rattle.lex_words.proofs.Locality.{Agree, Follows, Follows-from, Follows-bind, Follows-later, Follows-cond, Follows-wrong, Follows-spent, Follows-ok, Follows-look, Follows-expect, Follows-more, Follows-named, Follows-numbered, Follows-room, Follows-open}
 use Rattle.indus_tree.specs.Tree.{Expr, read}
 use Rattle.indus_tree.specs.Height.{expr_height}
 use Rattle.indus_spelling.specs.Operators.{top}
 use Rattle.indus_spelling.specs.declared.operator.Join.{Join}
 use Rattle.indus_spelling.specs.declared.operator.Join.TheVariants.{Binary, Member}
-use Rattle.indus_expressions.specs.Reading.{Reader, is_size, named, sized, numbered, room_at, join_in, named_at, sized_at, numbered_at, open_at, rest_of, all_of, flag_at, numeral_at, index_at, variable_at, count_at, negation_at, inversion_at, cast_at, bracket_at, opened_at, leaf_at, operand_at, right_at, turn, chain, climb, listed_at, tuple_at, head_at, layer, idle, expr_at, inside_of, below_of, under_of}
+use Rattle.indus_expressions.specs.Reading.{Reader, is_size, sized, join_in, sized_at, rest_of, all_of, flag_at, numeral_at, index_at, variable_at, count_at, negation_at, inversion_at, cast_at, bracket_at, opened_at, leaf_at, operand_at, right_at, turn, chain, climb, listed_at, tuple_at, head_at, layer, idle, expr_at, inside_of, below_of, under_of}
 use Rattle.indus_expressions.proofs.Layers.{expr_at-layer}
 use Rattle.indus_expressions.proofs.Heads.{Opened, Grouped, Headed, Head, head_other, head_high, head_deep, head_open}
 
 -- Two readings, of the words ws and vs. Hs: both have the same bound on heights; Bs: on brackets.
 module _ (ws vs : List Word) (Hs Bs : Type 0) where
-  -- ---- names, numbers, heights and brackets
-
-  pub Follows-named : (n m i : ℕ) → Follows ws vs Hs Bs i (named_at ws n i) (named_at vs m i)
-  unfolding named_at look
-  Follows-named n m i = Follows-look ws vs Hs Bs i (λ o. named i (name_in o)) (λ o. named i (name_in o)) (λ o. go (name_in o))
-    where
-      go : (o : Option (List ℕ)) → Follows ws vs Hs Bs i (named i o) (named i o)
-      go None = Follows-wrong ws vs Hs Bs i
-      go (Some s) = Follows-ok ws vs Hs Bs i (i + 1) s (omega arith)
+  -- ---- sizes
 
   pub Follows-sized : (n m i : ℕ) → Follows ws vs Hs Bs i (sized_at ws n i) (sized_at vs m i)
   unfolding sized_at look
@@ -37,38 +29,6 @@ module _ (ws vs : List Word) (Hs Bs : Type 0) where
       go : (o : Option Literal) → Follows ws vs Hs Bs i (sized i o) (sized i o)
       go None = Follows-wrong ws vs Hs Bs i
       go (Some v) = Follows-cond ws vs Hs Bs i (is_size v) _ _ _ _ (Follows-ok ws vs Hs Bs i (i + 1) v.value (omega arith)) (Follows-wrong ws vs Hs Bs i)
-
-  pub Follows-numbered : (n m i : ℕ) → Follows ws vs Hs Bs i (numbered_at ws n i) (numbered_at vs m i)
-  unfolding numbered_at look
-  Follows-numbered n m i = Follows-look ws vs Hs Bs i (λ o. numbered i (number_in o)) (λ o. numbered i (number_in o)) (λ o. go (number_in o))
-    where
-      go : (o : Option Literal) → Follows ws vs Hs Bs i (numbered i o) (numbered i o)
-      go None = Follows-wrong ws vs Hs Bs i
-      go (Some v) = Follows-ok ws vs Hs Bs i (i + 1) v (omega arith)
-
-  -- h and j: heights; b and c: brackets
-  pub Follows-room : (m h j i : ℕ) → h ≤ j → (Hs → h ≡ j) → Follows ws vs Hs Bs i (room_at m h i) (room_at m j i)
-  unfolding room_at
-  Follows-room m h j i le hs = go (nat_lt h m) (nat_lt j m) (ltb-true j m) (λ x. ap (λ (y : ℕ). nat_lt y m) (hs x)) (lt-ltb h m)
-    where
-      go : (x y : Bool) → (y ≡ true → j < m) → (Hs → x ≡ y) → (h < m → x ≡ true) → Follows ws vs Hs Bs i (cond x (Err (high i)) (Ok (m, i))) (cond y (Err (high i)) (Ok (m, i)))
-      go true true p q r = record { shows = (omega arith, λ _ _. refl) }
-      go true false p q r = record { shows = (omega arith, λ _ v. absurd (let e = q v in cc)) }
-      go false true p q r = absurd (let e = r (omega (arith, p refl)) in cc)
-      go false false p q r = Follows-ok ws vs Hs Bs i i m (omega arith)
-
-  pub Follows-open : (n m b c i : ℕ) → b ≤ c → (Bs → b ≡ c) → Follows ws vs Hs Bs i (open_at ws n b i) (open_at vs m c i)
-  unfolding open_at look
-  Follows-open n m b c i le bs =
-      Follows-look ws vs Hs Bs i (λ o. cond (at_key Open o) (cond (nat_lt b 1) (Err (deep i)) (Ok (Open, i + 1))) (Err (wrong i)))
-      (λ o. cond (at_key Open o) (cond (nat_lt c 1) (Err (deep i)) (Ok (Open, i + 1))) (Err (wrong i)))
-      (λ o. Follows-cond ws vs Hs Bs i (at_key Open o) _ _ _ _ (go (nat_lt b 1) (nat_lt c 1) (ltb-true c 1) (λ x. ap (λ (y : ℕ). nat_lt y 1) (bs x)) (lt-ltb b 1)) (Follows-wrong ws vs Hs Bs i))
-    where
-      go : (x y : Bool) → (y ≡ true → c < 1) → (Bs → x ≡ y) → (b < 1 → x ≡ true) → Follows ws vs Hs Bs i (cond x (Err (deep i)) (Ok (Open, i + 1))) (cond y (Err (deep i)) (Ok (Open, i + 1)))
-      go true true p q r = record { shows = (omega arith, λ _ _. refl) }
-      go true false p q r = record { shows = (omega arith, λ _ v. absurd (let e = q v in cc)) }
-      go false true p q r = absurd (let e = r (omega (arith, p refl)) in cc)
-      go false false p q r = Follows-ok ws vs Hs Bs i (i + 1) Open (omega arith)
 
   along : {A : Type 0} (i : ℕ) (r s t : Read A) → r ≡ s → Follows ws vs Hs Bs i s t → Follows ws vs Hs Bs i r t
   along i r s t e f = subst (λ x. Follows ws vs Hs Bs i x t) (sym e) f
@@ -116,32 +76,32 @@ module _ (ws vs : List Word) (Hs Bs : Type 0) where
       Follows-right : (l p : ℕ) (a : Expr) (x : Join) (i : ℕ) → Follows ws vs Hs Bs i (right_at ws n below l p a x i) (right_at vs m below' l p a x i)
       unfolding right_at
       Follows-right l p a (Binary op) i = Follows-bind ws vs Hs Bs i _ _ _ _ (lower l i) (λ x. Follows-ok ws vs Hs Bs x.1 x.1 _ (omega arith))
-      Follows-right l p a Member i = Follows-bind ws vs Hs Bs i _ _ _ _ (Follows-named n m i) (λ s. Follows-ok ws vs Hs Bs s.1 s.1 _ (omega arith))
+      Follows-right l p a Member i = Follows-bind ws vs Hs Bs i _ _ _ _ (Follows-named ws vs Hs Bs n m i) (λ s. Follows-ok ws vs Hs Bs s.1 s.1 _ (omega arith))
 
       Follows-listed : (p : ℕ) (a : Expr) (i : ℕ) → Follows ws vs Hs Bs i (listed_at ws n below p a i) (listed_at vs m below' p a i)
       unfolding listed_at
       Follows-listed p a i =
           Follows-bind ws vs Hs Bs i _ _ _ _ (Follows-rest a i) (λ y. Follows-bind ws vs Hs Bs y.1 _ _ _ _ (Follows-expect ws vs Hs Bs Close y.1) (λ r.
-          Follows-bind ws vs Hs Bs r.1 _ _ _ _ (Follows-expect ws vs Hs Bs In r.1) (λ q. Follows-bind ws vs Hs Bs q.1 _ _ _ _ (Follows-named n m q.1) (λ s. Follows-ok ws vs Hs Bs s.1 s.1 _ (omega arith)))))
+          Follows-bind ws vs Hs Bs r.1 _ _ _ _ (Follows-expect ws vs Hs Bs In r.1) (λ q. Follows-bind ws vs Hs Bs q.1 _ _ _ _ (Follows-named ws vs Hs Bs n m q.1) (λ s. Follows-ok ws vs Hs Bs s.1 s.1 _ (omega arith)))))
 
       -- ---- with a bound on heights
 
       module _ (h j : ℕ) (le : h ≤ j) (hs : Hs → h ≡ j) where
         Follows-roomed : (k i : ℕ) (f g : ℕ → Read Expr) → ((q : ℕ) → Follows ws vs Hs Bs q (f q) (g q)) → Follows ws vs Hs Bs i (room_at k h i >>= λ z. f z.1) (room_at k j i >>= λ z. g z.1)
-        Follows-roomed k i f g e = Follows-bind ws vs Hs Bs i _ _ _ _ (Follows-room k h j i le hs) (λ z. e z.1)
+        Follows-roomed k i f g e = Follows-bind ws vs Hs Bs i _ _ _ _ (Follows-room ws vs Hs Bs k h j i le hs) (λ z. e z.1)
 
         Follows-flag : (v : Bool) (i : ℕ) → Follows ws vs Hs Bs i (flag_at ws n v h i) (flag_at vs m v j i)
         unfolding flag_at
-        Follows-flag v i = Follows-bind ws vs Hs Bs i _ _ _ _ (Follows-room 1 h j i le hs) (λ z. Follows-ok ws vs Hs Bs z.1 (z.1 + 1) _ (omega arith))
+        Follows-flag v i = Follows-bind ws vs Hs Bs i _ _ _ _ (Follows-room ws vs Hs Bs 1 h j i le hs) (λ z. Follows-ok ws vs Hs Bs z.1 (z.1 + 1) _ (omega arith))
 
         Follows-numeral : (i : ℕ) → Follows ws vs Hs Bs i (numeral_at ws n h i) (numeral_at vs m j i)
         unfolding numeral_at
-        Follows-numeral i = Follows-bind ws vs Hs Bs i _ _ _ _ (Follows-numbered n m i) (λ v. Follows-ok ws vs Hs Bs v.1 v.1 _ (omega arith))
+        Follows-numeral i = Follows-bind ws vs Hs Bs i _ _ _ _ (Follows-numbered ws vs Hs Bs n m i) (λ v. Follows-ok ws vs Hs Bs v.1 v.1 _ (omega arith))
 
         Follows-variable : (i : ℕ) → Follows ws vs Hs Bs i (variable_at ws n below h i) (variable_at vs m below' j i)
         unfolding variable_at look
         Follows-variable i =
-            Follows-bind ws vs Hs Bs i _ _ _ _ (Follows-named n m i) (λ s.
+            Follows-bind ws vs Hs Bs i _ _ _ _ (Follows-named ws vs Hs Bs n m i) (λ s.
             Follows-look ws vs Hs Bs s.1 (λ o. cond (at_key SquareOpen o) (room_at 2 h s.1 >>= λ z. index_at ws n below i s.0 z.1) (Ok (read i s.0, s.1)))
             (λ o. cond (at_key SquareOpen o) (room_at 2 j s.1 >>= λ z. index_at vs m below' i s.0 z.1) (Ok (read i s.0, s.1)))
             (λ o. Follows-cond ws vs Hs Bs s.1 (at_key SquareOpen o) _ _ _ _ (Follows-roomed 2 s.1 (index_at ws n below i s.0) (index_at vs m below' i s.0) (Follows-index i s.0)) (Follows-ok ws vs Hs Bs s.1 s.1 _ (omega arith))))
@@ -189,8 +149,8 @@ module _ (ws vs : List Word) (Hs Bs : Type 0) where
           Follows-count : (i : ℕ) → Follows ws vs Hs Bs i (count_at ws n b i) (count_at vs m c i)
           unfolding count_at
           Follows-count i =
-              Follows-bind ws vs Hs Bs i _ _ _ _ (Follows-expect ws vs Hs Bs Length i) (λ a. Follows-bind ws vs Hs Bs a.1 _ _ _ _ (Follows-open n m b c a.1 be bs) (λ d.
-              Follows-bind ws vs Hs Bs d.1 _ _ _ _ (Follows-named n m d.1) (λ s. Follows-bind ws vs Hs Bs s.1 _ _ _ _ (Follows-expect ws vs Hs Bs Close s.1) (λ e. Follows-ok ws vs Hs Bs e.1 e.1 _ (omega arith)))))
+              Follows-bind ws vs Hs Bs i _ _ _ _ (Follows-expect ws vs Hs Bs Length i) (λ a. Follows-bind ws vs Hs Bs a.1 _ _ _ _ (Follows-open ws vs Hs Bs n m b c a.1 be bs) (λ d.
+              Follows-bind ws vs Hs Bs d.1 _ _ _ _ (Follows-named ws vs Hs Bs n m d.1) (λ s. Follows-bind ws vs Hs Bs s.1 _ _ _ _ (Follows-expect ws vs Hs Bs Close s.1) (λ e. Follows-ok ws vs Hs Bs e.1 e.1 _ (omega arith)))))
 
           module _ (inside inside' : Reader) (within : FollowsR inside inside') where
             -- what stands in brackets, by a reader of its own
@@ -209,7 +169,7 @@ module _ (ws vs : List Word) (Hs Bs : Type 0) where
 
             Follows-opened : (i : ℕ) → Follows ws vs Hs Bs i (opened_at ws n inside below h b i) (opened_at vs m inside' below' j c i)
             unfolding opened_at
-            Follows-opened i = Follows-bind ws vs Hs Bs i _ _ _ _ (Follows-open n m b c i be bs) (λ a. Follows-behind i a.1)
+            Follows-opened i = Follows-bind ws vs Hs Bs i _ _ _ _ (Follows-open ws vs Hs Bs n m b c i be bs) (λ a. Follows-behind i a.1)
 
             Follows-operand : (i : ℕ) → Follows ws vs Hs Bs i (operand_at ws n inside below h b i) (operand_at vs m inside' below' j c i)
             unfolding operand_at look

@@ -9,14 +9,14 @@ use Rattle.lex_words.specs.Seen.{Word, name, number, key, at_key}
 use Rattle.lex_words.specs.Reading.{Read, ◌>>=◌, expect_at}
 use Rattle.lex_words.proofs.KeyCodes.{at_key-is}
 use Rattle.lex_words.proofs.Standing.{Stands-length}
-use Rattle.lex_words.proofs.Spelled.{Reads, Reads-bind, Reads-map, Reads-ok, Reads-cond, Reads-expect}
+use Rattle.lex_words.proofs.Spelled.{Reads, Reads-bind, Reads-map, Reads-ok, Reads-cond, Reads-expect, Reads-room, Reads-named, Reads-open}
 use Rattle.indus_tree.specs.Tree.{Expr, num, member, none, more, exprs_from}
 use Rattle.indus_tree.specs.Height.{expr_height, exprs_height}
 use Rattle.indus_spelling.specs.Operators.{top}
 use Rattle.indus_spelling.specs.Expressions.{Spells, SpellsAll, a_tuple, in_brackets, tighter, last}
 use Rattle.indus_expressions.specs.Reading.{Reader, all_of, listed_at, tuple_at, group_at, head_at, left_at, climb, layer, expr_at, inside_of, below_of, under_of}
 use Rattle.indus_expressions.proofs.Layers.{expr_at-layer}
-use Rattle.indus_expressions.proofs.SoundSteps.{zero_word, some_name, on_level, a_number_up, Reads-room, Reads-named, Reads-open}
+use Rattle.indus_expressions.proofs.SoundSteps.{zero_word, some_name, on_level, a_number_up}
 use Rattle.indus_expressions.proofs.SoundLists.{Low, LowAll, ReadsEach, AreSeveral, then_at, Reads-several, Reads-list}
 use Rattle.indus_expressions.proofs.SoundJoins.{Reads-chain, Reads-climb}
 use Rattle.indus_expressions.proofs.SoundOperands.{Reads-operand}
@@ -50,12 +50,12 @@ module _ (ws : List Word) (n : ℕ) (h b : ℕ) where
   unfolding listed_at
   Reads-listed under g c p i a u eh eb low_under s e low comma =
       Reads-bind ws (λ ts v. AreSeveral ts × SpellsAll (p + 1) (exprs_from ts) (u ++ v)) _ (LowAll g) _ c c b i _ _ (Reads-several ws n under g c low_under (p + 1) i a u s e low comma)
-      (λ ts v al. (member p (exprs_from ts) some_name, key Close ∷ key In ∷ name some_name ∷ [], tuple_behind p ts some_name u v al.0 al.1))
+      (λ ts v al. (member p (exprs_from ts) some_name, key Close ∷ key In ∷ name some_name ∷ [], tuple_behind p ts some_name u v al.0 al.1, λ fits. omega arith))
       (λ x v st al low'.
       let whole : (y : List ℕ) → Spells 7 p (member p (exprs_from x.0) y) (key Open ∷ (u ++ (v ++ key Close ∷ key In ∷ name y ∷ []))) = λ y. tuple_behind p x.0 y u v al.0 al.1 in
-      Reads-expect ws _ _ c b b x.1 Close _ (member p (exprs_from x.0) some_name) (key In ∷ name some_name ∷ []) (ap (λ (z : ℕ). Some z) (sym eb)) (whole some_name)
-      (Reads-expect ws _ _ b b b (x.1 + 1) In _ (member p (exprs_from x.0) some_name) (name some_name ∷ []) refl (whole some_name)
-      (Reads-named ws n _ _ b b (x.1 + 1 + 1) _ (member p (exprs_from x.0) some_name) some_name [] (whole some_name) (λ y w.
+      Reads-expect ws _ _ c b b x.1 Close _ (member p (exprs_from x.0) some_name) (key In ∷ name some_name ∷ []) (ap (λ (z : ℕ). Some z) (sym eb)) (whole some_name) (omega arith)
+      (Reads-expect ws _ _ b b b (x.1 + 1) In _ (member p (exprs_from x.0) some_name) (name some_name ∷ []) refl (whole some_name) (omega arith)
+      (Reads-named ws n _ _ b b (x.1 + 1 + 1) _ (λ y. (member p (exprs_from x.0) y, [], whole y, omega (arith, low', eh))) (λ y w.
       Reads-ok ws _ _ b (x.1 + 1 + 1 + 1) _ (whole y) (omega (arith, low', eh))))))
 
   Reads-tuple : (under : Reader) (c p i : ℕ) (a : Expr) (u : List Word) → b ≡ suc c → ((g : ℕ) → h ≡ suc g → ReadsEach ws under g c)
@@ -77,7 +77,7 @@ module _ (ws : List Word) (n : ℕ) (h b : ℕ) where
     Reads-closed c p i a u eb s e low =
         let one : Spells 0 p a (key Open ∷ (u ++ key Close ∷ [])) = in_brackets s in
         let long : i + 1 ≡ p + length (key Open ∷ (u ++ key Close ∷ [])) = omega (arith, e, length-append u (key Close ∷ [])) in
-        Reads-expect ws _ _ c b b i Close _ a [] (ap (λ (z : ℕ). Some z) (sym eb)) (on_level 7 p a (key Open ∷ (u ++ key Close ∷ [])) one)
+        Reads-expect ws _ _ c b b i Close _ a [] (ap (λ (z : ℕ). Some z) (sym eb)) (on_level 7 p a (key Open ∷ (u ++ key Close ∷ [])) one) (omega arith)
         (Reads-map ws (λ t v. Spells 6 p t ((key Open ∷ (u ++ key Close ∷ [])) ++ v)) _ (Low h) (Low h) b b (i + 1) _
         (λ t v z. tighter (subst (λ w. Spells 6 p t (key Open ∷ w)) (append_assoc u (key Close ∷ []) v) z)) (λ t x. x)
         (Reads-climb ws n below h b lower 6 p (i + 1) a (key Open ∷ (u ++ key Close ∷ [])) one long low))
@@ -87,9 +87,9 @@ module _ (ws : List Word) (n : ℕ) (h b : ℕ) where
     Reads-group i w =
         let short : Spells 7 i (num (i + 1) zero_word) (key Open ∷ number zero_word ∷ key Close ∷ []) = on_level 7 i (num (i + 1) zero_word) (key Open ∷ number zero_word ∷ key Close ∷ []) (in_brackets (a_number_up top (i + 1) zero_word)) in
         Reads-room ws _ _ b b i 1 h _ (key Open) (num (i + 1) zero_word) (number zero_word ∷ key Close ∷ []) w short (λ le.
-        Reads-open ws n _ _ b b i _ (num (i + 1) zero_word) (number zero_word ∷ key Close ∷ []) short (λ c eb.
+        Reads-open ws n _ _ b b i _ (num (i + 1) zero_word) (number zero_word ∷ key Close ∷ []) short (omega arith) (λ c eb.
         Reads-bind ws (Spells top (i + 1)) _ (Low h) _ c c b (i + 1) _ _ (within c eb top (i + 1))
-        (λ a v t. (a, key Close ∷ [], on_level 7 i a (key Open ∷ (v ++ key Close ∷ [])) (in_brackets t)))
+        (λ a v t. (a, key Close ∷ [], on_level 7 i a (key Open ∷ (v ++ key Close ∷ [])) (in_brackets t), λ fits. omega arith))
         (λ x v st t low.
         let long = Stands-length ws (i + 1) x.1 v st in
         Reads-cond ws _ _ c b x.1 (at_key Comma (slice_get ws x.1)) _ _
@@ -114,7 +114,7 @@ module _ (ws : List Word) (n : ℕ) (h b : ℕ) where
     Reads-layer zero i = Reads-operand ws n inside below h b lower within i
     Reads-layer (suc l) i =
         Reads-bind ws (Spells (suc l) i) _ (Low h) _ b b b i _ _ (Reads-left l i _ (Reads-layer l i))
-        (λ a v t. (a, [], rw (append-nil v) t))
+        (λ a v t. (a, [], rw (append-nil v) t, λ fits. omega arith))
         (λ x v st t low. Reads-chain ws n below h b lower l i n x.1 x.0 v t (Stands-length ws i x.1 v st) low)
 
 module _ (ws : List Word) (n : ℕ) where

@@ -10,7 +10,7 @@ use Rattle.lex_words.specs.Brackets.{left_by}
 use Rattle.lex_words.specs.Reading.{high, Read}
 use Rattle.lex_words.proofs.KeyCodes.{at_key-is, found_is_key}
 use Rattle.lex_words.proofs.Standing.{Stands-length}
-use Rattle.lex_words.proofs.Spelled.{Reads, Reads-bind, Reads-map, Reads-word, Reads-high, Reads-ok, Reads-spent, Reads-cond}
+use Rattle.lex_words.proofs.Spelled.{Reads, Reads-bind, Reads-map, Reads-word, Reads-high, Reads-ok, Reads-spent, Reads-cond, Reads-named}
 use Rattle.indus_tree.specs.Tree.{Expr, num, member, binary, none, more}
 use Rattle.indus_tree.specs.Height.{expr_height}
 use Rattle.indus_tree.specs.declared.tree.Op.{Op}
@@ -19,7 +19,7 @@ use Rattle.indus_spelling.specs.declared.operator.Join.{Join}
 use Rattle.indus_spelling.specs.declared.operator.Join.TheVariants.{Binary, Member}
 use Rattle.indus_spelling.specs.Expressions.{Spells, tighter, joined, a_member}
 use Rattle.indus_expressions.specs.Reading.{Reader, of_level, join_in, right_at, turn, chain, climb}
-use Rattle.indus_expressions.proofs.SoundSteps.{zero_word, some_name, a_number_up, Reads-named}
+use Rattle.indus_expressions.proofs.SoundSteps.{zero_word, some_name, a_number_up, expr_tall}
 use Rattle.indus_expressions.proofs.SoundLists.{Low, ReadsEach}
 
 -- ---- what a key joins
@@ -76,16 +76,17 @@ member_at l p a k s u o t =
     subst (λ x. Spells x p (member p (more a none) s) (u ++ key k ∷ name s ∷ [])) (sym m.1)
     (subst (λ (x : Key). Spells 7 p (member p (more a none) s) (u ++ key x ∷ name s ∷ [])) (sym m.0) (a_member s (subst (λ x. Spells x p a u) m.1 t)))
 
--- the shortest right side
-record Finish (l p : ℕ) (u : List Word) (k : Key) : Type 0 where
+-- the shortest right side; m: the height of the left side
+record Finish (l p m : ℕ) (u : List Word) (k : Key) : Type 0 where
   tree : Expr
   rest : List Word
   spells : Spells (suc l) p tree (u ++ key k ∷ rest)
+  tall : expr_height tree ≤ m + 1
 
-finish : (l p q : ℕ) (a : Expr) (k : Key) (x : Join) (u : List Word) → join_at k ≡ level_join (suc l) x → Spells (suc l) p a u → q ≡ p + length u → Finish l p u k
+finish : (l p q : ℕ) (a : Expr) (k : Key) (x : Join) (u : List Word) → join_at k ≡ level_join (suc l) x → Spells (suc l) p a u → q ≡ p + length u → Finish l p (expr_height a) u k
 finish l p q a k (Binary op) u o s e =
-    record { tree = binary p op a (num (q + 1) zero_word); rest = number zero_word ∷ []; spells = joined_at l p q a (num (q + 1) zero_word) k op u (number zero_word ∷ []) o s e (a_number_up l (q + 1) zero_word) }
-finish l p q a k Member u o s e = record { tree = member p (more a none) some_name; rest = name some_name ∷ []; spells = member_at (suc l) p a k some_name u o s }
+    record { tree = binary p op a (num (q + 1) zero_word); rest = number zero_word ∷ []; spells = joined_at l p q a (num (q + 1) zero_word) k op u (number zero_word ∷ []) o s e (a_number_up l (q + 1) zero_word); tall = omega (arith, expr_tall a) }
+finish l p q a k Member u o s e = record { tree = member p (more a none) some_name; rest = name some_name ∷ []; spells = member_at (suc l) p a k some_name u o s; tall = omega (arith, expr_tall a) }
 
 -- ---- the readers
 
@@ -97,10 +98,10 @@ module _ (ws : List Word) (n : ℕ) (below : Reader) (h b : ℕ) (lower : (g : �
   Reads-right l p i a u k (Binary op) o s e lt =
       let g : (g : ℕ) × (h ≡ suc g) = (h - 1, omega arith) in
       Reads-bind ws (Spells l (i + 1)) _ (Low g.0) _ b b b (i + 1) (below l (i + 1)) _ (lower g.0 g.1 l (i + 1))
-      (λ c v t. (binary p op a c, [], rw (append-nil v) (joined_at l p i a c k op u v o s e t)))
+      (λ c v t. (binary p op a c, [], rw (append-nil v) (joined_at l p i a c k op u v o s e t), λ fits. omega arith))
       (λ c v st t low. Reads-ok ws _ _ b c.1 _ (rw (append-nil v) (joined_at l p i a c.0 k op u v o s e t)) (omega (arith, lt, low, g.1)))
   Reads-right l p i a u k Member o s e lt =
-      Reads-named ws n _ _ b b (i + 1) _ (member p (more a none) some_name) some_name [] (member_at (suc l) p a k some_name u o s)
+      Reads-named ws n _ _ b b (i + 1) _ (λ y. (member p (more a none) y, [], member_at (suc l) p a k y u o s, omega (arith, lt)))
       (λ y w. Reads-ok ws _ _ b (i + 1 + 1) _ (member_at (suc l) p a k y u o s) (omega (arith, lt)))
 
   Reads-turn : (l p i : ℕ) (a : Expr) (u : List Word) (o : Option Join) (f : Join → Read Expr) → Spells (suc l) p a u → i ≡ p + length u → expr_height a ≤ h
@@ -123,9 +124,10 @@ module _ (ws : List Word) (n : ℕ) (below : Reader) (h b : ℕ) (lower : (g : �
       Reads-turn l p i a u (join_in (l + 1) (key_in (slice_get ws i))) _ s e low
       (λ x is. let j = join_word (l + 1) (slice_get ws i) x is in (j.0, j.1, j.2 ∙ ap (λ (y : ℕ). level_join y x) (omega arith)))
       (λ x y w o lt.
-      Reads-word ws _ _ b b b i (key y) _ w (join_plain y _ b o)
+      let z = finish l p i a y x u o s e in
+      Reads-word ws _ _ b b b i (key y) _ w (join_plain y _ b o) (z.tree, z.rest, z.spells, omega (arith, z.tall, lt))
       (Reads-bind ws (λ t v. Spells (suc l) p t (u ++ key y ∷ v)) _ (Low h) _ b b b (i + 1) _ _ (Reads-right l p i a u y x o s e lt)
-      (λ t v z. (t, [], rw (append-nil v) z))
+      (λ t v z. (t, [], rw (append-nil v) z, λ fits. omega arith))
       (λ t v st z low'.
       let long : t.1 ≡ p + length (u ++ key y ∷ v) = omega (arith, e, Stands-length ws (i + 1) t.1 v st, length-append u (key y ∷ v)) in
       Reads-map ws _ _ _ _ b b t.1 _ (λ r v' c. subst (λ q. Spells (suc l) p r q) (append_assoc u (key y ∷ v) v') c) (λ r c. c)
@@ -138,7 +140,7 @@ module _ (ws : List Word) (n : ℕ) (below : Reader) (h b : ℕ) (lower : (g : �
   Reads-climb zero p i a u s e low = Reads-ok ws _ _ b i a (rw (append-nil u) s) low
   Reads-climb (suc l) p i a u s e low =
       Reads-bind ws (λ t v. Spells l p t (u ++ v)) _ (Low h) _ b b b i _ _ (Reads-climb l p i a u s e low)
-      (λ t v z. (t, [], rw (append-nil v) (tighter z)))
+      (λ t v z. (t, [], rw (append-nil v) (tighter z), λ fits. omega arith))
       (λ t v st z low'.
       let long : t.1 ≡ p + length (u ++ v) = omega (arith, e, Stands-length ws i t.1 v st, length-append u v) in
       Reads-map ws _ _ _ _ b b t.1 _ (λ r v' c. subst (λ q. Spells (suc l) p r q) (append_assoc u v v') c) (λ r c. c)

@@ -7,12 +7,12 @@ use Rattle.lex_words.specs.declared.key.Key.TheVariants.{True, False, Bit, Lengt
 use Rattle.lex_words.specs.Seen.{Word, name, number, key, name_in, number_in, at_key}
 use Rattle.lex_words.specs.Brackets.{left_by}
 use Rattle.lex_words.proofs.KeyCodes.{at_key-is, name_word, number_word}
-use Rattle.lex_words.proofs.Spelled.{Reads, Reads-bind, Reads-word, Reads-wrong, Reads-ok, Reads-cond, Reads-expect}
+use Rattle.lex_words.proofs.Spelled.{Reads, Reads-bind, Reads-word, Reads-wrong, Reads-ok, Reads-cond, Reads-expect, Reads-room, Reads-named, Reads-numbered, Reads-open}
 use Rattle.indus_tree.specs.Tree.{Expr, num, flag, read, count, index, negation, inversion, cast, exprs_from}
 use Rattle.indus_spelling.specs.Operators.{top, IsSize}
 use Rattle.indus_spelling.specs.Expressions.{Spells, SpellsAll, a_number, a_true, a_false, a_name, an_index, a_length, a_not, an_inversion, a_cast, in_brackets, last}
 use Rattle.indus_expressions.specs.Reading.{Reader, flag_at, numeral_at, index_at, variable_at, count_at, negation_at, inversion_at, cast_at, bracket_at, opened_at, leaf_at, operand_at}
-use Rattle.indus_expressions.proofs.SoundSteps.{zero_word, some_name, zero_size, a_number_up, Reads-room, Reads-named, Reads-numbered, Reads-sized, Reads-open}
+use Rattle.indus_expressions.proofs.SoundSteps.{zero_word, some_name, zero_size, a_number_up, Reads-sized}
 use Rattle.indus_expressions.proofs.SoundLists.{Low, LowAll, ReadsEach, Reads-list}
 
 some_is : {A : Type 0} (o : Option A) → is_some o ≡ true → (x : A) × (o ≡ Some x)
@@ -32,42 +32,42 @@ index_from p i s ts v e al = an_index s (subst (λ x. SpellsAll (x + 1) (exprs_f
 module _ (ws : List Word) (n : ℕ) (inside below : Reader) (h b : ℕ) (lower : (g : ℕ) → h ≡ suc g → ReadsEach ws below g b) (within : (c : ℕ) → b ≡ suc c → ReadsEach ws inside h c) where
   -- where a node may stand above others
   abbrev Room : Type 0
-  Room = (g : ℕ) × (h ≡ suc g)
+  Room = (g : ℕ) × (h ≡ suc g) × (1 ≤ g)
 
   room_is : 2 ≤ h → Room
-  room_is le = (h - 1, omega (arith, le))
+  room_is le = (h - 1, omega (arith, le), omega (arith, le))
 
   Reads-flag : (v : Bool) (w : Word) (i : ℕ) → slice_get ws i ≡ Some w → left_by w b ≡ Some b → Spells 0 i (flag i v) (w ∷ []) → Reads ws (Spells 0 i) (Low h) b b i (flag_at ws n v h i)
   unfolding flag_at
-  Reads-flag v w i e l s = Reads-room ws _ _ b b i 1 h _ w (flag i v) [] e s (λ le. Reads-word ws _ _ b b b i w _ e l (Reads-ok ws _ _ b (i + 1) _ s le))
+  Reads-flag v w i e l s = Reads-room ws _ _ b b i 1 h _ w (flag i v) [] e s (λ le. Reads-word ws _ _ b b b i w _ e l (flag i v, [], s, le) (Reads-ok ws _ _ b (i + 1) _ s le))
 
   Reads-negation : (i : ℕ) → Room → Reads ws (Spells 0 i) (Low h) b b i (negation_at ws n below i)
   unfolding negation_at
   Reads-negation i g =
-      Reads-expect ws _ _ b b b i Not _ (negation i (num (i + 1) zero_word)) (number zero_word ∷ []) refl (a_not (a_number zero_word))
+      Reads-expect ws _ _ b b b i Not _ (negation i (num (i + 1) zero_word)) (number zero_word ∷ []) refl (a_not (a_number zero_word)) (omega arith)
       (Reads-bind ws (Spells 0 (i + 1)) _ (Low g.0) _ b b b (i + 1) _ _ (lower g.0 g.1 0 (i + 1))
-      (λ a v t. (negation i a, [], rw (append-nil v) (a_not t)))
+      (λ a v t. (negation i a, [], rw (append-nil v) (a_not t), λ fits. omega arith))
       (λ x v st t low. Reads-ok ws _ _ b x.1 _ (rw (append-nil v) (a_not t)) (omega (arith, g.1, low))))
 
   Reads-inversion : (i : ℕ) → Room → Reads ws (Spells 0 i) (Low h) b b i (inversion_at ws n below i)
   unfolding inversion_at
   Reads-inversion i g =
-      Reads-expect ws _ _ b b b i Tilde _ (inversion i (num (i + 1) zero_word)) (number zero_word ∷ []) refl (an_inversion (a_number zero_word))
+      Reads-expect ws _ _ b b b i Tilde _ (inversion i (num (i + 1) zero_word)) (number zero_word ∷ []) refl (an_inversion (a_number zero_word)) (omega arith)
       (Reads-bind ws (Spells 0 (i + 1)) _ (Low g.0) _ b b b (i + 1) _ _ (lower g.0 g.1 0 (i + 1))
-      (λ a v t. (inversion i a, [], rw (append-nil v) (an_inversion t)))
+      (λ a v t. (inversion i a, [], rw (append-nil v) (an_inversion t), λ fits. omega arith))
       (λ x v st t low. Reads-ok ws _ _ b x.1 _ (rw (append-nil v) (an_inversion t)) (omega (arith, g.1, low))))
 
   Reads-numeral : (i : ℕ) → 1 ≤ h → Reads ws (Spells 0 i) (Low h) b b i (numeral_at ws n h i)
   unfolding numeral_at
-  Reads-numeral i le = Reads-numbered ws n _ _ b b i _ (num i zero_word) zero_word [] (a_number zero_word) (λ v w. Reads-ok ws _ _ b (i + 1) _ (a_number v) le)
+  Reads-numeral i le = Reads-numbered ws n _ _ b b i _ (λ v. (num i v, [], a_number v, le)) (λ v w. Reads-ok ws _ _ b (i + 1) _ (a_number v) le)
 
   Reads-count : (i : ℕ) → 1 ≤ h → Reads ws (Spells 0 i) (Low h) b b i (count_at ws n b i)
   unfolding count_at
   Reads-count i le =
-      Reads-expect ws _ _ b b b i Length _ (count i some_name) (key Open ∷ name some_name ∷ key Close ∷ []) refl (a_length some_name)
-      (Reads-open ws n _ _ b b (i + 1) _ (count i some_name) (name some_name ∷ key Close ∷ []) (a_length some_name) (λ c e.
-      Reads-named ws n _ _ c b (i + 1 + 1) _ (count i some_name) some_name (key Close ∷ []) (a_length some_name) (λ s w.
-      Reads-expect ws _ _ c b b (i + 1 + 1 + 1) Close _ (count i s) [] (ap (λ (x : ℕ). Some x) (sym e)) (a_length s)
+      Reads-expect ws _ _ b b b i Length _ (count i some_name) (key Open ∷ name some_name ∷ key Close ∷ []) refl (a_length some_name) (omega arith)
+      (Reads-open ws n _ _ b b (i + 1) _ (count i some_name) (name some_name ∷ key Close ∷ []) (a_length some_name) (omega arith) (λ c e.
+      Reads-named ws n _ _ c b (i + 1 + 1) _ (λ s. (count i s, key Close ∷ [], a_length s, le)) (λ s w.
+      Reads-expect ws _ _ c b b (i + 1 + 1 + 1) Close _ (count i s) [] (ap (λ (x : ℕ). Some x) (sym e)) (a_length s) (omega arith)
       (Reads-ok ws _ _ b (i + 1 + 1 + 1 + 1) _ (a_length s) le))))
 
   -- behind the name s at p
@@ -75,16 +75,16 @@ module _ (ws : List Word) (n : ℕ) (inside below : Reader) (h b : ℕ) (lower :
   unfolding index_at
   Reads-index p i s e g =
       Reads-expect ws _ _ b b b i SquareOpen _ (index p s (exprs_from (num (i + 1) zero_word ∷ []))) (number zero_word ∷ key SquareClose ∷ []) refl
-      (index_from p i s (num (i + 1) zero_word ∷ []) (number zero_word ∷ []) e (last (a_number_up top (i + 1) zero_word)))
+      (index_from p i s (num (i + 1) zero_word ∷ []) (number zero_word ∷ []) e (last (a_number_up top (i + 1) zero_word))) (omega arith)
       (Reads-bind ws (λ ts v. SpellsAll (i + 1) (exprs_from ts) v) _ (LowAll g.0) _ b b b (i + 1) _ _ (Reads-list ws n below g.0 b (lower g.0 g.1) (i + 1))
-      (λ ts v al. (index p s (exprs_from ts), key SquareClose ∷ [], index_from p i s ts v e al))
-      (λ x v st al low. Reads-expect ws _ _ b b b x.1 SquareClose _ (index p s (exprs_from x.0)) [] refl (index_from p i s x.0 v e al)
+      (λ ts v al. (index p s (exprs_from ts), key SquareClose ∷ [], index_from p i s ts v e al, λ fits. omega arith))
+      (λ x v st al low. Reads-expect ws _ _ b b b x.1 SquareClose _ (index p s (exprs_from x.0)) [] refl (index_from p i s x.0 v e al) (omega arith)
       (Reads-ok ws _ _ b (x.1 + 1) _ (index_from p i s x.0 v e al) (omega (arith, low, g.1)))))
 
   Reads-variable : (i : ℕ) → 1 ≤ h → Reads ws (Spells 0 i) (Low h) b b i (variable_at ws n below h i)
   unfolding variable_at
   Reads-variable i le =
-      Reads-named ws n _ _ b b i _ (read i some_name) some_name [] (a_name some_name) (λ s w.
+      Reads-named ws n _ _ b b i _ (λ s. (read i s, [], a_name s, le)) (λ s w.
       Reads-cond ws _ _ b b (i + 1) (at_key SquareOpen (slice_get ws (i + 1))) _ _
       (λ e. Reads-room ws _ _ b b (i + 1) 2 h _ (key SquareOpen) (index i s (exprs_from (num (i + 1 + 1) zero_word ∷ []))) (number zero_word ∷ key SquareClose ∷ [])
       (at_key-is SquareOpen (slice_get ws (i + 1)) e) (an_index s (last (a_number_up top (i + 1 + 1) zero_word)))
@@ -97,13 +97,13 @@ module _ (ws : List Word) (n : ℕ) (inside below : Reader) (h b : ℕ) (lower :
   Reads-cast p i c e d g =
       let z = num (i + 1 + 1 + 1 + 1 + 1) zero_word in
       let short : (v : Literal) → IsSize v → Spells 0 p (cast p v.value z) (cast_words v (number zero_word ∷ [])) = λ v size. cast_from p i v z (number zero_word ∷ []) size e (a_number zero_word) in
-      Reads-expect ws _ _ c c b i Bit _ (cast p 0 z) _ refl (short zero_word zero_size)
-      (Reads-expect ws _ _ c c b (i + 1) Less _ (cast p 0 z) _ refl (short zero_word zero_size)
-      (Reads-sized ws n _ _ c b (i + 1 + 1) _ (cast p 0 z) zero_word _ (short zero_word zero_size) (λ v size w.
-      Reads-expect ws _ _ c c b (i + 1 + 1 + 1) More _ (cast p v.value z) _ refl (short v size)
-      (Reads-expect ws _ _ c b b (i + 1 + 1 + 1 + 1) Close _ (cast p v.value z) _ (ap (λ (x : ℕ). Some x) (sym d)) (short v size)
+      Reads-expect ws _ _ c c b i Bit _ (cast p 0 z) _ refl (short zero_word zero_size) (omega arith)
+      (Reads-expect ws _ _ c c b (i + 1) Less _ (cast p 0 z) _ refl (short zero_word zero_size) (omega arith)
+      (Reads-sized ws n _ _ c b (i + 1 + 1) _ (λ v size. (cast p v.value z, key More ∷ key Close ∷ number zero_word ∷ [], short v size, omega (arith, g.1, g.2))) (λ v size w.
+      Reads-expect ws _ _ c c b (i + 1 + 1 + 1) More _ (cast p v.value z) _ refl (short v size) (omega arith)
+      (Reads-expect ws _ _ c b b (i + 1 + 1 + 1 + 1) Close _ (cast p v.value z) _ (ap (λ (x : ℕ). Some x) (sym d)) (short v size) (omega arith)
       (Reads-bind ws (Spells 0 (i + 1 + 1 + 1 + 1 + 1)) _ (Low g.0) _ b b b (i + 1 + 1 + 1 + 1 + 1) _ _ (lower g.0 g.1 0 (i + 1 + 1 + 1 + 1 + 1))
-      (λ a u t. (cast p v.value a, [], rw (append-nil u) (cast_from p i v a u size e t)))
+      (λ a u t. (cast p v.value a, [], rw (append-nil u) (cast_from p i v a u size e t), λ fits. omega arith))
       (λ x u st t low. Reads-ok ws _ _ b x.1 _ (rw (append-nil u) (cast_from p i v x.0 u size e t)) (omega (arith, low, g.1))))))))
 
   Reads-bracket : (p i c : ℕ) → i ≡ p + 1 → b ≡ suc c → Reads ws (λ t v. Spells 0 p t (key Open ∷ v)) (Low h) c b i (bracket_at ws n inside i)
@@ -111,14 +111,14 @@ module _ (ws : List Word) (n : ℕ) (inside below : Reader) (h b : ℕ) (lower :
   Reads-bracket p i c e d =
       let at : (a : Expr) (v : List Word) → Spells top i a v → Spells 0 p a (key Open ∷ (v ++ key Close ∷ [])) = λ a v t. in_brackets (subst (λ x. Spells top x a v) e t) in
       Reads-bind ws (Spells top i) _ (Low h) _ c c b i _ _ (within c d top i)
-      (λ a v t. (a, key Close ∷ [], at a v t))
-      (λ x v st t low. Reads-expect ws _ _ c b b x.1 Close _ x.0 [] (ap (λ (z : ℕ). Some z) (sym d)) (at x.0 v t)
+      (λ a v t. (a, key Close ∷ [], at a v t, λ fits. omega arith))
+      (λ x v st t low. Reads-expect ws _ _ c b b x.1 Close _ x.0 [] (ap (λ (z : ℕ). Some z) (sym d)) (at x.0 v t) (omega arith)
       (Reads-ok ws _ _ b (x.1 + 1) _ (at x.0 v t) low))
 
   Reads-opened : (i : ℕ) → 1 ≤ h → Reads ws (Spells 0 i) (Low h) b b i (opened_at ws n inside below h b i)
   unfolding opened_at
   Reads-opened i le =
-      Reads-open ws n _ _ b b i _ (num (i + 1) zero_word) (number zero_word ∷ key Close ∷ []) (in_brackets (a_number_up top (i + 1) zero_word)) (λ c d.
+      Reads-open ws n _ _ b b i _ (num (i + 1) zero_word) (number zero_word ∷ key Close ∷ []) (in_brackets (a_number_up top (i + 1) zero_word)) (omega arith) (λ c d.
       Reads-cond ws _ _ c b (i + 1) (at_key Bit (slice_get ws (i + 1))) _ _
       (λ e. Reads-room ws _ _ c b (i + 1) 2 h _ (key Bit) (cast i 0 (num (i + 1 + 1 + 1 + 1 + 1 + 1) zero_word)) (key Less ∷ number zero_word ∷ key More ∷ key Close ∷ number zero_word ∷ [])
       (at_key-is Bit (slice_get ws (i + 1)) e) (a_cast zero_word zero_size (a_number zero_word))

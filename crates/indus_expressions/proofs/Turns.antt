@@ -1,10 +1,10 @@
 -- The turns of the code's loops.
-use Rattle.std.proofs.Common.{◌≡◌, ℕ, zero, suc, ◌+◌, ◌-◌, ◌≤◌, ◌<◌, max, true, false, List, [], ◌∷◌, ◌++◌, Some, None, Result, Ok, Err, refl, ap, arith}
+use Rattle.std.proofs.Common.{◌≡◌, ℕ, zero, suc, ◌+◌, ◌-◌, ◌≤◌, ◌<◌, max, true, false, List, [], ◌∷◌, ◌++◌, Option, Some, None, Ok, Err, refl, sym, ap, ◌∙◌, arith}
 use Rattle.std.proofs.lemmas.Bool.{le-leb, lt-leb}
 use Rattle.std.specs.Prelude.{slice_get, nat_le}
 use Rattle.lex_words.specs.declared.key.Key.TheVariants.{Comma}
 use Rattle.lex_words.specs.Seen.{Word, key_in}
-use Rattle.lex_words.specs.Reading.{Fault, high, Read, ◌>>=◌, more_of}
+use Rattle.lex_words.specs.Reading.{high, Read, ◌>>=◌, more_of}
 use Rattle.lex_words.proofs.Loops.{Front}
 use Rattle.indus_tree.specs.Tree.{Expr, exprs_from}
 use Rattle.indus_tree.specs.Height.{expr_height, exprs_height}
@@ -12,6 +12,14 @@ use Rattle.indus_spelling.specs.Operators.{top}
 use Rattle.indus_spelling.specs.declared.operator.Join.{Join}
 use Rattle.indus_expressions.specs.Reading.{Reader, join_in, right_at, rest_of, chain, expr_at, below_of}
 use Rattle.indus_expressions.proofs.Layers.{below_is}
+
+-- the reader of an item of a list
+abbrev pub item_at : (h b : ℕ) → List Word → ℕ → ℕ → Read Expr
+item_at h b ws n i = expr_at ws n h b top i
+
+-- what joins in one list joins in the same list
+pub join_along : (l : ℕ) (vs ws : List Word) (q : ℕ) (o : Option Join) → vs ≡ ws → o ≡ join_in l (key_in (slice_get vs q)) → join_in l (key_in (slice_get ws q)) ≡ o
+join_along l vs ws q o same e = ap (λ v. join_in l (key_in (slice_get v q))) (sym same) ∙ sym e
 
 module _ (ws : List Word) (n h b l p : ℕ) where
   abbrev pub Chain : ℕ → Expr → ℕ → Read Expr
@@ -41,9 +49,6 @@ module _ (ws : List Word) (n : ℕ) (e : Reader) where
   pub rest_front : (a : Expr) (i : ℕ) → rest_of ws n e a i ≡ Front (a ∷ []) (more_of ws Comma (e top) n i)
   unfolding rest_of
   rest_front a i = refl
-
-pub then_ok : {A B : Type 0} (r : Result A Fault) (f : A → Result B Fault) (x : A) → r ≡ Ok x → (r >>= f) ≡ f x
-then_ok r f x e = ap (λ z. z >>= f) e
 
 pub tall_push : (ts : List Expr) (t : Expr) → exprs_height (exprs_from (ts ++ t ∷ [])) ≡ max (exprs_height (exprs_from ts)) (expr_height t)
 tall_push [] t = omega arith

@@ -1,11 +1,10 @@
 -- Reading expressions from left to right, with one word of choice. A reader gets the words, how many turns each loop may make, how high a tree may be and how many more round brackets may be open.
 use Rattle.std.specs.Prelude.{◌≡◌, ℕ, zero, suc, ◌+◌, ◌≤◌, ◌<◌, Bool, true, false, ◌&&◌, ◌==◌, nat_lt, nat_le, List, ◌∷◌, map, Option, Some, None, is_some, Result, Ok, Err, if◌then◌else◌, slice_get}
 use Rattle.lex_text.specs.declared.literal.Literal.{Literal}
-use Rattle.lex_words.specs.declared.halt.Halt.{Halt}
 use Rattle.lex_words.specs.declared.key.Key.{Key}
 use Rattle.lex_words.specs.declared.key.Key.TheVariants.{True, False, Bit, In, Length, Not, Tilde, Open, Close, SquareOpen, SquareClose, Less, More, Comma}
 use Rattle.lex_words.specs.Seen.{Word, key_in, name_in, number_in, at_key}
-use Rattle.lex_words.specs.Reading.{wrong, high, deep, spent, Read, ◌>>=◌, Gives, expect_at, more_of}
+use Rattle.lex_words.specs.Reading.{wrong, high, spent, Read, ◌>>=◌, expect_at, more_of, room_at, named_at, numbered_at, open_at}
 use Rattle.indus_tree.specs.Tree.{Expr, num, flag, read, count, index, member, negation, inversion, binary, cast, none, more, exprs_from}
 use Rattle.indus_tree.specs.Height.{expr_height, exprs_height}
 use Rattle.indus_tree.specs.View.{expr_of, exprs_of}
@@ -23,23 +22,11 @@ Reader = ℕ → ℕ → Read Expr
 abbrev pub is_size : Literal → Bool
 is_size v = v.width == 0 && nat_le v.value 255
 
--- ---- names and numbers
-
-abbrev pub named : ℕ → Option (List ℕ) → Read (List ℕ)
-named i None = Err (wrong i)
-named i (Some s) = Ok (s, i + 1)
+-- ---- sizes
 
 abbrev pub sized : ℕ → Option Literal → Read ℕ
 sized i None = Err (wrong i)
 sized i (Some v) = if is_size v then Ok (v.value, i + 1) else Err (wrong i)
-
-abbrev pub numbered : ℕ → Option Literal → Read Literal
-numbered i None = Err (wrong i)
-numbered i (Some v) = Ok (v, i + 1)
-
--- a tree of height m at least, where it may be h high
-unfoldable pub room_at : (m h i : ℕ) → Read ℕ
-room_at m h i = if nat_lt h m then Err (high i) else Ok (m, i)
 
 -- what joins of this level
 abbrev pub of_level : ℕ → Option (ℕ × Join) → Option Join
@@ -51,18 +38,8 @@ join_in l None = None
 join_in l (Some k) = of_level l (join_at k)
 
 module _ (ws : List Word) (n : ℕ) where
-  unfoldable pub named_at : ℕ → Read (List ℕ)
-  named_at i = named i (name_in (slice_get ws i))
-
   unfoldable pub sized_at : ℕ → Read ℕ
   sized_at i = sized i (number_in (slice_get ws i))
-
-  unfoldable pub numbered_at : ℕ → Read Literal
-  numbered_at i = numbered i (number_in (slice_get ws i))
-
-  -- "(", where b more may be opened
-  unfoldable pub open_at : (b i : ℕ) → Read Key
-  open_at b i = if at_key Open (slice_get ws i) then (if nat_lt b 1 then Err (deep i) else Ok (Open, i + 1)) else Err (wrong i)
 
   -- ---- operands
 
@@ -87,7 +64,7 @@ module _ (ws : List Word) (n : ℕ) where
   -- NUMBER
   unfoldable pub numeral_at : (h i : ℕ) → Read Expr
   numeral_at h i = do
-    v ← numbered_at i
+    v ← numbered_at ws n i
     Ok (num i v.0, v.1)
 
   -- "[" expr { "," expr } "]" behind the name s at p
@@ -101,15 +78,15 @@ module _ (ws : List Word) (n : ℕ) where
   -- NAME, perhaps with an index
   unfoldable pub variable_at : Reader → (h i : ℕ) → Read Expr
   variable_at below h i = do
-    s ← named_at i
+    s ← named_at ws n i
     (if at_key SquareOpen (slice_get ws s.1) then (room_at 2 h s.1 >>= λ z. index_at below i s.0 z.1) else Ok (read i s.0, s.1))
 
   -- "length" "(" NAME ")"
   unfoldable pub count_at : (b i : ℕ) → Read Expr
   count_at b i = do
     a ← expect_at ws Length i
-    c ← open_at b a.1
-    s ← named_at c.1
+    c ← open_at ws n b a.1
+    s ← named_at ws n c.1
     d ← expect_at ws Close s.1
     Ok (count i s.0, d.1)
 
@@ -148,7 +125,7 @@ module _ (ws : List Word) (n : ℕ) where
   -- a cast, or an expression in brackets
   unfoldable pub opened_at : (inside below : Reader) → (h b i : ℕ) → Read Expr
   opened_at inside below h b i = do
-    a ← open_at b i
+    a ← open_at ws n b i
     (if at_key Bit (slice_get ws a.1) then (room_at 2 h a.1 >>= λ z. cast_at below i z.1) else bracket_at inside a.1)
 
   unfoldable pub leaf_at : Reader → (h i : ℕ) → Read Expr
@@ -172,7 +149,7 @@ module _ (ws : List Word) (n : ℕ) where
     x ← below l i
     Ok (binary p op a x.0, x.1)
   right_at below l p a Member i = do
-    s ← named_at i
+    s ← named_at ws n i
     Ok (member p (more a none) s.0, s.1)
 
   -- one turn of a chain: the end, or what goes on behind an operator
@@ -197,7 +174,7 @@ module _ (ws : List Word) (n : ℕ) where
     y ← rest_of below a i
     r ← expect_at ws Close y.1
     q ← expect_at ws In r.1
-    s ← named_at q.1
+    s ← named_at ws n q.1
     Ok (member p (exprs_from y.0) s.0, s.1)
 
   -- the same, where the whole may be h high
@@ -210,7 +187,7 @@ module _ (ws : List Word) (n : ℕ) where
   unfoldable pub group_at : (inside below under : Reader) → (h b i : ℕ) → Read Expr
   group_at inside below under h b i = do
     z ← room_at 1 h i
-    a ← open_at b z.1
+    a ← open_at ws n b z.1
     x ← inside top a.1
     (if at_key Comma (slice_get ws x.1) then tuple_at under h i x.0 x.1 else (expect_at ws Close x.1 >>= λ r. climb below h i 6 x.0 r.1))
 
@@ -255,21 +232,17 @@ module _ (ws : List Word) (n : ℕ) where
 
 -- ---- what the code finds
 
-abbrev pub GivesTree : Result Found Halt → Read Expr → Type 0
-GivesTree result r = Gives (λ (x : Found). (expr_of x.tree, x.next)) result r
+abbrev pub tree_of : Found → Expr
+tree_of x = expr_of x.tree
 
-abbrev pub GivesTrees : Result FoundAll Halt → Read (List Expr) → Type 0
-GivesTrees result r = Gives (λ (x : FoundAll). (map expr_of x.trees.items, x.next)) result r
+abbrev pub trees_of : FoundAll → List Expr
+trees_of x = map expr_of x.trees.items
 
--- a tree that is read is at most h high, and ends inside the list
-pub record IsRead (h i n : ℕ) (x : Found) : Type 0 where
-  pub behind : i < x.next
+-- the height is the tree's, and at most h
+pub record IsLow (h : ℕ) (x : Found) : Type 0 where
   pub tall : x.height ≡ expr_height (expr_of x.tree)
   pub low : x.height ≤ h
-  pub inside : x.next ≤ n
 
-pub record AreRead (h i n : ℕ) (x : FoundAll) : Type 0 where
-  pub behind : i ≤ x.next
+pub record AreLow (h : ℕ) (x : FoundAll) : Type 0 where
   pub tall : x.height ≡ exprs_height (exprs_of x.trees.items)
   pub low : x.height ≤ h
-  pub inside : x.next ≤ n

@@ -1,30 +1,25 @@
 //! Reading what is joined.
 
-ghost use Rattle.std.specs.Prelude.{◌≡◌, ◌+◌, ◌-◌, ◌≤◌, ◌<◌, length, slice_get, IfOk, OnSome};
-ghost use Rattle.lex_text.specs.Places.{AreIn};
-ghost use Rattle.lex_text.specs.declared.token.Words.TheVariants.{Indus};
-ghost use Rattle.lex_words.specs.Seen.{words_of, key_in};
-ghost use Rattle.lex_words.specs.Written.{AreWords};
+ghost use Rattle.std.specs.Prelude.{◌≡◌, ◌+◌, ◌≤◌, ◌<◌, length, slice_get, IfOk, OnSome};
+ghost use Rattle.lex_words.specs.Moving.{Moves, Stays};
+ghost use Rattle.lex_words.specs.Seen.{key_in};
 ghost use Rattle.indus_tree.specs.View.{expr_of};
-ghost use Rattle.indus_tree.specs.Height.{expr_height};
-ghost use Rattle.indus_expressions.specs.Reading.{AreRead, GivesTree, GivesTrees, IsRead, all_of, below_of, rest_of, chain as chain_at, climb as climb_at, expr_at, group_at, head_at, inside_of, join_in, listed_at, right_at, tuple_at, under_of};
+ghost use Rattle.indus_expressions.specs.Reading.{AreLow, IsLow, all_of, below_of, rest_of, chain as chain_at, climb as climb_at, expr_at, group_at, head_at, inside_of, join_in, listed_at, right_at, tree_of, trees_of, tuple_at, under_of};
 
 use crate::found::{Found, FoundAll};
-use crate::names::{expect, is, name, open, room};
 use crate::operand::operand;
 use indus_spelling::{Join, join_of};
 use indus_tree::Expr;
-use lex_text::{Token, Words};
-use lex_words::{Halt, Key, key_at};
+use lex_words::{Cursor, Halt, Key};
 use std::alloc::Global;
 
 /// What joins on this level, if it stands here.
-fn join(text: &[u8], list: &[Token], at: usize, level: u8) -> Option<Join>
-    requires { AreIn text.now list.now }
-    ensures value { result ≡ join_in level (key_in (slice_get (words_of Indus text.now list.now) at)) }
-    ensures inside { OnSome result (at < length list.now) }
+fn join(tokens: &Cursor, level: u8) -> Option<Join>
+    ensures value { result ≡ join_in level (key_in (slice_get tokens.now.words tokens.now.at)) }
+    ensures inside { OnSome result (tokens.now.at < length tokens.now.words) }
+    ensures within { tokens.now.at ≤ length tokens.now.words }
 {
-    let (found, join) = join_of(key_at(Words::Indus, text, list, at)?)?;
+    let (found, join) = join_of(tokens.key()?)?;
     if found == level { Some(join) } else { None }
 }
 
@@ -34,96 +29,68 @@ fn join(text: &[u8], list: &[Token], at: usize, level: u8) -> Option<Join>
 #[cycle(read)]
 fn right(
     alloc: Global,
-    text: &[u8],
-    list: &[Token],
-    start: usize,
+    tokens: &mut Cursor,
+    start: u32,
     left: Found,
     join: Join,
-    at: usize,
     level: u8,
     height: u16,
     brackets: u16,
 ) -> Result<Found, Halt>
-    requires fits { AreIn text.now list.now }
-    requires fair { AreWords Indus (words_of Indus text.now list.now) }
-    requires short { length list.now ≤ 65536 }
-    requires inside { at ≤ length list.now }
     requires low { height ≤ 256 }
-    requires few { brackets ≤ 256 }
     requires level { level ≤ 10 }
-    requires tall { left.height ≡ expr_height (expr_of left.tree) }
-    requires fits_below { left.height ≤ height }
-    requires before { start < at }
-    ensures gives { GivesTree result (right_at (words_of Indus text.now list.now) (length list.now + 1) (expr_at (words_of Indus text.now list.now) (length list.now + 1) height brackets) level start (expr_of left.tree) join at) }
-    ensures is_read { IfOk result (IsRead (height + 1) at (length list.now)) }
+    requires left { IsLow height left }
+    ensures reads { Moves tree_of (λ ws n. right_at ws n (expr_at ws n height brackets) level start (expr_of left.tree) join) tokens.old result tokens.new }
+    ensures low { IfOk result (IsLow (height + 1)) }
 {
     match join {
         Join::Binary(op) => {
-            let other = expr(alloc, text, list, at, level, height, brackets)?;
+            let other = expr(alloc, tokens, level, height, brackets)?;
             let tall = left.height.max(other.height) + 1;
             let a = Box::new(alloc, left.tree)?;
             let b = Box::new(alloc, other.tree)?;
             Ok(Found {
-                tree: Expr::Bin(start as u32, op, a, b),
-                next: other.next,
+                tree: Expr::Bin(start, op, a, b),
                 height: tall,
             })
         }
         Join::Member => {
-            let (set, next) = name(alloc, text, list, at)?;
+            let set = tokens.name(alloc)?;
             let tall = left.height + 1;
             let mut keys = Vec::new(alloc);
             keys.push(left.tree)?;
             Ok(Found {
-                tree: Expr::Member(start as u32, keys, set),
-                next,
+                tree: Expr::Member(start, keys, set),
                 height: tall,
             })
         }
     }
 }
 
-/// What is joined behind a left side, which begins at `at`. `level` is that of right sides.
+/// What is joined behind a left side, which begins at `start`. `level` is that of right sides.
 #[cycle(read)]
 fn chain(
     alloc: Global,
-    text: &[u8],
-    list: &[Token],
-    at: usize,
+    tokens: &mut Cursor,
+    start: u32,
     first: Found,
     level: u8,
     height: u16,
     brackets: u16,
 ) -> Result<Found, Halt>
-    requires fits { AreIn text.now list.now }
-    requires fair { AreWords Indus (words_of Indus text.now list.now) }
-    requires short { length list.now ≤ 65536 }
-    requires inside { at ≤ length list.now }
     requires low { height ≤ 256 }
-    requires few { brackets ≤ 256 }
     requires level { level ≤ 9 }
-    requires is_read { IsRead height at (length list.now) first }
-    ensures gives { GivesTree result (chain_at (words_of Indus text.now list.now) (length list.now + 1) (below_of (words_of Indus text.now list.now) (length list.now + 1) height brackets) height level at (length list.now + 1) (expr_of first.tree) first.next) }
-    ensures is_read { IfOk result (IsRead height at (length list.now)) }
+    requires first { IsLow height first }
+    ensures reads { Stays tree_of (λ ws n. chain_at ws n (below_of ws n height brackets) height level start n (expr_of first.tree)) tokens.old result tokens.new }
+    ensures low { IfOk result (IsLow height) }
 {
     let mut left = first;
-    'turns: while let Some(found) = join(text, list, left.next, level + 1) {
+    'turns: while let Some(found) = join(tokens, level + 1) {
         if height <= left.height {
-            return Err(Halt::High(left.next));
+            return Err(Halt::High(tokens.at()));
         }
-        let next = left.next + 1;
-        left = right(
-            alloc,
-            text,
-            list,
-            at,
-            left,
-            found,
-            next,
-            level,
-            height - 1,
-            brackets,
-        )?;
+        tokens.skip();
+        left = right(alloc, tokens, start, left, found, level, height - 1, brackets)?;
     }
     Ok(left)
 }
@@ -133,30 +100,25 @@ fn chain(
 #[cycle(read)]
 fn climb(
     alloc: Global,
-    text: &[u8],
-    list: &[Token],
-    at: usize,
+    tokens: &mut Cursor,
+    start: u32,
     first: Found,
     level: u8,
     height: u16,
     brackets: u16,
 ) -> Result<Found, Halt>
-    requires fits { AreIn text.now list.now }
-    requires fair { AreWords Indus (words_of Indus text.now list.now) }
-    requires short { length list.now ≤ 65536 }
-    requires inside { at ≤ length list.now }
     requires low { height ≤ 256 }
-    requires few { brackets ≤ 256 }
     requires level { level ≤ 6 }
-    requires is_read { IsRead height at (length list.now) first }
-    ensures gives { GivesTree result (climb_at (words_of Indus text.now list.now) (length list.now + 1) (below_of (words_of Indus text.now list.now) (length list.now + 1) height brackets) height at level (expr_of first.tree) first.next) }
-    ensures is_read { IfOk result (IsRead height at (length list.now)) }
+    requires first { IsLow height first }
+    ensures reads { Stays tree_of (λ ws n. climb_at ws n (below_of ws n height brackets) height start level (expr_of first.tree)) tokens.old result tokens.new }
+    ensures low { IfOk result (IsLow height) }
 {
     if level == 0 {
+        let _ = tokens.at();
         return Ok(first);
     }
-    let left = climb(alloc, text, list, at, first, level - 1, height, brackets)?;
-    chain(alloc, text, list, at, left, level - 1, height, brackets)
+    let left = climb(alloc, tokens, start, first, level - 1, height, brackets)?;
+    chain(alloc, tokens, start, left, level - 1, height, brackets)
 }
 
 /// The rest of a tuple behind its first value, and `in` with a name. The tuple's bracket is at
@@ -165,33 +127,23 @@ fn climb(
 #[cycle(read)]
 fn listed(
     alloc: Global,
-    text: &[u8],
-    list: &[Token],
-    start: usize,
+    tokens: &mut Cursor,
+    start: u32,
     first: Found,
-    at: usize,
     height: u16,
     brackets: u16,
 ) -> Result<Found, Halt>
-    requires fits { AreIn text.now list.now }
-    requires fair { AreWords Indus (words_of Indus text.now list.now) }
-    requires short { length list.now ≤ 65536 }
-    requires inside { at ≤ length list.now }
     requires low { height ≤ 256 }
-    requires few { brackets ≤ 256 }
-    requires tall { first.height ≡ expr_height (expr_of first.tree) }
-    requires fits_here { first.height ≤ height }
-    requires before { start < at }
-    ensures gives { GivesTree result (listed_at (words_of Indus text.now list.now) (length list.now + 1) (expr_at (words_of Indus text.now list.now) (length list.now + 1) height brackets) start (expr_of first.tree) at) }
-    ensures is_read { IfOk result (IsRead (height + 1) at (length list.now)) }
+    requires first { IsLow height first }
+    ensures reads { Moves tree_of (λ ws n. listed_at ws n (expr_at ws n height brackets) start (expr_of first.tree)) tokens.old result tokens.new }
+    ensures low { IfOk result (IsLow (height + 1)) }
 {
-    let keys = others(alloc, text, list, first, at, height, brackets)?;
-    let next = expect(text, list, keys.next, Key::Close)?;
-    let next = expect(text, list, next, Key::In)?;
-    let (set, next) = name(alloc, text, list, next)?;
+    let keys = others(alloc, tokens, first, height, brackets)?;
+    tokens.expect(Key::Close)?;
+    tokens.expect(Key::In)?;
+    let set = tokens.name(alloc)?;
     Ok(Found {
-        tree: Expr::Member(start as u32, keys.trees, set),
-        next,
+        tree: Expr::Member(start, keys.trees, set),
         height: keys.height + 1,
     })
 }
@@ -201,65 +153,45 @@ fn listed(
 #[cycle(read)]
 fn tuple(
     alloc: Global,
-    text: &[u8],
-    list: &[Token],
-    start: usize,
+    tokens: &mut Cursor,
+    start: u32,
     first: Found,
-    at: usize,
     height: u16,
     brackets: u16,
 ) -> Result<Found, Halt>
-    requires fits { AreIn text.now list.now }
-    requires fair { AreWords Indus (words_of Indus text.now list.now) }
-    requires short { length list.now ≤ 65536 }
-    requires inside { at ≤ length list.now }
     requires low { height ≤ 256 }
-    requires few { brackets ≤ 256 }
-    requires tall { first.height ≡ expr_height (expr_of first.tree) }
-    requires fits_here { first.height ≤ height }
-    requires before { start < at }
-    ensures gives { GivesTree result (tuple_at (words_of Indus text.now list.now) (length list.now + 1) (below_of (words_of Indus text.now list.now) (length list.now + 1) height brackets) height start (expr_of first.tree) at) }
-    ensures is_read { IfOk result (IsRead height at (length list.now)) }
+    requires first { IsLow height first }
+    ensures reads { Moves tree_of (λ ws n. tuple_at ws n (below_of ws n height brackets) height start (expr_of first.tree)) tokens.old result tokens.new }
+    ensures low { IfOk result (IsLow height) }
 {
-    room(at, height, first.height + 1)?;
-    listed(alloc, text, list, start, first, at, height - 1, brackets)
+    tokens.room(height, first.height + 1)?;
+    listed(alloc, tokens, start, first, height - 1, brackets)
 }
 
 /// What stands behind a first expression, with commas before each.
 #[cycle(read)]
 fn others(
     alloc: Global,
-    text: &[u8],
-    list: &[Token],
+    tokens: &mut Cursor,
     first: Found,
-    at: usize,
     height: u16,
     brackets: u16,
 ) -> Result<FoundAll, Halt>
-    requires fits { AreIn text.now list.now }
-    requires fair { AreWords Indus (words_of Indus text.now list.now) }
-    requires short { length list.now ≤ 65536 }
-    requires inside { at ≤ length list.now }
     requires low { height ≤ 256 }
-    requires few { brackets ≤ 256 }
-    requires tall { first.height ≡ expr_height (expr_of first.tree) }
-    requires fits_here { first.height ≤ height }
-    ensures gives { GivesTrees result (rest_of (words_of Indus text.now list.now) (length list.now + 1) (expr_at (words_of Indus text.now list.now) (length list.now + 1) height brackets) (expr_of first.tree) at) }
-    ensures is_read { IfOk result (AreRead height at (length list.now)) }
+    requires first { IsLow height first }
+    ensures reads { Stays trees_of (λ ws n. rest_of ws n (expr_at ws n height brackets) (expr_of first.tree)) tokens.old result tokens.new }
+    ensures low { IfOk result (AreLow height) }
 {
     let mut tall = first.height;
-    let mut next = at;
     let mut trees = Vec::new(alloc);
     trees.push(first.tree)?;
-    'items: while is(text, list, next, Key::Comma) {
-        let other = expr(alloc, text, list, next + 1, 10, height, brackets)?;
+    'items: while tokens.eat(Key::Comma) {
+        let other = expr(alloc, tokens, 10, height, brackets)?;
         trees.push(other.tree)?;
         tall = tall.max(other.height);
-        next = other.next;
     }
     Ok(FoundAll {
         trees,
-        next,
         height: tall,
     })
 }
@@ -269,24 +201,16 @@ fn others(
 #[cycle(read)]
 pub fn list_of(
     alloc: Global,
-    text: &[u8],
-    list: &[Token],
-    at: usize,
+    tokens: &mut Cursor,
     height: u16,
     brackets: u16,
 ) -> Result<FoundAll, Halt>
-    requires fits { AreIn text.now list.now }
-    requires fair { AreWords Indus (words_of Indus text.now list.now) }
-    requires short { length list.now ≤ 65536 }
-    requires inside { at ≤ length list.now }
-    requires low { height ≤ 256 }
-    requires few { brackets ≤ 256 }
-    ensures gives { GivesTrees result (all_of (words_of Indus text.now list.now) (length list.now + 1) (expr_at (words_of Indus text.now list.now) (length list.now + 1) height brackets) at) }
-    ensures is_read { IfOk result (AreRead height at (length list.now)) }
+    requires { height ≤ 256 }
+    ensures reads { Moves trees_of (λ ws n. all_of ws n (expr_at ws n height brackets)) tokens.old result tokens.new }
+    ensures low { IfOk result (AreLow height) }
 {
-    let first = expr(alloc, text, list, at, 10, height, brackets)?;
-    let next = first.next;
-    others(alloc, text, list, first, next, height, brackets)
+    let first = expr(alloc, tokens, 10, height, brackets)?;
+    others(alloc, tokens, first, height, brackets)
 }
 
 /// An expression in brackets and what is joined behind it up to level 6, or a tuple and `in`.
@@ -294,35 +218,23 @@ pub fn list_of(
 #[cycle(read)]
 fn group(
     alloc: Global,
-    text: &[u8],
-    list: &[Token],
-    at: usize,
+    tokens: &mut Cursor,
     height: u16,
     brackets: u16,
 ) -> Result<Found, Halt>
-    requires fits { AreIn text.now list.now }
-    requires fair { AreWords Indus (words_of Indus text.now list.now) }
-    requires short { length list.now ≤ 65536 }
-    requires inside { at ≤ length list.now }
-    requires low { height ≤ 256 }
-    requires few { brackets ≤ 256 }
-    ensures gives { GivesTree result (group_at (words_of Indus text.now list.now) (length list.now + 1) (inside_of (words_of Indus text.now list.now) (length list.now + 1) height brackets) (below_of (words_of Indus text.now list.now) (length list.now + 1) height brackets) (under_of (words_of Indus text.now list.now) (length list.now + 1) height brackets) height brackets at) }
-    ensures is_read { IfOk result (IsRead height at (length list.now)) }
+    requires { height ≤ 256 }
+    ensures reads { Moves tree_of (λ ws n. group_at ws n (inside_of ws n height brackets) (below_of ws n height brackets) (under_of ws n height brackets) height brackets) tokens.old result tokens.new }
+    ensures low { IfOk result (IsLow height) }
 {
-    room(at, height, 1)?;
-    let next = open(text, list, at, brackets)?;
-    let inner = expr(alloc, text, list, next, 10, height, brackets - 1)?;
-    let next = inner.next;
-    if is(text, list, next, Key::Comma) {
-        tuple(alloc, text, list, at, inner, next, height, brackets - 1)
+    let at = tokens.at();
+    tokens.room(height, 1)?;
+    tokens.open(brackets)?;
+    let inner = expr(alloc, tokens, 10, height, brackets - 1)?;
+    if tokens.is(Key::Comma) {
+        tuple(alloc, tokens, at, inner, height, brackets - 1)
     } else {
-        let next = expect(text, list, next, Key::Close)?;
-        let left = Found {
-            tree: inner.tree,
-            next,
-            height: inner.height,
-        };
-        climb(alloc, text, list, at, left, 6, height, brackets)
+        tokens.expect(Key::Close)?;
+        climb(alloc, tokens, at, inner, 6, height, brackets)
     }
 }
 
@@ -331,29 +243,22 @@ fn group(
 #[cycle(read)]
 fn head(
     alloc: Global,
-    text: &[u8],
-    list: &[Token],
-    at: usize,
+    tokens: &mut Cursor,
     height: u16,
     brackets: u16,
 ) -> Result<Found, Halt>
-    requires fits { AreIn text.now list.now }
-    requires fair { AreWords Indus (words_of Indus text.now list.now) }
-    requires short { length list.now ≤ 65536 }
-    requires inside { at ≤ length list.now }
-    requires low { height ≤ 256 }
-    requires few { brackets ≤ 256 }
-    ensures gives { GivesTree result (head_at (words_of Indus text.now list.now) (length list.now + 1) (inside_of (words_of Indus text.now list.now) (length list.now + 1) height brackets) (below_of (words_of Indus text.now list.now) (length list.now + 1) height brackets) (under_of (words_of Indus text.now list.now) (length list.now + 1) height brackets) height brackets (expr_at (words_of Indus text.now list.now) (length list.now + 1) height brackets 6 at) at) }
-    ensures is_read { IfOk result (IsRead height at (length list.now)) }
+    requires { height ≤ 256 }
+    ensures reads { Moves tree_of (λ ws n i. head_at ws n (inside_of ws n height brackets) (below_of ws n height brackets) (under_of ws n height brackets) height brackets (expr_at ws n height brackets 6 i) i) tokens.old result tokens.new }
+    ensures low { IfOk result (IsLow height) }
 {
-    if is(text, list, at, Key::Open) {
-        if is(text, list, at + 1, Key::Bit) {
-            expr(alloc, text, list, at, 6, height, brackets)
+    if tokens.is(Key::Open) {
+        if tokens.is_second(Key::Bit) {
+            expr(alloc, tokens, 6, height, brackets)
         } else {
-            group(alloc, text, list, at, height, brackets)
+            group(alloc, tokens, height, brackets)
         }
     } else {
-        expr(alloc, text, list, at, 6, height, brackets)
+        expr(alloc, tokens, 6, height, brackets)
     }
 }
 
@@ -363,30 +268,24 @@ fn head(
 #[cycle(read)]
 pub fn expr(
     alloc: Global,
-    text: &[u8],
-    list: &[Token],
-    at: usize,
+    tokens: &mut Cursor,
     level: u8,
     height: u16,
     brackets: u16,
 ) -> Result<Found, Halt>
-    requires fits { AreIn text.now list.now }
-    requires fair { AreWords Indus (words_of Indus text.now list.now) }
-    requires short { length list.now ≤ 65536 }
-    requires inside { at ≤ length list.now }
     requires low { height ≤ 256 }
-    requires few { brackets ≤ 256 }
     requires level { level ≤ 10 }
-    ensures gives { GivesTree result (expr_at (words_of Indus text.now list.now) (length list.now + 1) height brackets level at) }
-    ensures is_read { IfOk result (IsRead height at (length list.now)) }
+    ensures reads { Moves tree_of (λ ws n. expr_at ws n height brackets level) tokens.old result tokens.new }
+    ensures low { IfOk result (IsLow height) }
 {
+    let at = tokens.at();
     if level == 0 {
-        return operand(alloc, text, list, at, height, brackets);
+        return operand(alloc, tokens, height, brackets);
     }
     if level == 7 {
-        let left = head(alloc, text, list, at, height, brackets)?;
-        return chain(alloc, text, list, at, left, 6, height, brackets);
+        let left = head(alloc, tokens, height, brackets)?;
+        return chain(alloc, tokens, at, left, 6, height, brackets);
     }
-    let left = expr(alloc, text, list, at, level - 1, height, brackets)?;
-    chain(alloc, text, list, at, left, level - 1, height, brackets)
+    let left = expr(alloc, tokens, level - 1, height, brackets)?;
+    chain(alloc, tokens, at, left, level - 1, height, brackets)
 }

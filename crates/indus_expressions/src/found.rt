@@ -2,18 +2,16 @@
 
 use indus_tree::Expr;
 
-/// A tree, the place behind it and the tree's height.
+/// A tree and its height.
 #[derive(Drop)]
 pub struct Found {
     pub tree: Expr,
-    pub next: usize,
     pub height: u16,
 }
 
-/// Trees, the place behind them and the greatest height.
+/// Trees and the greatest height.
 #[derive(Drop)]
 pub struct FoundAll {
     pub trees: Vec<Expr>,
-    pub next: usize,
     pub height: u16,
 }

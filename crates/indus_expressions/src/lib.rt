@@ -1,6 +1,6 @@
 //! The reader of Indus expressions.
 //!
-//! The layers above get `expr`, the readers of names and numbers in `names`, and `room`. `expr`
+//! The layers above get `expr`, `list_of` and `size`, the reader of the numbers of types. `expr`
 //! gives what `specs/Reading` reads, which is what is spelled (`proofs/Complete`, `proofs/Sound`).
 //!
 //! Follows: "Hydra: Effective Runtime Network Verification", SIGCOMM 2023; the grammar is this
@@ -9,9 +9,9 @@
 
 mod chain;
 mod found;
-mod names;
+mod number;
 mod operand;
 
 pub use chain::{expr, list_of};
 pub use found::{Found, FoundAll};
-pub use names::{expect, has_name, is, literal, name, open, room, size};
+pub use number::size;

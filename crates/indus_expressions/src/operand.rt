@@ -1,51 +1,44 @@
 //! Reading operands.
 
-ghost use Rattle.std.specs.Prelude.{◌≡◌, ◌+◌, ◌-◌, ◌≤◌, ◌<◌, length, IfOk};
-ghost use Rattle.lex_text.specs.Places.{AreIn};
-ghost use Rattle.lex_text.specs.declared.token.Words.TheVariants.{Indus};
-ghost use Rattle.lex_words.specs.Seen.{words_of};
-ghost use Rattle.lex_words.specs.Written.{AreWords};
-ghost use Rattle.indus_expressions.specs.Reading.{GivesTree, IsRead, below_of, bracket_at, cast_at, count_at, expr_at, flag_at, index_at, inside_of, inversion_at, leaf_at, negation_at, numeral_at, opened_at, operand_at, variable_at};
+ghost use Rattle.std.specs.Prelude.{◌+◌, ◌≤◌, ◌<◌, length, IfOk};
+ghost use Rattle.lex_words.specs.Moving.{Moves};
+ghost use Rattle.indus_expressions.specs.Reading.{IsLow, below_of, bracket_at, cast_at, count_at, expr_at, flag_at, index_at, inside_of, inversion_at, leaf_at, negation_at, numeral_at, opened_at, operand_at, tree_of, variable_at};
 
 use crate::chain::{expr, list_of};
 use crate::found::Found;
-use crate::names::{expect, has_name, has_number, is, literal, name, open, room, size};
+use crate::number::size;
 use indus_tree::Expr;
-use lex_text::{Name, Token};
-use lex_words::{Halt, Key};
+use lex_text::Name;
+use lex_words::{Cursor, Halt, Key};
 use std::alloc::Global;
 
 /// `true` or `false`, which stands here.
 #[tactic(auto, unfolding(crate::specs::Reading::flag_at))]
-fn flag(text: &[u8], list: &[Token], at: usize, height: u16, value: bool) -> Result<Found, Halt>
-    requires short { length list.now ≤ 65536 }
-    requires inside { at < length list.now }
-    requires low { height ≤ 256 }
-    ensures gives { GivesTree result (flag_at (words_of Indus text.now list.now) (length list.now + 1) value height at) }
-    ensures is_read { IfOk result (IsRead height at (length list.now)) }
+fn flag(tokens: &mut Cursor, height: u16, value: bool) -> Result<Found, Halt>
+    requires { tokens.old.at < length tokens.old.words }
+    ensures reads { Moves tree_of (λ ws n. flag_at ws n value height) tokens.old result tokens.new }
+    ensures low { IfOk result (IsLow height) }
 {
-    room(at, height, 1)?;
+    let at = tokens.at();
+    tokens.room(height, 1)?;
+    tokens.skip();
     Ok(Found {
-        tree: Expr::Flag(at as u32, value),
-        next: at + 1,
+        tree: Expr::Flag(at, value),
         height: 1,
     })
 }
 
 /// A number.
 #[tactic(auto, unfolding(crate::specs::Reading::numeral_at))]
-fn numeral(text: &[u8], list: &[Token], at: usize, height: u16) -> Result<Found, Halt>
-    requires short { length list.now ≤ 65536 }
-    requires inside { at ≤ length list.now }
-    requires low { height ≤ 256 }
-    requires some { 1 ≤ height }
-    ensures gives { GivesTree result (numeral_at (words_of Indus text.now list.now) (length list.now + 1) height at) }
-    ensures is_read { IfOk result (IsRead height at (length list.now)) }
+fn numeral(tokens: &mut Cursor, height: u16) -> Result<Found, Halt>
+    requires { 1 ≤ height }
+    ensures reads { Moves tree_of (λ ws n. numeral_at ws n height) tokens.old result tokens.new }
+    ensures low { IfOk result (IsLow height) }
 {
-    let (value, next) = literal(text, list, at)?;
+    let at = tokens.at();
+    let value = tokens.number()?;
     Ok(Found {
-        tree: Expr::Num(at as u32, value),
-        next,
+        tree: Expr::Num(at, value),
         height: 1,
     })
 }
@@ -55,30 +48,21 @@ fn numeral(text: &[u8], list: &[Token], at: usize, height: u16) -> Result<Found,
 #[cycle(read)]
 fn index(
     alloc: Global,
-    text: &[u8],
-    list: &[Token],
-    start: usize,
+    tokens: &mut Cursor,
+    start: u32,
     target: Name,
-    at: usize,
     height: u16,
     brackets: u16,
 ) -> Result<Found, Halt>
-    requires fits { AreIn text.now list.now }
-    requires fair { AreWords Indus (words_of Indus text.now list.now) }
-    requires short { length list.now ≤ 65536 }
-    requires inside { at ≤ length list.now }
-    requires low { height ≤ 256 }
-    requires few { brackets ≤ 256 }
-    requires before { start < at }
-    ensures gives { GivesTree result (index_at (words_of Indus text.now list.now) (length list.now + 1) (expr_at (words_of Indus text.now list.now) (length list.now + 1) height brackets) start target at) }
-    ensures is_read { IfOk result (IsRead (height + 1) at (length list.now)) }
+    requires { height ≤ 256 }
+    ensures reads { Moves tree_of (λ ws n. index_at ws n (expr_at ws n height brackets) start target) tokens.old result tokens.new }
+    ensures low { IfOk result (IsLow (height + 1)) }
 {
-    let next = expect(text, list, at, Key::SquareOpen)?;
-    let keys = list_of(alloc, text, list, next, height, brackets)?;
-    let next = expect(text, list, keys.next, Key::SquareClose)?;
+    tokens.expect(Key::SquareOpen)?;
+    let keys = list_of(alloc, tokens, height, brackets)?;
+    tokens.expect(Key::SquareClose)?;
     Ok(Found {
-        tree: Expr::Index(start as u32, target, keys.trees),
-        next,
+        tree: Expr::Index(start, target, keys.trees),
         height: keys.height + 1,
     })
 }
@@ -88,30 +72,23 @@ fn index(
 #[cycle(read)]
 fn variable(
     alloc: Global,
-    text: &[u8],
-    list: &[Token],
-    at: usize,
+    tokens: &mut Cursor,
     height: u16,
     brackets: u16,
 ) -> Result<Found, Halt>
-    requires fits { AreIn text.now list.now }
-    requires fair { AreWords Indus (words_of Indus text.now list.now) }
-    requires short { length list.now ≤ 65536 }
-    requires inside { at ≤ length list.now }
-    requires low { height ≤ 256 }
-    requires few { brackets ≤ 256 }
     requires some { 1 ≤ height }
-    ensures gives { GivesTree result (variable_at (words_of Indus text.now list.now) (length list.now + 1) (below_of (words_of Indus text.now list.now) (length list.now + 1) height brackets) height at) }
-    ensures is_read { IfOk result (IsRead height at (length list.now)) }
+    requires low { height ≤ 256 }
+    ensures reads { Moves tree_of (λ ws n. variable_at ws n (below_of ws n height brackets) height) tokens.old result tokens.new }
+    ensures low { IfOk result (IsLow height) }
 {
-    let (target, next) = name(alloc, text, list, at)?;
-    if is(text, list, next, Key::SquareOpen) {
-        room(next, height, 2)?;
-        index(alloc, text, list, at, target, next, height - 1, brackets)
+    let at = tokens.at();
+    let target = tokens.name(alloc)?;
+    if tokens.is(Key::SquareOpen) {
+        tokens.room(height, 2)?;
+        index(alloc, tokens, at, target, height - 1, brackets)
     } else {
         Ok(Found {
-            tree: Expr::Read(at as u32, target),
-            next,
+            tree: Expr::Read(at, target),
             height: 1,
         })
     }
@@ -119,31 +96,18 @@ fn variable(
 
 /// `length` and a name in brackets.
 #[tactic(auto, unfolding(crate::specs::Reading::count_at))]
-fn count(
-    alloc: Global,
-    text: &[u8],
-    list: &[Token],
-    at: usize,
-    height: u16,
-    brackets: u16,
-) -> Result<Found, Halt>
-    requires fits { AreIn text.now list.now }
-    requires fair { AreWords Indus (words_of Indus text.now list.now) }
-    requires short { length list.now ≤ 65536 }
-    requires inside { at ≤ length list.now }
-    requires low { height ≤ 256 }
-    requires few { brackets ≤ 256 }
-    requires some { 1 ≤ height }
-    ensures gives { GivesTree result (count_at (words_of Indus text.now list.now) (length list.now + 1) brackets at) }
-    ensures is_read { IfOk result (IsRead height at (length list.now)) }
+fn count(alloc: Global, tokens: &mut Cursor, height: u16, brackets: u16) -> Result<Found, Halt>
+    requires { 1 ≤ height }
+    ensures reads { Moves tree_of (λ ws n. count_at ws n brackets) tokens.old result tokens.new }
+    ensures low { IfOk result (IsLow height) }
 {
-    let next = expect(text, list, at, Key::Length)?;
-    let next = open(text, list, next, brackets)?;
-    let (target, next) = name(alloc, text, list, next)?;
-    let next = expect(text, list, next, Key::Close)?;
+    let at = tokens.at();
+    tokens.expect(Key::Length)?;
+    tokens.open(brackets)?;
+    let target = tokens.name(alloc)?;
+    tokens.expect(Key::Close)?;
     Ok(Found {
-        tree: Expr::Length(at as u32, target),
-        next,
+        tree: Expr::Length(at, target),
         height: 1,
     })
 }
@@ -153,26 +117,19 @@ fn count(
 #[cycle(read)]
 fn negation(
     alloc: Global,
-    text: &[u8],
-    list: &[Token],
-    at: usize,
+    tokens: &mut Cursor,
     height: u16,
     brackets: u16,
 ) -> Result<Found, Halt>
-    requires fits { AreIn text.now list.now }
-    requires fair { AreWords Indus (words_of Indus text.now list.now) }
-    requires short { length list.now ≤ 65536 }
-    requires inside { at ≤ length list.now }
-    requires low { height ≤ 256 }
-    requires few { brackets ≤ 256 }
-    ensures gives { GivesTree result (negation_at (words_of Indus text.now list.now) (length list.now + 1) (expr_at (words_of Indus text.now list.now) (length list.now + 1) height brackets) at) }
-    ensures is_read { IfOk result (IsRead (height + 1) at (length list.now)) }
+    requires { height ≤ 256 }
+    ensures reads { Moves tree_of (λ ws n. negation_at ws n (expr_at ws n height brackets)) tokens.old result tokens.new }
+    ensures low { IfOk result (IsLow (height + 1)) }
 {
-    let next = expect(text, list, at, Key::Not)?;
-    let inner = expr(alloc, text, list, next, 0, height, brackets)?;
+    let at = tokens.at();
+    tokens.expect(Key::Not)?;
+    let inner = expr(alloc, tokens, 0, height, brackets)?;
     Ok(Found {
-        tree: Expr::Not(at as u32, Box::new(alloc, inner.tree)?),
-        next: inner.next,
+        tree: Expr::Not(at, Box::new(alloc, inner.tree)?),
         height: inner.height + 1,
     })
 }
@@ -182,26 +139,19 @@ fn negation(
 #[cycle(read)]
 fn inversion(
     alloc: Global,
-    text: &[u8],
-    list: &[Token],
-    at: usize,
+    tokens: &mut Cursor,
     height: u16,
     brackets: u16,
 ) -> Result<Found, Halt>
-    requires fits { AreIn text.now list.now }
-    requires fair { AreWords Indus (words_of Indus text.now list.now) }
-    requires short { length list.now ≤ 65536 }
-    requires inside { at ≤ length list.now }
-    requires low { height ≤ 256 }
-    requires few { brackets ≤ 256 }
-    ensures gives { GivesTree result (inversion_at (words_of Indus text.now list.now) (length list.now + 1) (expr_at (words_of Indus text.now list.now) (length list.now + 1) height brackets) at) }
-    ensures is_read { IfOk result (IsRead (height + 1) at (length list.now)) }
+    requires { height ≤ 256 }
+    ensures reads { Moves tree_of (λ ws n. inversion_at ws n (expr_at ws n height brackets)) tokens.old result tokens.new }
+    ensures low { IfOk result (IsLow (height + 1)) }
 {
-    let next = expect(text, list, at, Key::Tilde)?;
-    let inner = expr(alloc, text, list, next, 0, height, brackets)?;
+    let at = tokens.at();
+    tokens.expect(Key::Tilde)?;
+    let inner = expr(alloc, tokens, 0, height, brackets)?;
     Ok(Found {
-        tree: Expr::Invert(at as u32, Box::new(alloc, inner.tree)?),
-        next: inner.next,
+        tree: Expr::Invert(at, Box::new(alloc, inner.tree)?),
         height: inner.height + 1,
     })
 }
@@ -211,32 +161,23 @@ fn inversion(
 #[cycle(read)]
 fn cast(
     alloc: Global,
-    text: &[u8],
-    list: &[Token],
-    start: usize,
-    at: usize,
+    tokens: &mut Cursor,
+    start: u32,
     height: u16,
     brackets: u16,
 ) -> Result<Found, Halt>
-    requires fits { AreIn text.now list.now }
-    requires fair { AreWords Indus (words_of Indus text.now list.now) }
-    requires short { length list.now ≤ 65536 }
-    requires inside { at ≤ length list.now }
-    requires low { height ≤ 256 }
-    requires few { brackets ≤ 256 }
-    requires before { start < at }
-    ensures gives { GivesTree result (cast_at (words_of Indus text.now list.now) (length list.now + 1) (expr_at (words_of Indus text.now list.now) (length list.now + 1) height brackets) start at) }
-    ensures is_read { IfOk result (IsRead (height + 1) at (length list.now)) }
+    requires { height ≤ 256 }
+    ensures reads { Moves tree_of (λ ws n. cast_at ws n (expr_at ws n height brackets) start) tokens.old result tokens.new }
+    ensures low { IfOk result (IsLow (height + 1)) }
 {
-    let next = expect(text, list, at, Key::Bit)?;
-    let next = expect(text, list, next, Key::Less)?;
-    let (width, next) = size(text, list, next)?;
-    let next = expect(text, list, next, Key::More)?;
-    let next = expect(text, list, next, Key::Close)?;
-    let inner = expr(alloc, text, list, next, 0, height, brackets)?;
+    tokens.expect(Key::Bit)?;
+    tokens.expect(Key::Less)?;
+    let width = size(tokens)?;
+    tokens.expect(Key::More)?;
+    tokens.expect(Key::Close)?;
+    let inner = expr(alloc, tokens, 0, height, brackets)?;
     Ok(Found {
-        tree: Expr::Cast(start as u32, width, Box::new(alloc, inner.tree)?),
-        next: inner.next,
+        tree: Expr::Cast(start, width, Box::new(alloc, inner.tree)?),
         height: inner.height + 1,
     })
 }
@@ -246,28 +187,17 @@ fn cast(
 #[cycle(read)]
 fn bracket(
     alloc: Global,
-    text: &[u8],
-    list: &[Token],
-    at: usize,
+    tokens: &mut Cursor,
     height: u16,
     brackets: u16,
 ) -> Result<Found, Halt>
-    requires fits { AreIn text.now list.now }
-    requires fair { AreWords Indus (words_of Indus text.now list.now) }
-    requires short { length list.now ≤ 65536 }
-    requires inside { at ≤ length list.now }
-    requires low { height ≤ 256 }
-    requires few { brackets ≤ 256 }
-    ensures gives { GivesTree result (bracket_at (words_of Indus text.now list.now) (length list.now + 1) (expr_at (words_of Indus text.now list.now) (length list.now + 1) height brackets) at) }
-    ensures is_read { IfOk result (IsRead height at (length list.now)) }
+    requires { height ≤ 256 }
+    ensures reads { Moves tree_of (λ ws n. bracket_at ws n (expr_at ws n height brackets)) tokens.old result tokens.new }
+    ensures low { IfOk result (IsLow height) }
 {
-    let inner = expr(alloc, text, list, at, 10, height, brackets)?;
-    let next = expect(text, list, inner.next, Key::Close)?;
-    Ok(Found {
-        tree: inner.tree,
-        next,
-        height: inner.height,
-    })
+    let inner = expr(alloc, tokens, 10, height, brackets)?;
+    tokens.expect(Key::Close)?;
+    Ok(inner)
 }
 
 /// A cast, or an expression in brackets.
@@ -275,27 +205,21 @@ fn bracket(
 #[cycle(read)]
 fn opened(
     alloc: Global,
-    text: &[u8],
-    list: &[Token],
-    at: usize,
+    tokens: &mut Cursor,
     height: u16,
     brackets: u16,
 ) -> Result<Found, Halt>
-    requires fits { AreIn text.now list.now }
-    requires fair { AreWords Indus (words_of Indus text.now list.now) }
-    requires short { length list.now ≤ 65536 }
-    requires inside { at ≤ length list.now }
-    requires low { height ≤ 256 }
-    requires few { brackets ≤ 256 }
-    ensures gives { GivesTree result (opened_at (words_of Indus text.now list.now) (length list.now + 1) (inside_of (words_of Indus text.now list.now) (length list.now + 1) height brackets) (below_of (words_of Indus text.now list.now) (length list.now + 1) height brackets) height brackets at) }
-    ensures is_read { IfOk result (IsRead height at (length list.now)) }
+    requires { height ≤ 256 }
+    ensures reads { Moves tree_of (λ ws n. opened_at ws n (inside_of ws n height brackets) (below_of ws n height brackets) height brackets) tokens.old result tokens.new }
+    ensures low { IfOk result (IsLow height) }
 {
-    let next = open(text, list, at, brackets)?;
-    if is(text, list, next, Key::Bit) {
-        room(next, height, 2)?;
-        cast(alloc, text, list, at, next, height - 1, brackets)
+    let at = tokens.at();
+    tokens.open(brackets)?;
+    if tokens.is(Key::Bit) {
+        tokens.room(height, 2)?;
+        cast(alloc, tokens, at, height - 1, brackets)
     } else {
-        bracket(alloc, text, list, next, height, brackets - 1)
+        bracket(alloc, tokens, height, brackets - 1)
     }
 }
 
@@ -304,29 +228,22 @@ fn opened(
 #[cycle(read)]
 fn leaf(
     alloc: Global,
-    text: &[u8],
-    list: &[Token],
-    at: usize,
+    tokens: &mut Cursor,
     height: u16,
     brackets: u16,
 ) -> Result<Found, Halt>
-    requires fits { AreIn text.now list.now }
-    requires fair { AreWords Indus (words_of Indus text.now list.now) }
-    requires short { length list.now ≤ 65536 }
-    requires inside { at ≤ length list.now }
-    requires low { height ≤ 256 }
-    requires few { brackets ≤ 256 }
-    ensures gives { GivesTree result (leaf_at (words_of Indus text.now list.now) (length list.now + 1) (below_of (words_of Indus text.now list.now) (length list.now + 1) height brackets) height at) }
-    ensures is_read { IfOk result (IsRead height at (length list.now)) }
+    requires { height ≤ 256 }
+    ensures reads { Moves tree_of (λ ws n. leaf_at ws n (below_of ws n height brackets) height) tokens.old result tokens.new }
+    ensures low { IfOk result (IsLow height) }
 {
-    if has_name(text, list, at) {
-        room(at, height, 1)?;
-        variable(alloc, text, list, at, height, brackets)
-    } else if has_number(text, list, at) {
-        room(at, height, 1)?;
-        numeral(text, list, at, height)
+    if tokens.has_name() {
+        tokens.room(height, 1)?;
+        variable(alloc, tokens, height, brackets)
+    } else if tokens.has_number() {
+        tokens.room(height, 1)?;
+        numeral(tokens, height)
     } else {
-        Err(Halt::Wrong(at))
+        Err(Halt::Wrong(tokens.at()))
     }
 }
 
@@ -335,38 +252,31 @@ fn leaf(
 #[cycle(read)]
 pub fn operand(
     alloc: Global,
-    text: &[u8],
-    list: &[Token],
-    at: usize,
+    tokens: &mut Cursor,
     height: u16,
     brackets: u16,
 ) -> Result<Found, Halt>
-    requires fits { AreIn text.now list.now }
-    requires fair { AreWords Indus (words_of Indus text.now list.now) }
-    requires short { length list.now ≤ 65536 }
-    requires inside { at ≤ length list.now }
-    requires low { height ≤ 256 }
-    requires few { brackets ≤ 256 }
-    ensures gives { GivesTree result (operand_at (words_of Indus text.now list.now) (length list.now + 1) (inside_of (words_of Indus text.now list.now) (length list.now + 1) height brackets) (below_of (words_of Indus text.now list.now) (length list.now + 1) height brackets) height brackets at) }
-    ensures is_read { IfOk result (IsRead height at (length list.now)) }
+    requires { height ≤ 256 }
+    ensures reads { Moves tree_of (λ ws n. operand_at ws n (inside_of ws n height brackets) (below_of ws n height brackets) height brackets) tokens.old result tokens.new }
+    ensures low { IfOk result (IsLow height) }
 {
-    if is(text, list, at, Key::True) {
-        flag(text, list, at, height, true)
-    } else if is(text, list, at, Key::False) {
-        flag(text, list, at, height, false)
-    } else if is(text, list, at, Key::Not) {
-        room(at, height, 2)?;
-        negation(alloc, text, list, at, height - 1, brackets)
-    } else if is(text, list, at, Key::Tilde) {
-        room(at, height, 2)?;
-        inversion(alloc, text, list, at, height - 1, brackets)
-    } else if is(text, list, at, Key::Length) {
-        room(at, height, 1)?;
-        count(alloc, text, list, at, height, brackets)
-    } else if is(text, list, at, Key::Open) {
-        room(at, height, 1)?;
-        opened(alloc, text, list, at, height, brackets)
+    if tokens.is(Key::True) {
+        flag(tokens, height, true)
+    } else if tokens.is(Key::False) {
+        flag(tokens, height, false)
+    } else if tokens.is(Key::Not) {
+        tokens.room(height, 2)?;
+        negation(alloc, tokens, height - 1, brackets)
+    } else if tokens.is(Key::Tilde) {
+        tokens.room(height, 2)?;
+        inversion(alloc, tokens, height - 1, brackets)
+    } else if tokens.is(Key::Length) {
+        tokens.room(height, 1)?;
+        count(alloc, tokens, height, brackets)
+    } else if tokens.is(Key::Open) {
+        tokens.room(height, 1)?;
+        opened(alloc, tokens, height, brackets)
     } else {
-        leaf(alloc, text, list, at, height, brackets)
+        leaf(alloc, tokens, height, brackets)
     }
 }

@@ -1,258 +1,203 @@
 //! Reading declarations.
 
-ghost use Rattle.std.specs.Prelude.{◌≡◌, ◌+◌, ◌≤◌, ◌<◌, length, map, [], IfOk};
+ghost use Rattle.std.specs.Prelude.{◌≡◌, ◌+◌, ◌≤◌, length, map, []};
 ghost use Rattle.std.specs.Option.{option_map};
-ghost use Rattle.lex_text.specs.Places.{AreIn};
-ghost use Rattle.lex_text.specs.declared.token.Words.TheVariants.{Indus};
-ghost use Rattle.lex_words.specs.Seen.{words_of};
-ghost use Rattle.lex_words.specs.Written.{AreWords};
-ghost use Rattle.lex_words.specs.Reading.{Gives};
+ghost use Rattle.lex_words.specs.Moving.{Moves, Stays};
 ghost use Rattle.indus_tree.specs.View.{decl_of, expr_of, shape_of};
 ghost use Rattle.indus_reader.specs.Declaring.{call_at, control_at, decl_at, decls_at, header_at, is_decl, path_at, path_of, sensor_at, start_at, tele_at, value_at};
 
 use crate::found::FoundPath;
 use crate::types::{held, shape, type_of};
-use indus_expressions::{expect, is, literal, name};
 use indus_tree::{Decl, DeclKind, Expr, Shape};
-use lex_text::Token;
-use lex_words::{Halt, Key};
+use lex_words::{Cursor, Halt, Key};
 use std::alloc::Global;
 
 /// A number or a truth value.
 #[tactic(auto, unfolding(crate::specs::Declaring::value_at))]
-fn value(text: &[u8], list: &[Token], at: usize) -> Result<(Expr, usize), Halt>
-    requires fits { AreIn text.now list.now }
-    requires short { length list.now ≤ 65536 }
-    requires inside { at ≤ length list.now }
-    ensures gives { Gives (λ x. (expr_of x.0, x.1)) result (value_at (words_of Indus text.now list.now) (length list.now + 1) at) }
-    ensures within { IfOk result (λ x. (x.1 ≤ length list.now) × (at < x.1)) }
+fn value(tokens: &mut Cursor) -> Result<Expr, Halt>
+    ensures { Moves expr_of value_at tokens.old result tokens.new }
 {
-    if is(text, list, at, Key::True) {
-        Ok((Expr::Flag(at as u32, true), at + 1))
-    } else if is(text, list, at, Key::False) {
-        Ok((Expr::Flag(at as u32, false), at + 1))
+    let at = tokens.at();
+    if tokens.eat(Key::True) {
+        Ok(Expr::Flag(at, true))
+    } else if tokens.eat(Key::False) {
+        Ok(Expr::Flag(at, false))
     } else {
-        let (number, next) = literal(text, list, at)?;
-        Ok((Expr::Num(at as u32, number), next))
+        Ok(Expr::Num(at, tokens.number()?))
     }
 }
 
 /// An initial value, where there is one.
 #[tactic(auto, unfolding(crate::specs::Declaring::start_at))]
-fn start(text: &[u8], list: &[Token], at: usize) -> Result<(Option<Expr>, usize), Halt>
-    requires fits { AreIn text.now list.now }
-    requires short { length list.now ≤ 65536 }
-    requires inside { at ≤ length list.now }
-    ensures gives { Gives (λ x. (option_map expr_of x.0, x.1)) result (start_at (words_of Indus text.now list.now) (length list.now + 1) at) }
-    ensures within { IfOk result (λ x. (x.1 ≤ length list.now) × (at ≤ x.1)) }
+fn start(tokens: &mut Cursor) -> Result<Option<Expr>, Halt>
+    ensures { Stays (λ x. option_map expr_of x) start_at tokens.old result tokens.new }
 {
-    if is(text, list, at, Key::Assign) {
-        let (found, next) = value(text, list, at + 1)?;
-        Ok((Some(found), next))
+    if tokens.eat(Key::Assign) {
+        Ok(Some(value(tokens)?))
     } else {
-        Ok((None, at))
+        Ok(None)
     }
 }
 
 /// Whether a call stands here.
 #[tactic(auto, unfolding(crate::specs::Declaring::call_at))]
-fn call(text: &[u8], list: &[Token], at: usize) -> Result<(bool, usize), Halt>
-    requires fits { AreIn text.now list.now }
-    requires inside { at ≤ length list.now }
-    ensures gives { Gives (λ x. (x.0, x.1)) result (call_at (words_of Indus text.now list.now) (length list.now + 1) at) }
-    ensures within { IfOk result (λ x. (x.1 ≤ length list.now) × (at ≤ x.1)) }
+fn call(tokens: &mut Cursor) -> Result<bool, Halt>
+    ensures { Stays (λ x. x) call_at tokens.old result tokens.new }
 {
-    if is(text, list, at, Key::Open) {
-        let next = expect(text, list, at + 1, Key::Close)?;
-        Ok((true, next))
+    if tokens.eat(Key::Open) {
+        tokens.expect(Key::Close)?;
+        Ok(true)
     } else {
-        Ok((false, at))
+        Ok(false)
     }
 }
 
 /// A path.
 #[tactic(auto, unfolding(crate::specs::Declaring::path_at, crate::specs::Declaring::path_behind))]
-fn path(alloc: Global, text: &[u8], list: &[Token], at: usize) -> Result<FoundPath, Halt>
-    requires fits { AreIn text.now list.now }
-    requires fair { AreWords Indus (words_of Indus text.now list.now) }
-    requires short { length list.now ≤ 65536 }
-    ensures gives { Gives path_of result (path_at (words_of Indus text.now list.now) (length list.now + 1) at) }
-    ensures within { IfOk result (λ x. (x.next ≤ length list.now) × (at < x.next)) }
+fn path(alloc: Global, tokens: &mut Cursor) -> Result<FoundPath, Halt>
+    ensures { Moves path_of path_at tokens.old result tokens.new }
 {
-    let (first, next) = name(alloc, text, list, at)?;
-    let next = expect(text, list, next, Key::Dot)?;
-    let (second, next) = name(alloc, text, list, next)?;
+    let first = tokens.name(alloc)?;
+    tokens.expect(Key::Dot)?;
+    let second = tokens.name(alloc)?;
     let mut names = Vec::new(alloc);
     names.push(first)?;
     names.push(second)?;
-    if is(text, list, next, Key::Dot) {
-        let (third, next) = name(alloc, text, list, next + 1)?;
+    if tokens.eat(Key::Dot) {
+        let third = tokens.name(alloc)?;
         names.push(third)?;
-        let (valid, next) = call(text, list, next)?;
-        Ok(FoundPath { names, valid, next })
+        let valid = call(tokens)?;
+        Ok(FoundPath { names, valid })
     } else {
         Ok(FoundPath {
             names,
             valid: false,
-            next,
         })
     }
 }
 
 /// A tele variable.
 #[tactic(auto, unfolding(crate::specs::Declaring::tele_at))]
-fn tele(alloc: Global, text: &[u8], list: &[Token], at: usize) -> Result<(Decl, usize), Halt>
-    requires fits { AreIn text.now list.now }
-    requires fair { AreWords Indus (words_of Indus text.now list.now) }
-    requires short { length list.now ≤ 65536 }
-    requires inside { at ≤ length list.now }
-    ensures gives { Gives (λ x. (decl_of x.0, x.1)) result (tele_at (words_of Indus text.now list.now) (length list.now + 1) at) }
-    ensures within { IfOk result (λ x. (x.1 ≤ length list.now) × (at < x.1)) }
+fn tele(alloc: Global, tokens: &mut Cursor) -> Result<Decl, Halt>
+    ensures { Moves decl_of tele_at tokens.old result tokens.new }
 {
-    let next = expect(text, list, at, Key::Tele)?;
-    let (shape, next) = shape(text, list, next)?;
-    let (name, next) = name(alloc, text, list, next)?;
-    let next = expect(text, list, next, Key::Semicolon)?;
-    let decl = Decl {
-        at: at as u32,
+    let at = tokens.at();
+    tokens.expect(Key::Tele)?;
+    let shape = shape(tokens)?;
+    let name = tokens.name(alloc)?;
+    tokens.expect(Key::Semicolon)?;
+    Ok(Decl {
+        at,
         kind: DeclKind::Tele,
         name,
         shape,
         start: None,
         path: Vec::new(alloc),
         valid: false,
-    };
-    Ok((decl, next))
+    })
 }
 
 /// A sensor variable.
 #[tactic(auto, unfolding(crate::specs::Declaring::sensor_at))]
-fn sensor(alloc: Global, text: &[u8], list: &[Token], at: usize) -> Result<(Decl, usize), Halt>
-    requires fits { AreIn text.now list.now }
-    requires fair { AreWords Indus (words_of Indus text.now list.now) }
-    requires short { length list.now ≤ 65536 }
-    requires inside { at ≤ length list.now }
-    ensures gives { Gives (λ x. (decl_of x.0, x.1)) result (sensor_at (words_of Indus text.now list.now) (length list.now + 1) at) }
-    ensures within { IfOk result (λ x. (x.1 ≤ length list.now) × (at < x.1)) }
+fn sensor(alloc: Global, tokens: &mut Cursor) -> Result<Decl, Halt>
+    ensures { Moves decl_of sensor_at tokens.old result tokens.new }
 {
-    let next = expect(text, list, at, Key::Sensor)?;
-    let (shape, next) = shape(text, list, next)?;
-    let (name, next) = name(alloc, text, list, next)?;
-    let (start, next) = start(text, list, next)?;
-    let next = expect(text, list, next, Key::Semicolon)?;
-    let decl = Decl {
-        at: at as u32,
+    let at = tokens.at();
+    tokens.expect(Key::Sensor)?;
+    let shape = shape(tokens)?;
+    let name = tokens.name(alloc)?;
+    let start = start(tokens)?;
+    tokens.expect(Key::Semicolon)?;
+    Ok(Decl {
+        at,
         kind: DeclKind::Sensor,
         name,
         shape,
         start,
         path: Vec::new(alloc),
         valid: false,
-    };
-    Ok((decl, next))
+    })
 }
 
 /// A header variable.
 #[tactic(auto, unfolding(crate::specs::Declaring::header_at))]
-fn header(alloc: Global, text: &[u8], list: &[Token], at: usize) -> Result<(Decl, usize), Halt>
-    requires fits { AreIn text.now list.now }
-    requires fair { AreWords Indus (words_of Indus text.now list.now) }
-    requires short { length list.now ≤ 65536 }
-    requires inside { at ≤ length list.now }
-    ensures gives { Gives (λ x. (decl_of x.0, x.1)) result (header_at (words_of Indus text.now list.now) (length list.now + 1) at) }
-    ensures within { IfOk result (λ x. (x.1 ≤ length list.now) × (at < x.1)) }
+fn header(alloc: Global, tokens: &mut Cursor) -> Result<Decl, Halt>
+    ensures { Moves decl_of header_at tokens.old result tokens.new }
 {
-    let next = expect(text, list, at, Key::Header)?;
-    let (item, next) = type_of(text, list, next)?;
-    let (name, next) = name(alloc, text, list, next)?;
-    let next = expect(text, list, next, Key::Assign)?;
-    let found = path(alloc, text, list, next)?;
-    let next = expect(text, list, found.next, Key::Semicolon)?;
-    let decl = Decl {
-        at: at as u32,
+    let at = tokens.at();
+    tokens.expect(Key::Header)?;
+    let item = type_of(tokens)?;
+    let name = tokens.name(alloc)?;
+    tokens.expect(Key::Assign)?;
+    let found = path(alloc, tokens)?;
+    tokens.expect(Key::Semicolon)?;
+    Ok(Decl {
+        at,
         kind: DeclKind::Header,
         name,
         shape: Shape::One(item),
         start: None,
         path: found.names,
         valid: found.valid,
-    };
-    Ok((decl, next))
+    })
 }
 
 /// A control variable.
 #[tactic(auto, unfolding(crate::specs::Declaring::control_at))]
-fn control(alloc: Global, text: &[u8], list: &[Token], at: usize) -> Result<(Decl, usize), Halt>
-    requires fits { AreIn text.now list.now }
-    requires fair { AreWords Indus (words_of Indus text.now list.now) }
-    requires short { length list.now ≤ 65536 }
-    requires inside { at ≤ length list.now }
-    ensures gives { Gives (λ x. (decl_of x.0, x.1)) result (control_at (words_of Indus text.now list.now) (length list.now + 1) at) }
-    ensures within { IfOk result (λ x. (x.1 ≤ length list.now) × (at < x.1)) }
+fn control(alloc: Global, tokens: &mut Cursor) -> Result<Decl, Halt>
+    ensures { Moves decl_of control_at tokens.old result tokens.new }
 {
-    let next = expect(text, list, at, Key::Control)?;
-    let (shape, next) = held(alloc, text, list, next)?;
-    let (name, next) = name(alloc, text, list, next)?;
-    let next = expect(text, list, next, Key::Semicolon)?;
-    let decl = Decl {
-        at: at as u32,
+    let at = tokens.at();
+    tokens.expect(Key::Control)?;
+    let shape = held(alloc, tokens)?;
+    let name = tokens.name(alloc)?;
+    tokens.expect(Key::Semicolon)?;
+    Ok(Decl {
+        at,
         kind: DeclKind::Control,
         name,
         shape,
         start: None,
         path: Vec::new(alloc),
         valid: false,
-    };
-    Ok((decl, next))
+    })
 }
 
 /// A declaration.
 #[tactic(auto, unfolding(crate::specs::Declaring::decl_at))]
-fn declaration(alloc: Global, text: &[u8], list: &[Token], at: usize) -> Result<(Decl, usize), Halt>
-    requires fits { AreIn text.now list.now }
-    requires fair { AreWords Indus (words_of Indus text.now list.now) }
-    requires short { length list.now ≤ 65536 }
-    requires inside { at ≤ length list.now }
-    ensures gives { Gives (λ x. (decl_of x.0, x.1)) result (decl_at (words_of Indus text.now list.now) (length list.now + 1) at) }
-    ensures within { IfOk result (λ x. (x.1 ≤ length list.now) × (at < x.1)) }
+fn declaration(alloc: Global, tokens: &mut Cursor) -> Result<Decl, Halt>
+    ensures { Moves decl_of decl_at tokens.old result tokens.new }
 {
-    if is(text, list, at, Key::Tele) {
-        tele(alloc, text, list, at)
-    } else if is(text, list, at, Key::Sensor) {
-        sensor(alloc, text, list, at)
-    } else if is(text, list, at, Key::Header) {
-        header(alloc, text, list, at)
+    if tokens.is(Key::Tele) {
+        tele(alloc, tokens)
+    } else if tokens.is(Key::Sensor) {
+        sensor(alloc, tokens)
+    } else if tokens.is(Key::Header) {
+        header(alloc, tokens)
     } else {
-        control(alloc, text, list, at)
+        control(alloc, tokens)
     }
 }
 
 /// Whether a declaration begins here.
 #[tactic(auto, unfolding(crate::specs::Declaring::is_decl))]
-fn begins(text: &[u8], list: &[Token], at: usize) -> bool
-    requires { AreIn text.now list.now }
-    ensures { result ≡ is_decl (words_of Indus text.now list.now) (length list.now + 1) at }
+fn begins(tokens: &Cursor) -> bool
+    ensures value { result ≡ is_decl tokens.now.words (length tokens.now.words + 1) tokens.now.at }
+    ensures inside { tokens.now.at ≤ length tokens.now.words }
 {
-    is(text, list, at, Key::Tele)
-        || is(text, list, at, Key::Sensor)
-        || is(text, list, at, Key::Header)
-        || is(text, list, at, Key::Control)
+    tokens.is(Key::Tele)
+        || tokens.is(Key::Sensor)
+        || tokens.is(Key::Header)
+        || tokens.is(Key::Control)
 }
 
-/// The declarations at the front of the list.
-pub fn declarations(alloc: Global, text: &[u8], list: &[Token]) -> Result<(Vec<Decl>, usize), Halt>
-    requires fits { AreIn text.now list.now }
-    requires fair { AreWords Indus (words_of Indus text.now list.now) }
-    requires short { length list.now ≤ 65536 }
-    ensures gives { Gives (λ x. (map decl_of x.0.items, x.1)) result (decls_at (words_of Indus text.now list.now) (length list.now + 1) (length list.now + 1) [] 0) }
-    ensures within { IfOk result (λ x. x.1 ≤ length list.now) }
+/// As many declarations as stand here.
+pub fn declarations(alloc: Global, tokens: &mut Cursor) -> Result<Vec<Decl>, Halt>
+    ensures { Stays (λ x. map decl_of x.items) (λ ws n. decls_at ws n n []) tokens.old result tokens.new }
 {
     let mut decls = Vec::new(alloc);
-    let mut next = 0;
-    'items: while begins(text, list, next) {
-        let one = declaration(alloc, text, list, next)?;
-        decls.push(one.0)?;
-        next = one.1;
+    'items: while begins(tokens) {
+        decls.push(declaration(alloc, tokens)?)?;
     }
-    Ok((decls, next))
+    Ok(decls)
 }

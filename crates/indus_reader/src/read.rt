@@ -11,30 +11,29 @@ ghost use Rattle.lex_words.specs.Reading.{Gives};
 ghost use Rattle.indus_tree.specs.Tree.{Property as Tree};
 ghost use Rattle.indus_tree.specs.View.{property_of};
 ghost use Rattle.indus_reader.specs.Faults.{HasCause, IsAnswer, IsProperty, IsRefusal};
-ghost use Rattle.indus_reader.specs.Reading.{property_at};
+ghost use Rattle.indus_reader.specs.Reading.{property_at, property_read};
 
 use crate::decl::declarations;
 use crate::fault::PropertyFault;
 use crate::stmt::block;
 use indus_tree::Property;
 use lex_text::{LexFault, Token, Words, tokens};
-use lex_words::Halt;
+use lex_words::{Cursor, Halt};
 use std::alloc::Global;
 
 /// The property that all tokens spell.
-#[tactic(auto, unfolding(crate::specs::Reading::property_at, crate::specs::Reading::whole_at))]
-fn property(alloc: Global, text: &[u8], list: &[Token]) -> Result<Property, Halt>
-    requires fits { AreIn text.now list.now }
-    requires fair { AreWords Indus (words_of Indus text.now list.now) }
-    requires short { length list.now ≤ 65536 }
-    ensures { Gives property_of result (property_at (words_of Indus text.now list.now) (length list.now + 1) 256 255) }
+#[tactic(auto, unfolding(crate::specs::Reading::property_at, crate::specs::Reading::whole_at, lex_words::specs::Reading::all_read))]
+fn whole(alloc: Global, tokens: &mut Cursor) -> Result<Property, Halt>
+    requires start { tokens.old.at ≡ 0 }
+    requires short { length tokens.old.words ≤ 65536 }
+    ensures { Gives property_of result (property_at tokens.old.words (length tokens.old.words + 1) 256 255) }
 {
-    let (decls, next) = declarations(alloc, text, list)?;
-    let init = block(alloc, text, list, next, 255, 0)?;
-    let tele = block(alloc, text, list, init.next, 255, init.reports)?;
-    let check = block(alloc, text, list, tele.next, 255, tele.reports)?;
-    if check.next < list.len() {
-        return Err(Halt::Wrong(check.next));
+    let decls = declarations(alloc, tokens)?;
+    let init = block(alloc, tokens, 255, 0)?;
+    let tele = block(alloc, tokens, 255, init.reports)?;
+    let check = block(alloc, tokens, 255, tele.reports)?;
+    if !tokens.is_end() {
+        return Err(Halt::Wrong(tokens.at()));
     }
     Ok(Property {
         at: 0,
@@ -44,6 +43,17 @@ fn property(alloc: Global, text: &[u8], list: &[Token]) -> Result<Property, Halt
         tele: tele.stmts,
         check: check.stmts,
     })
+}
+
+/// The same, of a list of tokens.
+fn property(alloc: Global, text: &[u8], list: &[Token]) -> Result<Property, Halt>
+    requires fits { AreIn text.now list.now }
+    requires fair { AreWords Indus (words_of Indus text.now list.now) }
+    requires short { length list.now ≤ 65536 }
+    ensures { Gives property_of result (property_read (words_of Indus text.now list.now)) }
+{
+    let mut tokens = Cursor::new(Words::Indus, text, list);
+    whole(alloc, &mut tokens)
 }
 
 /// The property that a text spells.
@@ -65,9 +75,9 @@ pub fn read_property(alloc: Global, text: &[u8]) -> Result<Property, PropertyFau
     };
     match property(alloc, text, &list) {
         Ok(found) => Ok(found),
-        Err(Halt::Wrong(at)) => Err(PropertyFault::Syntax { at: at as u32 }),
-        Err(Halt::High(at)) => Err(PropertyFault::TooDeep { at: at as u32 }),
-        Err(Halt::Deep(at)) => Err(PropertyFault::TooDeep { at: at as u32 }),
+        Err(Halt::Wrong(at)) => Err(PropertyFault::Syntax { at }),
+        Err(Halt::High(at)) => Err(PropertyFault::TooDeep { at }),
+        Err(Halt::Deep(at)) => Err(PropertyFault::TooDeep { at }),
         Err(Halt::NoMemory) => Err(PropertyFault::NoMemory),
     }
 }

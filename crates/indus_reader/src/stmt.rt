@@ -1,18 +1,14 @@
 //! Reading statements and blocks.
 
-ghost use Rattle.std.specs.Prelude.{◌≡◌, ◌+◌, ◌-◌, ◌≤◌, ◌<◌, length, map, IfOk};
-ghost use Rattle.lex_text.specs.Places.{AreIn};
-ghost use Rattle.lex_text.specs.declared.token.Words.TheVariants.{Indus};
-ghost use Rattle.lex_words.specs.Seen.{words_of};
-ghost use Rattle.lex_words.specs.Written.{AreWords};
-ghost use Rattle.indus_reader.specs.Reading.{GivesBlock, GivesStmt, IsBlock, IsStmt, block_at, else_at, if_at, ifs_at, loop_at, many_at, other_at, stmt_at};
+ghost use Rattle.std.specs.Prelude.{◌≤◌, IfOk};
+ghost use Rattle.lex_words.specs.Moving.{Moves, Stays};
+ghost use Rattle.indus_reader.specs.Reading.{HasCounted, IsBlock, IsStmt, block_at, block_in, else_at, if_at, ifs_at, loop_at, many_at, other_at, stmt_at, stmt_in};
 
 use crate::found::{FoundBlock, FoundStmt};
 use crate::simple::{names, reject, report, write};
-use indus_expressions::{expect, expr, has_name, is, open, room};
+use indus_expressions::expr;
 use indus_tree::Stmt;
-use lex_text::Token;
-use lex_words::{Halt, Key};
+use lex_words::{Cursor, Halt, Key};
 use std::alloc::Global;
 
 /// A loop.
@@ -20,31 +16,25 @@ use std::alloc::Global;
 #[cycle(stmt)]
 fn walk(
     alloc: Global,
-    text: &[u8],
-    list: &[Token],
-    at: usize,
+    tokens: &mut Cursor,
     height: u16,
     reports: u32,
 ) -> Result<FoundStmt, Halt>
-    requires fits { AreIn text.now list.now }
-    requires fair { AreWords Indus (words_of Indus text.now list.now) }
-    requires short { length list.now ≤ 65536 }
-    requires inside { at ≤ length list.now }
     requires low { height ≤ 255 }
-    requires few { reports ≤ at }
-    ensures gives { GivesStmt result (loop_at (words_of Indus text.now list.now) (length list.now + 1) 256 (stmt_at (words_of Indus text.now list.now) (length list.now + 1) 256 height) reports at) }
-    ensures is_stmt { IfOk result (IsStmt reports at (length list.now)) }
+    requires counted { HasCounted reports tokens.old }
+    ensures reads { Moves stmt_in (λ ws n. loop_at ws n 256 (stmt_at ws n 256 height) reports) tokens.old result tokens.new }
+    ensures counts { IfOk result (IsStmt reports tokens.new) }
 {
-    let next = expect(text, list, at, Key::For)?;
-    let next = open(text, list, next, 256)?;
-    let (items, next) = names(alloc, text, list, next)?;
-    let next = expect(text, list, next, Key::In)?;
-    let (lists, next) = names(alloc, text, list, next)?;
-    let next = expect(text, list, next, Key::Close)?;
-    let body = block(alloc, text, list, next, height, reports)?;
+    let at = tokens.at();
+    tokens.expect(Key::For)?;
+    tokens.open(256)?;
+    let items = names(alloc, tokens)?;
+    tokens.expect(Key::In)?;
+    let lists = names(alloc, tokens)?;
+    tokens.expect(Key::Close)?;
+    let body = block(alloc, tokens, height, reports)?;
     Ok(FoundStmt {
-        stmt: Stmt::For(at as u32, items, lists, body.stmts),
-        next: body.next,
+        stmt: Stmt::For(at, items, lists, body.stmts),
         reports: body.reports,
     })
 }
@@ -54,30 +44,24 @@ fn walk(
 #[cycle(stmt)]
 fn choice(
     alloc: Global,
-    text: &[u8],
-    list: &[Token],
-    at: usize,
+    tokens: &mut Cursor,
     height: u16,
     reports: u32,
 ) -> Result<FoundStmt, Halt>
-    requires fits { AreIn text.now list.now }
-    requires fair { AreWords Indus (words_of Indus text.now list.now) }
-    requires short { length list.now ≤ 65536 }
-    requires inside { at ≤ length list.now }
     requires low { height ≤ 255 }
-    requires few { reports ≤ at }
-    ensures gives { GivesStmt result (if_at (words_of Indus text.now list.now) (length list.now + 1) 256 (stmt_at (words_of Indus text.now list.now) (length list.now + 1) 256 height) (ifs_at (words_of Indus text.now list.now) (length list.now + 1) 256 height) height reports at) }
-    ensures is_stmt { IfOk result (IsStmt reports at (length list.now)) }
+    requires counted { HasCounted reports tokens.old }
+    ensures reads { Moves stmt_in (λ ws n. if_at ws n 256 (stmt_at ws n 256 height) (ifs_at ws n 256 height) height reports) tokens.old result tokens.new }
+    ensures counts { IfOk result (IsStmt reports tokens.new) }
 {
-    let next = expect(text, list, at, Key::If)?;
-    let next = open(text, list, next, 256)?;
-    let test = expr(alloc, text, list, next, 10, height, 255)?;
-    let next = expect(text, list, test.next, Key::Close)?;
-    let yes = block(alloc, text, list, next, height, reports)?;
-    let other = else_part(alloc, text, list, yes.next, height, yes.reports)?;
+    let at = tokens.at();
+    tokens.expect(Key::If)?;
+    tokens.open(256)?;
+    let test = expr(alloc, tokens, 10, height, 255)?;
+    tokens.expect(Key::Close)?;
+    let yes = block(alloc, tokens, height, reports)?;
+    let other = else_part(alloc, tokens, height, yes.reports)?;
     Ok(FoundStmt {
-        stmt: Stmt::If(at as u32, test.tree, yes.stmts, other.stmts),
-        next: other.next,
+        stmt: Stmt::If(at, test.tree, yes.stmts, other.stmts),
         reports: other.reports,
     })
 }
@@ -87,39 +71,28 @@ fn choice(
 #[cycle(stmt)]
 fn else_part(
     alloc: Global,
-    text: &[u8],
-    list: &[Token],
-    at: usize,
+    tokens: &mut Cursor,
     height: u16,
     reports: u32,
 ) -> Result<FoundBlock, Halt>
-    requires fits { AreIn text.now list.now }
-    requires fair { AreWords Indus (words_of Indus text.now list.now) }
-    requires short { length list.now ≤ 65536 }
-    requires inside { at ≤ length list.now }
     requires low { height ≤ 255 }
-    requires few { reports ≤ at }
-    ensures gives { GivesBlock result (else_at (words_of Indus text.now list.now) (length list.now + 1) 256 (stmt_at (words_of Indus text.now list.now) (length list.now + 1) 256 height) (ifs_at (words_of Indus text.now list.now) (length list.now + 1) 256 height) reports at) }
-    ensures is_block { IfOk result (IsBlock reports at (length list.now)) }
+    requires counted { HasCounted reports tokens.old }
+    ensures reads { Stays block_in (λ ws n. else_at ws n 256 (stmt_at ws n 256 height) (ifs_at ws n 256 height) reports) tokens.old result tokens.new }
+    ensures counts { IfOk result (IsBlock reports tokens.new) }
 {
     let mut stmts = Vec::new(alloc);
-    if !is(text, list, at, Key::Else) {
-        return Ok(FoundBlock {
-            stmts,
-            next: at,
-            reports,
-        });
+    if !tokens.eat(Key::Else) {
+        return Ok(FoundBlock { stmts, reports });
     }
-    if is(text, list, at + 1, Key::If) {
-        let inner = ifs(alloc, text, list, at + 1, height, reports)?;
+    if tokens.is(Key::If) {
+        let inner = ifs(alloc, tokens, height, reports)?;
         stmts.push(inner.stmt)?;
         Ok(FoundBlock {
             stmts,
-            next: inner.next,
             reports: inner.reports,
         })
     } else {
-        block(alloc, text, list, at + 1, height, reports)
+        block(alloc, tokens, height, reports)
     }
 }
 
@@ -128,62 +101,43 @@ fn else_part(
 #[cycle(stmt)]
 pub fn block(
     alloc: Global,
-    text: &[u8],
-    list: &[Token],
-    at: usize,
+    tokens: &mut Cursor,
     height: u16,
     reports: u32,
 ) -> Result<FoundBlock, Halt>
-    requires fits { AreIn text.now list.now }
-    requires fair { AreWords Indus (words_of Indus text.now list.now) }
-    requires short { length list.now ≤ 65536 }
-    requires inside { at ≤ length list.now }
     requires low { height ≤ 255 }
-    requires few { reports ≤ at }
-    ensures gives { GivesBlock result (block_at (words_of Indus text.now list.now) (length list.now + 1) 256 (stmt_at (words_of Indus text.now list.now) (length list.now + 1) 256 height) reports at) }
-    ensures is_block { IfOk result (IsBlock reports at (length list.now)) }
+    requires counted { HasCounted reports tokens.old }
+    ensures reads { Moves block_in (λ ws n. block_at ws n 256 (stmt_at ws n 256 height) reports) tokens.old result tokens.new }
+    ensures counts { IfOk result (IsBlock reports tokens.new) }
 {
-    let next = expect(text, list, at, Key::BraceOpen)?;
-    let inner = statements(alloc, text, list, next, height, reports)?;
-    let next = expect(text, list, inner.next, Key::BraceClose)?;
-    Ok(FoundBlock {
-        stmts: inner.stmts,
-        next,
-        reports: inner.reports,
-    })
+    tokens.expect(Key::BraceOpen)?;
+    let inner = statements(alloc, tokens, height, reports)?;
+    tokens.expect(Key::BraceClose)?;
+    Ok(inner)
 }
 
 /// Statements up to a closing brace.
 #[cycle(stmt)]
 fn statements(
     alloc: Global,
-    text: &[u8],
-    list: &[Token],
-    at: usize,
+    tokens: &mut Cursor,
     height: u16,
     reports: u32,
 ) -> Result<FoundBlock, Halt>
-    requires fits { AreIn text.now list.now }
-    requires fair { AreWords Indus (words_of Indus text.now list.now) }
-    requires short { length list.now ≤ 65536 }
-    requires inside { at ≤ length list.now }
     requires low { height ≤ 255 }
-    requires few { reports ≤ at }
-    ensures gives { GivesBlock result (many_at (words_of Indus text.now list.now) (length list.now + 1) 256 (stmt_at (words_of Indus text.now list.now) (length list.now + 1) 256 height) (length list.now + 1) reports at) }
-    ensures is_block { IfOk result (IsBlock reports at (length list.now)) }
+    requires counted { HasCounted reports tokens.old }
+    ensures reads { Stays block_in (λ ws n. many_at ws n 256 (stmt_at ws n 256 height) n reports) tokens.old result tokens.new }
+    ensures counts { IfOk result (IsBlock reports tokens.new) }
 {
     let mut stmts = Vec::new(alloc);
-    let mut next = at;
     let mut number = reports;
-    'items: while !is(text, list, next, Key::BraceClose) {
-        let one = statement(alloc, text, list, next, height, number)?;
+    'items: while !tokens.is(Key::BraceClose) {
+        let one = statement(alloc, tokens, height, number)?;
         stmts.push(one.stmt)?;
-        next = one.next;
         number = one.reports;
     }
     Ok(FoundBlock {
         stmts,
-        next,
         reports: number,
     })
 }
@@ -192,31 +146,21 @@ fn statements(
 #[tactic(auto, unfolding(crate::specs::Reading::other_at))]
 fn other(
     alloc: Global,
-    text: &[u8],
-    list: &[Token],
-    at: usize,
+    tokens: &mut Cursor,
     height: u16,
     reports: u32,
 ) -> Result<FoundStmt, Halt>
-    requires fits { AreIn text.now list.now }
-    requires fair { AreWords Indus (words_of Indus text.now list.now) }
-    requires short { length list.now ≤ 65536 }
-    requires inside { at ≤ length list.now }
     requires low { height ≤ 255 }
-    requires few { reports ≤ at }
-    ensures gives { GivesStmt result (other_at (words_of Indus text.now list.now) (length list.now + 1) 256 height at) }
-    ensures is_stmt { IfOk result (IsStmt reports at (length list.now)) }
+    requires counted { HasCounted reports tokens.old }
+    ensures reads { Moves stmt_in (λ ws n. other_at ws n 256 height) tokens.old result tokens.new }
+    ensures counts { IfOk result (IsStmt reports tokens.new) }
 {
-    if has_name(text, list, at) {
-        room(at, height, 2)?;
-        let (stmt, next) = write(alloc, text, list, at, height - 1)?;
-        Ok(FoundStmt {
-            stmt,
-            next,
-            reports,
-        })
+    if tokens.has_name() {
+        tokens.room(height, 2)?;
+        let stmt = write(alloc, tokens, height - 1)?;
+        Ok(FoundStmt { stmt, reports })
     } else {
-        Err(Halt::Wrong(at))
+        Err(Halt::Wrong(tokens.at()))
     }
 }
 
@@ -225,44 +169,33 @@ fn other(
 #[cycle(stmt)]
 fn statement(
     alloc: Global,
-    text: &[u8],
-    list: &[Token],
-    at: usize,
+    tokens: &mut Cursor,
     height: u16,
     reports: u32,
 ) -> Result<FoundStmt, Halt>
-    requires fits { AreIn text.now list.now }
-    requires fair { AreWords Indus (words_of Indus text.now list.now) }
-    requires short { length list.now ≤ 65536 }
-    requires inside { at ≤ length list.now }
     requires low { height ≤ 255 }
-    requires few { reports ≤ at }
-    ensures gives { GivesStmt result (stmt_at (words_of Indus text.now list.now) (length list.now + 1) 256 height reports at) }
-    ensures is_stmt { IfOk result (IsStmt reports at (length list.now)) }
+    requires counted { HasCounted reports tokens.old }
+    ensures reads { Moves stmt_in (λ ws n. stmt_at ws n 256 height reports) tokens.old result tokens.new }
+    ensures counts { IfOk result (IsStmt reports tokens.new) }
 {
-    if is(text, list, at, Key::If) {
-        ifs(alloc, text, list, at, height, reports)
-    } else if is(text, list, at, Key::For) {
-        room(at, height, 1)?;
-        walk(alloc, text, list, at, height - 1, reports)
-    } else if is(text, list, at, Key::Reject) {
-        room(at, height, 1)?;
-        let (stmt, next) = reject(text, list, at)?;
+    if tokens.is(Key::If) {
+        ifs(alloc, tokens, height, reports)
+    } else if tokens.is(Key::For) {
+        tokens.room(height, 1)?;
+        walk(alloc, tokens, height - 1, reports)
+    } else if tokens.is(Key::Reject) {
+        tokens.room(height, 1)?;
+        let stmt = reject(tokens)?;
+        Ok(FoundStmt { stmt, reports })
+    } else if tokens.is(Key::Report) {
+        tokens.room(height, 1)?;
+        let stmt = report(alloc, tokens, height - 1, reports)?;
         Ok(FoundStmt {
             stmt,
-            next,
-            reports,
-        })
-    } else if is(text, list, at, Key::Report) {
-        room(at, height, 1)?;
-        let (stmt, next) = report(alloc, text, list, at, height - 1, reports)?;
-        Ok(FoundStmt {
-            stmt,
-            next,
             reports: reports + 1,
         })
     } else {
-        other(alloc, text, list, at, height, reports)
+        other(alloc, tokens, height, reports)
     }
 }
 
@@ -271,21 +204,15 @@ fn statement(
 #[cycle(stmt)]
 fn ifs(
     alloc: Global,
-    text: &[u8],
-    list: &[Token],
-    at: usize,
+    tokens: &mut Cursor,
     height: u16,
     reports: u32,
 ) -> Result<FoundStmt, Halt>
-    requires fits { AreIn text.now list.now }
-    requires fair { AreWords Indus (words_of Indus text.now list.now) }
-    requires short { length list.now ≤ 65536 }
-    requires inside { at ≤ length list.now }
     requires low { height ≤ 255 }
-    requires few { reports ≤ at }
-    ensures gives { GivesStmt result (ifs_at (words_of Indus text.now list.now) (length list.now + 1) 256 height reports at) }
-    ensures is_stmt { IfOk result (IsStmt reports at (length list.now)) }
+    requires counted { HasCounted reports tokens.old }
+    ensures reads { Moves stmt_in (λ ws n. ifs_at ws n 256 height reports) tokens.old result tokens.new }
+    ensures counts { IfOk result (IsStmt reports tokens.new) }
 {
-    room(at, height, 2)?;
-    choice(alloc, text, list, at, height - 1, reports)
+    tokens.room(height, 2)?;
+    choice(alloc, tokens, height - 1, reports)
 }

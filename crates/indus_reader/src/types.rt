@@ -1,224 +1,180 @@
 //! Reading types, keys and shapes.
 
-ghost use Rattle.std.specs.Prelude.{◌≡◌, ◌+◌, ◌≤◌, ◌<◌, length, IfOk};
-ghost use Rattle.lex_text.specs.Places.{AreIn};
-ghost use Rattle.lex_text.specs.declared.token.Words.TheVariants.{Indus};
-ghost use Rattle.lex_words.specs.Seen.{words_of};
-ghost use Rattle.lex_words.specs.Written.{AreWords};
-ghost use Rattle.lex_words.specs.Reading.{Gives};
+ghost use Rattle.lex_words.specs.Moving.{Moves, Stays};
 ghost use Rattle.indus_tree.specs.View.{shape_of};
 ghost use Rattle.indus_reader.specs.Declaring.{bit_at, closed_at, closed_bit_at, dict_at, held_at, key_at, others_at, parts_at, set_at, shape_at, size_at, type_at, width_at};
 
-use indus_expressions::{expect, is, size};
+use indus_expressions::size;
 use indus_tree::{Shape, Ty};
-use lex_text::Token;
-use lex_words::{Halt, Key};
+use lex_words::{Cursor, Halt, Key};
 use std::alloc::Global;
 
 /// `bit`, `<` and a width.
 #[tactic(auto, unfolding(crate::specs::Declaring::width_at))]
-fn width(text: &[u8], list: &[Token], at: usize) -> Result<(u8, usize), Halt>
-    requires fits { AreIn text.now list.now }
-    ensures gives { Gives (λ x. (x.0, x.1)) result (width_at (words_of Indus text.now list.now) (length list.now + 1) at) }
-    ensures within { IfOk result (λ x. (x.1 ≤ length list.now) × (at < x.1)) }
+fn width(tokens: &mut Cursor) -> Result<u8, Halt>
+    ensures { Moves (λ x. x) width_at tokens.old result tokens.new }
 {
-    let next = expect(text, list, at, Key::Bit)?;
-    let next = expect(text, list, next, Key::Less)?;
-    size(text, list, next)
+    tokens.expect(Key::Bit)?;
+    tokens.expect(Key::Less)?;
+    size(tokens)
 }
 
 /// `bit` with its width in angle brackets.
 #[tactic(auto, unfolding(crate::specs::Declaring::bit_at))]
-fn bit(text: &[u8], list: &[Token], at: usize) -> Result<(Ty, usize), Halt>
-    requires fits { AreIn text.now list.now }
-    ensures gives { Gives (λ x. (x.0, x.1)) result (bit_at (words_of Indus text.now list.now) (length list.now + 1) at) }
-    ensures within { IfOk result (λ x. (x.1 ≤ length list.now) × (at < x.1)) }
+fn bit(tokens: &mut Cursor) -> Result<Ty, Halt>
+    ensures { Moves (λ x. x) bit_at tokens.old result tokens.new }
 {
-    let (bits, next) = width(text, list, at)?;
-    let next = expect(text, list, next, Key::More)?;
-    Ok((Ty::Bit(bits), next))
+    let bits = width(tokens)?;
+    tokens.expect(Key::More)?;
+    Ok(Ty::Bit(bits))
 }
 
 /// A type.
 #[tactic(auto, unfolding(crate::specs::Declaring::type_at))]
-pub fn type_of(text: &[u8], list: &[Token], at: usize) -> Result<(Ty, usize), Halt>
-    requires fits { AreIn text.now list.now }
-    ensures gives { Gives (λ x. (x.0, x.1)) result (type_at (words_of Indus text.now list.now) (length list.now + 1) at) }
-    ensures within { IfOk result (λ x. (x.1 ≤ length list.now) × (at < x.1)) }
+pub fn type_of(tokens: &mut Cursor) -> Result<Ty, Halt>
+    ensures { Moves (λ x. x) type_at tokens.old result tokens.new }
 {
-    if is(text, list, at, Key::Bool) {
-        Ok((Ty::Bool, at + 1))
+    if tokens.eat(Key::Bool) {
+        Ok(Ty::Bool)
     } else {
-        bit(text, list, at)
+        bit(tokens)
     }
 }
 
 /// `bit` with its width, and `>` behind it; the mark `>>` closes both.
 #[tactic(auto, unfolding(crate::specs::Declaring::closed_bit_at))]
-fn closed_bit(text: &[u8], list: &[Token], at: usize) -> Result<(Ty, usize), Halt>
-    requires fits { AreIn text.now list.now }
-    ensures gives { Gives (λ x. (x.0, x.1)) result (closed_bit_at (words_of Indus text.now list.now) (length list.now + 1) at) }
-    ensures within { IfOk result (λ x. (x.1 ≤ length list.now) × (at < x.1)) }
+fn closed_bit(tokens: &mut Cursor) -> Result<Ty, Halt>
+    ensures { Moves (λ x. x) closed_bit_at tokens.old result tokens.new }
 {
-    let (bits, next) = width(text, list, at)?;
-    if is(text, list, next, Key::ShiftRight) {
-        Ok((Ty::Bit(bits), next + 1))
-    } else {
-        let next = expect(text, list, next, Key::More)?;
-        let next = expect(text, list, next, Key::More)?;
-        Ok((Ty::Bit(bits), next))
+    let bits = width(tokens)?;
+    if tokens.eat(Key::ShiftRight) {
+        return Ok(Ty::Bit(bits));
     }
+    tokens.expect(Key::More)?;
+    tokens.expect(Key::More)?;
+    Ok(Ty::Bit(bits))
 }
 
 /// A type and `>` behind it.
 #[tactic(auto, unfolding(crate::specs::Declaring::closed_at))]
-fn closed(text: &[u8], list: &[Token], at: usize) -> Result<(Ty, usize), Halt>
-    requires fits { AreIn text.now list.now }
-    ensures gives { Gives (λ x. (x.0, x.1)) result (closed_at (words_of Indus text.now list.now) (length list.now + 1) at) }
-    ensures within { IfOk result (λ x. (x.1 ≤ length list.now) × (at < x.1)) }
+fn closed(tokens: &mut Cursor) -> Result<Ty, Halt>
+    ensures { Moves (λ x. x) closed_at tokens.old result tokens.new }
 {
-    if is(text, list, at, Key::Bool) {
-        let next = expect(text, list, at + 1, Key::More)?;
-        Ok((Ty::Bool, next))
+    if tokens.eat(Key::Bool) {
+        tokens.expect(Key::More)?;
+        Ok(Ty::Bool)
     } else {
-        closed_bit(text, list, at)
+        closed_bit(tokens)
     }
 }
 
 /// Types behind the first two, with commas before each.
-fn other_types(
-    text: &[u8],
-    list: &[Token],
-    types: Vec<Ty>,
-    at: usize,
-) -> Result<(Vec<Ty>, usize), Halt>
-    requires fits { AreIn text.now list.now }
-    requires inside { at ≤ length list.now }
-    ensures gives { Gives (λ x. (x.0.items, x.1)) result (others_at (words_of Indus text.now list.now) (length list.now + 1) types.items at) }
-    ensures within { IfOk result (λ x. (x.1 ≤ length list.now) × (at ≤ x.1)) }
+fn other_types(tokens: &mut Cursor, types: Vec<Ty>) -> Result<Vec<Ty>, Halt>
+    ensures { Stays (λ x. x.items) (λ ws n. others_at ws n types.items) tokens.old result tokens.new }
 {
     let mut types = types;
-    let mut next = at;
-    'items: while is(text, list, next, Key::Comma) {
-        let one = type_of(text, list, next + 1)?;
-        types.push(one.0)?;
-        next = one.1;
+    'items: while tokens.eat(Key::Comma) {
+        types.push(type_of(tokens)?)?;
     }
-    Ok((types, next))
+    Ok(types)
 }
 
 /// Two types or more and a closing bracket.
 #[tactic(auto, unfolding(crate::specs::Declaring::parts_at))]
-fn parts(alloc: Global, text: &[u8], list: &[Token], at: usize) -> Result<(Vec<Ty>, usize), Halt>
-    requires fits { AreIn text.now list.now }
-    ensures gives { Gives (λ x. (x.0.items, x.1)) result (parts_at (words_of Indus text.now list.now) (length list.now + 1) at) }
-    ensures within { IfOk result (λ x. (x.1 ≤ length list.now) × (at < x.1)) }
+fn parts(alloc: Global, tokens: &mut Cursor) -> Result<Vec<Ty>, Halt>
+    ensures { Moves (λ x. x.items) parts_at tokens.old result tokens.new }
 {
-    let (first, next) = type_of(text, list, at)?;
-    let next = expect(text, list, next, Key::Comma)?;
-    let (second, next) = type_of(text, list, next)?;
+    let first = type_of(tokens)?;
+    tokens.expect(Key::Comma)?;
+    let second = type_of(tokens)?;
     let mut types = Vec::new(alloc);
     types.push(first)?;
     types.push(second)?;
-    let (types, next) = other_types(text, list, types, next)?;
-    let next = expect(text, list, next, Key::Close)?;
-    Ok((types, next))
+    let types = other_types(tokens, types)?;
+    tokens.expect(Key::Close)?;
+    Ok(types)
 }
 
 /// A key's parts.
 #[tactic(auto, unfolding(crate::specs::Declaring::key_at))]
-fn key(alloc: Global, text: &[u8], list: &[Token], at: usize) -> Result<(Vec<Ty>, usize), Halt>
-    requires fits { AreIn text.now list.now }
-    ensures gives { Gives (λ x. (x.0.items, x.1)) result (key_at (words_of Indus text.now list.now) (length list.now + 1) at) }
-    ensures within { IfOk result (λ x. (x.1 ≤ length list.now) × (at < x.1)) }
+fn key(alloc: Global, tokens: &mut Cursor) -> Result<Vec<Ty>, Halt>
+    ensures { Moves (λ x. x.items) key_at tokens.old result tokens.new }
 {
-    if is(text, list, at, Key::Open) {
-        parts(alloc, text, list, at + 1)
+    if tokens.eat(Key::Open) {
+        parts(alloc, tokens)
     } else {
-        let (one, next) = type_of(text, list, at)?;
+        let one = type_of(tokens)?;
         let mut types = Vec::new(alloc);
         types.push(one)?;
-        Ok((types, next))
+        Ok(types)
     }
 }
 
 /// The size behind a type, or one value of that type.
 #[tactic(auto, unfolding(crate::specs::Declaring::size_at))]
-fn sized(text: &[u8], list: &[Token], item: Ty, at: usize) -> Result<(Shape, usize), Halt>
-    requires fits { AreIn text.now list.now }
-    requires inside { at ≤ length list.now }
-    ensures gives { Gives (λ x. (shape_of x.0, x.1)) result (size_at (words_of Indus text.now list.now) (length list.now + 1) item at) }
-    ensures within { IfOk result (λ x. (x.1 ≤ length list.now) × (at ≤ x.1)) }
+fn sized(tokens: &mut Cursor, item: Ty) -> Result<Shape, Halt>
+    ensures { Stays shape_of (λ ws n. size_at ws n item) tokens.old result tokens.new }
 {
-    if is(text, list, at, Key::SquareOpen) {
-        let (number, next) = size(text, list, at + 1)?;
-        let next = expect(text, list, next, Key::SquareClose)?;
-        Ok((Shape::List(item, number), next))
+    if tokens.eat(Key::SquareOpen) {
+        let number = size(tokens)?;
+        tokens.expect(Key::SquareClose)?;
+        Ok(Shape::List(item, number))
     } else {
-        Ok((Shape::One(item), at))
+        Ok(Shape::One(item))
     }
 }
 
 /// A type, perhaps with a size.
 #[tactic(auto, unfolding(crate::specs::Declaring::shape_at))]
-pub fn shape(text: &[u8], list: &[Token], at: usize) -> Result<(Shape, usize), Halt>
-    requires fits { AreIn text.now list.now }
-    ensures gives { Gives (λ x. (shape_of x.0, x.1)) result (shape_at (words_of Indus text.now list.now) (length list.now + 1) at) }
-    ensures within { IfOk result (λ x. (x.1 ≤ length list.now) × (at < x.1)) }
+pub fn shape(tokens: &mut Cursor) -> Result<Shape, Halt>
+    ensures { Moves shape_of shape_at tokens.old result tokens.new }
 {
-    let (item, next) = type_of(text, list, at)?;
-    sized(text, list, item, next)
+    let item = type_of(tokens)?;
+    sized(tokens, item)
 }
 
 /// A set.
 #[tactic(auto, unfolding(crate::specs::Declaring::set_at))]
-fn set(alloc: Global, text: &[u8], list: &[Token], at: usize) -> Result<(Shape, usize), Halt>
-    requires fits { AreIn text.now list.now }
-    ensures gives { Gives (λ x. (shape_of x.0, x.1)) result (set_at (words_of Indus text.now list.now) (length list.now + 1) at) }
-    ensures within { IfOk result (λ x. (x.1 ≤ length list.now) × (at < x.1)) }
+fn set(alloc: Global, tokens: &mut Cursor) -> Result<Shape, Halt>
+    ensures { Moves shape_of set_at tokens.old result tokens.new }
 {
-    let next = expect(text, list, at, Key::Set)?;
-    let next = expect(text, list, next, Key::Less)?;
-    if is(text, list, next, Key::Open) {
-        let (types, next) = parts(alloc, text, list, next + 1)?;
-        let next = expect(text, list, next, Key::More)?;
-        Ok((Shape::SetOf(types), next))
+    tokens.expect(Key::Set)?;
+    tokens.expect(Key::Less)?;
+    if tokens.eat(Key::Open) {
+        let types = parts(alloc, tokens)?;
+        tokens.expect(Key::More)?;
+        Ok(Shape::SetOf(types))
     } else {
-        let (one, next) = closed(text, list, next)?;
+        let one = closed(tokens)?;
         let mut types = Vec::new(alloc);
         types.push(one)?;
-        Ok((Shape::SetOf(types), next))
+        Ok(Shape::SetOf(types))
     }
 }
 
 /// A dict.
 #[tactic(auto, unfolding(crate::specs::Declaring::dict_at))]
-fn dict(alloc: Global, text: &[u8], list: &[Token], at: usize) -> Result<(Shape, usize), Halt>
-    requires fits { AreIn text.now list.now }
-    ensures gives { Gives (λ x. (shape_of x.0, x.1)) result (dict_at (words_of Indus text.now list.now) (length list.now + 1) at) }
-    ensures within { IfOk result (λ x. (x.1 ≤ length list.now) × (at < x.1)) }
+fn dict(alloc: Global, tokens: &mut Cursor) -> Result<Shape, Halt>
+    ensures { Moves shape_of dict_at tokens.old result tokens.new }
 {
-    let next = expect(text, list, at, Key::Dict)?;
-    let next = expect(text, list, next, Key::Less)?;
-    let (types, next) = key(alloc, text, list, next)?;
-    let next = expect(text, list, next, Key::Comma)?;
-    let (value, next) = closed(text, list, next)?;
-    Ok((Shape::DictOf(types, value), next))
+    tokens.expect(Key::Dict)?;
+    tokens.expect(Key::Less)?;
+    let types = key(alloc, tokens)?;
+    tokens.expect(Key::Comma)?;
+    let value = closed(tokens)?;
+    Ok(Shape::DictOf(types, value))
 }
 
 /// What a control variable holds.
 #[tactic(auto, unfolding(crate::specs::Declaring::held_at))]
-pub fn held(alloc: Global, text: &[u8], list: &[Token], at: usize) -> Result<(Shape, usize), Halt>
-    requires fits { AreIn text.now list.now }
-    ensures gives { Gives (λ x. (shape_of x.0, x.1)) result (held_at (words_of Indus text.now list.now) (length list.now + 1) at) }
-    ensures within { IfOk result (λ x. (x.1 ≤ length list.now) × (at < x.1)) }
+pub fn held(alloc: Global, tokens: &mut Cursor) -> Result<Shape, Halt>
+    ensures { Moves shape_of held_at tokens.old result tokens.new }
 {
-    if is(text, list, at, Key::Set) {
-        set(alloc, text, list, at)
-    } else if is(text, list, at, Key::Dict) {
-        dict(alloc, text, list, at)
+    if tokens.is(Key::Set) {
+        set(alloc, tokens)
+    } else if tokens.is(Key::Dict) {
+        dict(alloc, tokens)
     } else {
-        let (one, next) = type_of(text, list, at)?;
-        Ok((Shape::One(one), next))
+        Ok(Shape::One(type_of(tokens)?))
     }
 }

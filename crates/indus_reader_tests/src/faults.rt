@@ -191,6 +191,35 @@ fn brackets(rt: HostRuntime) -> Result<(), Fail> {
     Ok(())
 }
 
+/// An assignment with so many brackets around its value.
+fn bracketed(alloc: Global, brackets: usize) -> Result<String, AllocError> {
+    let open = copies(alloc, "(", brackets)?;
+    let close = copies(alloc, ")", brackets)?;
+    format!(in alloc; "n = {open}a{close};")
+}
+
+#[test]
+fn brackets_closed_again(rt: HostRuntime) -> Result<(), Fail> {
+    let alloc = rt.alloc();
+    let most = bracketed(alloc, 256)?;
+    let more = bracketed(alloc, 257)?;
+    // Brackets that are closed do not count.
+    assert_eq!(rt;
+        answer(&rt, alloc, &format!(in alloc; "{{{most} {most}}} {{}} {{}}")?)?,
+        String::from_str(alloc, "{(set@1 n a@259) (set@517 n a@775)} {} {}")?
+    );
+    // The 257th is too many, also where all are closed behind it, and also behind others.
+    assert_eq!(rt;
+        answer(&rt, alloc, &format!(in alloc; "{{{more} {most}}} {{}} {{}}")?)?,
+        String::from_str(alloc, "too deep 259")?
+    );
+    assert_eq!(rt;
+        answer(&rt, alloc, &format!(in alloc; "{{{most} {more}}} {{}} {{}}")?)?,
+        String::from_str(alloc, "too deep 775")?
+    );
+    Ok(())
+}
+
 /// Init with so many `if`s in one another.
 fn nested(alloc: Global, ifs: usize) -> Result<String, AllocError> {
     let open = copies(alloc, "if (a) {", ifs)?;
@@ -209,6 +238,12 @@ fn heights(rt: HostRuntime) -> Result<(), Fail> {
         // `{` and 254 times five tokens stand before the 255th `if`.
         assert_eq!(rt; found, String::from_str(alloc, "too deep 1271")?, "{ifs}");
     }
+    Ok(())
+}
+
+#[test]
+fn heights_of_sums(rt: HostRuntime) -> Result<(), Fail> {
+    let alloc = rt.alloc();
     // The property, the assignment and 254 nodes: 254 operands of `+`.
     let sum = copies(alloc, "a + ", 253)?;
     let found = answer_expr(&rt, alloc, &format!(in alloc; "{sum}a")?)?;
@@ -217,5 +252,23 @@ fn heights(rt: HostRuntime) -> Result<(), Fail> {
     let found = answer_expr(&rt, alloc, &format!(in alloc; "{sum}a")?)?;
     // The 254th `+` stands behind three tokens and 253 times two, and a name.
     assert_eq!(rt; found, String::from_str(alloc, "too deep 510")?);
+    Ok(())
+}
+
+#[test]
+fn both_limits_in_one_text(rt: HostRuntime) -> Result<(), Fail> {
+    let alloc = rt.alloc();
+    let deep = bracketed(alloc, 257)?;
+    let open = copies(alloc, "if (a) {", 255)?;
+    let close = copies(alloc, "}", 255)?;
+    // The first that is passed is named.
+    assert_eq!(rt;
+        answer(&rt, alloc, &format!(in alloc; "{{{open}{close} {deep}}} {{}} {{}}")?)?,
+        String::from_str(alloc, "too deep 1271")?
+    );
+    assert_eq!(rt;
+        answer(&rt, alloc, &format!(in alloc; "{{{deep} {open}{close}}} {{}} {{}}")?)?,
+        String::from_str(alloc, "too deep 259")?
+    );
     Ok(())
 }

@@ -10,3 +10,8 @@ pub mod Standing
 pub mod Locality
 pub mod Loops
 pub mod Spelled
+pub mod OpenBehind
+pub mod Whole
+pub mod OneAnswer
+pub mod Named
+pub mod Turns

@@ -3,6 +3,10 @@ pub mod Keys
 pub mod Seen
 pub mod Written
 pub mod Laws
+-- What readers answer.
+pub mod Brackets
+pub mod Faults
 -- What readers are made of.
 pub mod Reading
-pub mod Brackets
+pub mod Moving
+pub mod Placed

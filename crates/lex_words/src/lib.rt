@@ -1,22 +1,26 @@
 //! Tokens as grammars see them.
 //!
-//! The readers above get `Key`, the reserved words and marks of both languages, and the tests
-//! `key_at`, `is_key`, `name_at`, `is_named`, `number_at`, `is_text` and `is_inclusion` on a list
-//! of tokens. Contracts see a list of tokens as a list of words (`specs/Seen`). The printers get
-//! the laws that a text of words is read back as these words (`specs/Written`, `laws`).
+//! The readers above get `Cursor`, the tokens of a text and the place of the next: it tells which
+//! of `Key`, the reserved words and marks of both languages, stands there, and reads keys, names and
+//! numbers. Contracts see it as a list of words (`specs/Seen`) and a place, and say by `Moves` of
+//! `specs/Moving` what was read. The printers get the laws that a text of words is read back as
+//! these words (`specs/Written`, `laws`).
 //!
-//! What is common to readers, of whatever grammar, stands here too: `Halt` and `expect`, the words
-//! of `specs/Reading`, and in `proofs` what a reading rests on (`Locality`), the turns of loops
-//! (`Loops`) and the front and the rest of a list (`Standing`).
+//! What is common to readers, of whatever grammar, stands here too: `Halt`, the words of
+//! `specs/Reading`, and what an answer says of the text (`specs/Faults`); in `proofs` what a reading
+//! rests on (`Locality`), what it says of the words (`Spelled`), and that a reader with these laws
+//! answers so (`Whole`, `OneAnswer`).
 //!
 //! Follows: P4_16, lexical structure, this project's subset.
 #![tactic(auto)]
 
+mod cursor;
 mod halt;
 mod key;
 pub mod laws;
 mod seen;
 
-pub use halt::{Halt, expect};
+pub use cursor::Cursor;
+pub use halt::Halt;
 pub use key::{Key, mark, reserved};
 pub use seen::{is_inclusion, is_key, is_named, is_text, key_at, name_at, number_at};

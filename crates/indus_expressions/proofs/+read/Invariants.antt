@@ -1,14 +1,10 @@
 use Rattle.std.proofs.Common.{◌≡◌, ℕ, ◌+◌, ◌-◌, ◌*◌, ◌≤◌, length, map}
-use Rattle.lex_text.specs.declared.token.Words.TheVariants.{Indus}
 use Rattle.lex_words.specs.declared.key.Key.TheVariants.{Comma}
-use Rattle.lex_words.specs.Seen.{words_of}
-use Rattle.lex_words.specs.Reading.{more_of}
-use Rattle.lex_words.proofs.Loops.{Front}
+use Rattle.lex_words.proofs.Turns.{MoreTurn}
 use Rattle.indus_tree.specs.Height.{exprs_height}
 use Rattle.indus_tree.specs.View.{expr_of, exprs_of}
-use Rattle.indus_spelling.specs.Operators.{top}
-use Rattle.indus_expressions.specs.Reading.{IsRead, expr_at, rest_of}
-use Rattle.indus_expressions.proofs.Turns.{Chain}
+use Rattle.indus_expressions.specs.Reading.{IsLow, expr_at, rest_of, tree_of}
+use Rattle.indus_expressions.proofs.Turns.{Chain, item_at}
 use Rattle.indus_expressions.proofs.+read.Given as goal
 
 abbrev pub decreases-operand::variable : goal.decreases-operand::variable
@@ -70,28 +66,27 @@ decreases-chain::right l = (l.height + l.brackets) * 50 + 40
 
 abbrev pub invariant-chain::chain-turns : goal.invariant-chain::chain-turns
 invariant-chain::chain-turns l =
-    let ws = words_of Indus l.text l.list in
-    let n = length l.list + 1 in
+    let ws = l.initial.tokens.words in
+    let n = length ws + 1 in
     record {
-      goes_on : (k : ℕ) × (n ≤ k + l.left.next) × (Chain ws n l.height l.brackets l.level l.at n (expr_of l.fn.first.tree) l.fn.first.next ≡ Chain ws n l.height l.brackets l.level l.at k (expr_of l.left.tree) l.left.next);
-      is_read : IsRead l.height l.at (length l.list) l.left;
+      goes_on : (k : ℕ) × (n ≤ k + l.tokens.at) × (Chain ws n l.height l.brackets l.level l.start n (expr_of l.fn.first.tree) l.initial.tokens.at ≡ Chain ws n l.height l.brackets l.level l.start k (expr_of l.left.tree) l.tokens.at);
+      same : l.tokens.words ≡ ws;
+      onward : l.initial.tokens.at ≤ l.tokens.at;
+      is_low : IsLow l.height l.left;
     }
 
 abbrev pub decreases-chain::chain-turns : goal.decreases-chain::chain-turns
-decreases-chain::chain-turns l = length l.list + 1 - l.left.next
+decreases-chain::chain-turns l = length l.initial.tokens.words + 1 - l.tokens.at
 
 abbrev pub invariant-chain::others-items : goal.invariant-chain::others-items
 invariant-chain::others-items l =
-    let ws = words_of Indus l.text l.list in
-    let n = length l.list + 1 in
-    let e = expr_at ws n l.height l.brackets in
+    let ws = l.initial.tokens.words in
+    let n = length ws + 1 in
     record {
-      goes_on : (k : ℕ) × (n ≤ k + l.next) × (rest_of ws n e (expr_of l.fn.first.tree) l.at ≡ Front (map expr_of l.trees.items) (more_of ws Comma (e top) k l.next));
+      turn : MoreTurn ws (item_at l.height l.brackets) tree_of Comma (rest_of ws n (expr_at ws n l.height l.brackets) (expr_of l.fn.first.tree) l.initial.tokens.at) l.initial.tokens.at (map expr_of l.trees.items) l.tokens;
       tall : l.tall ≡ exprs_height (exprs_of l.trees.items);
       low : l.tall ≤ l.height;
-      inside : l.next ≤ length l.list;
-      behind : l.at ≤ l.next;
     }
 
 abbrev pub decreases-chain::others-items : goal.decreases-chain::others-items
-decreases-chain::others-items l = length l.list + 1 - l.next
+decreases-chain::others-items l = length l.initial.tokens.words + 1 - l.tokens.at

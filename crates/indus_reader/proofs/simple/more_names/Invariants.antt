@@ -1,22 +1,14 @@
-use Rattle.std.proofs.Common.{◌≡◌, ℕ, ◌+◌, ◌-◌, ◌≤◌, length}
-use Rattle.lex_text.specs.declared.token.Words.TheVariants.{Indus}
+use Rattle.std.proofs.Common.{◌+◌, ◌-◌, length}
 use Rattle.lex_words.specs.declared.key.Key.TheVariants.{Comma}
-use Rattle.lex_words.specs.Seen.{words_of}
-use Rattle.lex_words.specs.Reading.{more_of}
-use Rattle.lex_words.proofs.Loops.{Front}
-use Rattle.indus_expressions.specs.Reading.{named_at}
+use Rattle.lex_words.proofs.Turns.{MoreTurn}
+use Rattle.lex_words.specs.Reading.{named_at}
 use Rattle.indus_reader.specs.Reading.{more_names_at}
 use Rattle.indus_reader.proofs.simple.more_names.Given as goal
 
 abbrev pub invariant-items : goal.invariant-items
 invariant-items l =
-    let ws = words_of Indus l.text l.list in
-    let n = length l.list + 1 in
-    record {
-      goes_on : (k : ℕ) × (n ≤ k + l.next) × (more_names_at ws n 256 l.fn.names.items l.at ≡ Front l.names.items (more_of ws Comma (named_at ws n) k l.next));
-      inside : l.next ≤ length l.list;
-      behind : l.at ≤ l.next;
-    }
+    let ws = l.initial.tokens.words in
+    MoreTurn ws named_at (λ x. x) Comma (more_names_at ws (length ws + 1) 256 l.fn.names.items l.initial.tokens.at) l.initial.tokens.at l.names.items l.tokens
 
 abbrev pub decreases-items : goal.decreases-items
-decreases-items l = length l.list + 1 - l.next
+decreases-items l = length l.initial.tokens.words + 1 - l.tokens.at

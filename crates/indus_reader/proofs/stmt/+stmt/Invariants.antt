@@ -1,7 +1,5 @@
 use Rattle.std.proofs.Common.{◌≡◌, ℕ, ◌+◌, ◌-◌, ◌*◌, ◌≤◌, length, map}
-use Rattle.lex_text.specs.declared.token.Words.TheVariants.{Indus}
-use Rattle.lex_words.specs.Seen.{words_of}
-use Rattle.lex_words.proofs.Loops.{Front}
+use Rattle.lex_words.proofs.Turns.{Turn}
 use Rattle.indus_tree.specs.Tree.{block_from}
 use Rattle.indus_tree.specs.View.{stmt_of}
 use Rattle.indus_spelling.specs.Properties.{block_reports}
@@ -31,16 +29,14 @@ decreases-choice l = l.height * 10 + 5
 
 abbrev pub invariant-statements-items : goal.invariant-statements-items
 invariant-statements-items l =
-    let ws = words_of Indus l.text l.list in
-    let n = length l.list + 1 in
+    let ws = l.initial.tokens.words in
+    let n = length ws + 1 in
     let s = stmt_at ws n 256 l.height in
     record {
-      goes_on : (k : ℕ) × (n ≤ k + l.next) × (many_at ws n 256 s n l.reports l.at ≡ Front (map stmt_of l.stmts.items) (many_at ws n 256 s k l.number l.next));
-      inside : l.next ≤ length l.list;
-      behind : l.at ≤ l.next;
+      turn : Turn ws (λ k i. many_at ws n 256 s k l.number i) (many_at ws n 256 s n l.reports l.initial.tokens.at) l.initial.tokens.at (map stmt_of l.stmts.items) l.tokens;
       counted : l.number ≡ l.reports + block_reports (block_from (map stmt_of l.stmts.items));
-      few : l.number ≤ l.next;
+      few : l.number ≤ l.tokens.at;
     }
 
 abbrev pub decreases-statements-items : goal.decreases-statements-items
-decreases-statements-items l = length l.list + 1 - l.next
+decreases-statements-items l = length l.initial.tokens.words + 1 - l.tokens.at

@@ -1,21 +1,13 @@
-use Rattle.std.proofs.Common.{◌≡◌, ℕ, ◌+◌, ◌-◌, ◌≤◌, length}
-use Rattle.lex_text.specs.declared.token.Words.TheVariants.{Indus}
+use Rattle.std.proofs.Common.{◌+◌, ◌-◌, length}
 use Rattle.lex_words.specs.declared.key.Key.TheVariants.{Comma}
-use Rattle.lex_words.specs.Seen.{words_of}
-use Rattle.lex_words.specs.Reading.{more_of}
-use Rattle.lex_words.proofs.Loops.{Front}
+use Rattle.lex_words.proofs.Turns.{MoreTurn}
 use Rattle.indus_reader.specs.Declaring.{type_at, others_at}
 use Rattle.indus_reader.proofs.types.other_types.Given as goal
 
 abbrev pub invariant-items : goal.invariant-items
 invariant-items l =
-    let ws = words_of Indus l.text l.list in
-    let n = length l.list + 1 in
-    record {
-      goes_on : (k : ℕ) × (n ≤ k + l.next) × (others_at ws n l.fn.types.items l.at ≡ Front l.types.items (more_of ws Comma (type_at ws n) k l.next));
-      inside : l.next ≤ length l.list;
-      behind : l.at ≤ l.next;
-    }
+    let ws = l.initial.tokens.words in
+    MoreTurn ws type_at (λ x. x) Comma (others_at ws (length ws + 1) l.fn.types.items l.initial.tokens.at) l.initial.tokens.at l.types.items l.tokens
 
 abbrev pub decreases-items : goal.decreases-items
-decreases-items l = length l.list + 1 - l.next
+decreases-items l = length l.initial.tokens.words + 1 - l.tokens.at
