@@ -1,19 +1,16 @@
 -- The words of an expression close each round bracket that they open.
-use Rattle.std.proofs.Common.{◌≡◌, ℕ, zero, suc, ◌≤◌, List, [], ◌∷◌, length, Option, Some, None, refl, ap, ◌∙◌, arith}
+use Rattle.std.proofs.Common.{◌≡◌, ℕ, zero, suc, ◌≤◌, List, [], ◌∷◌, length, Some, None, refl, ap, ◌∙◌, arith}
 use Rattle.std.proofs.lemmas.List.{length-append}
 use Rattle.std.specs.Prelude.{option_and_then}
 use Rattle.lex_words.specs.declared.key.Key.TheVariants.{Close, SquareClose, Comma, In}
 use Rattle.lex_words.specs.Seen.{Word, key, name}
 use Rattle.lex_words.specs.Brackets.{left, left_by}
-use Rattle.lex_words.proofs.Spelled.{left-some, left-split}
+use Rattle.lex_words.proofs.Spelled.{plain_step, left-some, left-split}
 use Rattle.indus_tree.specs.Tree.{Expr, Exprs}
 use Rattle.indus_spelling.specs.Expressions.{Spells, SpellsAll, a_number, a_true, a_false, a_name, an_index, a_length, a_not, an_inversion, a_cast, in_brackets, tighter, joined, a_member, a_tuple, last, then}
 use Rattle.indus_expressions.proofs.Behind.{join-plain}
 
 -- behind a word that is no round bracket
-plain_step : (b c : ℕ) (o : Option ℕ) (v : List Word) → o ≡ Some b → option_and_then (λ x. left x v) o ≡ Some c → left b v ≡ Some c
-plain_step b c o v e f = cc
-
 mutual
   -- as many may be opened behind them as before them
   pub balanced : {l p : ℕ} {t : Expr} {u : List Word} → Spells l p t u → (b c : ℕ) → left b u ≡ Some c → c ≡ b

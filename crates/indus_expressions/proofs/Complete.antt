@@ -2,14 +2,14 @@
 use Rattle.std.proofs.Common.{◌≡◌, ℕ, zero, suc, ◌+◌, ◌-◌, ◌≤◌, ◌<◌, Bool, true, false, cond, List, [], ◌∷◌, length, Option, Some, None, Ok, refl, sym, ap, subst, ◌∙◌, arith}
 use Rattle.std.proofs.lemmas.List.{length-append}
 use Rattle.std.proofs.lemmas.Bool.{eq-eqb, eqb-true}
-use Rattle.std.specs.Prelude.{slice_get, ◌==◌, option_and_then}
+use Rattle.std.specs.Prelude.{slice_get, ◌==◌}
 use Rattle.lex_words.specs.declared.key.Key.{Key}
 use Rattle.lex_words.specs.declared.key.Key.TheVariants.{Bit, In, Open, Close, SquareOpen, SquareClose, Comma}
 use Rattle.lex_words.specs.Seen.{Word, name, key, key_in, at_key}
 use Rattle.lex_words.specs.Brackets.{left, left_by}
 use Rattle.lex_words.specs.Reading.{Read, ◌>>=◌}
 use Rattle.lex_words.proofs.Standing.{Stands, Stands-split}
-use Rattle.lex_words.proofs.Spelled.{left-split}
+use Rattle.lex_words.proofs.Spelled.{left-split, plain_step}
 use Rattle.indus_tree.specs.Tree.{Expr, Exprs, num, flag, read, count, index, member, negation, inversion, binary, cast, none, more, exprs_from}
 use Rattle.indus_tree.specs.Height.{expr_height, exprs_height}
 use Rattle.indus_tree.specs.declared.tree.Op.{Op}
@@ -18,8 +18,8 @@ use Rattle.indus_spelling.specs.Expressions.{Spells, SpellsAll, a_number, a_true
 use Rattle.indus_spelling.specs.declared.operator.Join.{Join}
 use Rattle.indus_spelling.specs.declared.operator.Join.TheVariants.{Binary, Member}
 use Rattle.indus_expressions.specs.Reading.{Reader, join_in, right_at, all_of, chain, head_at, expr_at, inside_of, below_of, under_of}
-use Rattle.indus_expressions.proofs.Layers.{expr_at-layer, below_is, expr_zero, expr_suc, first_at}
-use Rattle.indus_expressions.proofs.Turns.{chain_ends, chain_goes_on}
+use Rattle.indus_expressions.proofs.Layers.{expr_at-layer, below_is, expr_zero, expr_suc, first_at, inside_suc}
+use Rattle.indus_expressions.proofs.Turns.{chain_ends, chain_goes_on, expr_tall}
 use Rattle.indus_expressions.proofs.Heads.{Head}
 use Rattle.indus_expressions.proofs.Behind.{NoJoin, no_join, other_level, join-no_square, join-plain, list_of, exprs_from-list_of}
 use Rattle.indus_expressions.proofs.Balanced.{balanced, balanced_all}
@@ -49,25 +49,9 @@ mutual
   no_bit_all (last s) ws i q st = no_bit s ws i q st
   no_bit_all (then {u = u} {v = v} s t) ws i q st = no_bit s ws i (i + length u) (Stands-split ws i q u (key Comma ∷ v) st).0
 
-some_height : (t : Expr) → 1 ≤ expr_height t
-some_height (num p n) = omega arith
-some_height (flag p v) = omega arith
-some_height (read p s) = omega arith
-some_height (count p s) = omega arith
-some_height (index p s ks) = omega arith
-some_height (member p ks s) = omega arith
-some_height (negation p a) = omega arith
-some_height (inversion p a) = omega arith
-some_height (binary p op a b) = omega arith
-some_height (cast p w a) = omega arith
-
 all_height : {p : ℕ} {ts : Exprs} {u : List Word} → SpellsAll p ts u → 1 ≤ exprs_height ts
-all_height (last {a = a} s) = omega (arith, some_height a)
-all_height (then {a = a} s t) = omega (arith, some_height a)
-
--- brackets left before and behind a word in the middle
-left_behind : (b c : ℕ) (o : Option ℕ) (v : List Word) → o ≡ Some b → option_and_then (λ x. left x v) o ≡ Some c → left b v ≡ Some c
-left_behind b c o v e f = cc
+all_height (last {a = a} s) = omega (arith, expr_tall a)
+all_height (then {a = a} s t) = omega (arith, expr_tall a)
 
 module _ (ws : List Word) (n : ℕ) where
   -- ---- levels
@@ -130,16 +114,12 @@ module _ (ws : List Word) (n : ℕ) where
   below_read : (h b l p : ℕ) (x : Expr × ℕ) → 0 < h → expr_at ws n (h - 1) b l p ≡ Ok x → below_of ws n h b l p ≡ Ok x
   below_read h b l p x lt e = ap (λ (f : Reader). f l p) (below_is ws n h b lt) ∙ e
 
-  inside_suc : (h b : ℕ) → inside_of ws n h (suc b) ≡ expr_at ws n h b
-  unfolding inside_of
-  inside_suc h b = refl
-
   under_suc : (h b : ℕ) → 0 < h → under_of ws n h (suc b) ≡ expr_at ws n (h - 1) b
   unfolding under_of
   under_suc h b lt = below_is ws n h b lt
 
   inside_read : (h b l p : ℕ) (x : Expr × ℕ) → expr_at ws n h b l p ≡ Ok x → inside_of ws n h (suc b) l p ≡ Ok x
-  inside_read h b l p x e = ap (λ (f : Reader). f l p) (inside_suc h b) ∙ e
+  inside_read h b l p x e = ap (λ (f : Reader). f l p) (inside_suc ws n h b) ∙ e
 
   -- an operand
   zero_is : (h b p m q : ℕ) (t : Expr) → Operand ws n (inside_of ws n h b) (below_of ws n h b) h b p ≡ Ok (t, m) → m ≡ q → expr_at ws n h b 0 p ≡ Ok (t, q)
@@ -158,7 +138,7 @@ module _ (ws : List Word) (n : ℕ) where
       → m + 1 + 1 + 1 ≡ q → expr_height a + 1 ≤ h → 0 < n → expr_at ws n h (suc b) 7 p ≡ rest_at h (suc b) 7 p n (member p (more a (more c ks)) s) q
   tuple_is h b p m q s a c ks w no_bit e close is_in name_there same low turns =
       let f : listed ws n (inside_of ws n h (suc b)) (under_of ws n h (suc b)) n (p + 1) ≡ Ok (list_of (more a (more c ks)), m) =
-      ap (λ (r : Reader). listed ws n r (under_of ws n h (suc b)) n (p + 1)) (inside_suc h b) ∙ ap (λ (r : Reader). listed ws n (expr_at ws n h b) r n (p + 1)) (under_suc h b (omega (arith, low))) ∙ e in
+      ap (λ (r : Reader). listed ws n r (under_of ws n h (suc b)) n (p + 1)) (inside_suc ws n h b) ∙ ap (λ (r : Reader). listed ws n (expr_at ws n h b) r n (p + 1)) (under_suc h b (omega (arith, low))) ∙ e in
       let g = several_read ws n (inside_of ws n h (suc b)) (below_of ws n h (suc b)) h (suc b) p (under_of ws n h (suc b)) s a c (list_of ks) m close is_in name_there low turns w no_bit f (omega arith) in
       expr_suc ws n h (suc b) 6 p ∙ ap (λ (r : Read Expr). r >>= λ y. chain ws n (below_of ws n h (suc b)) h 6 p n y.0 y.1) (seven_is h (suc b) p _ g)
       ∙ ap (λ x. rest_at h (suc b) 7 p n (member p (more a (more c x)) s) (m + 1 + 1 + 1)) (exprs_from-list_of ks) ∙ ap (λ x. rest_at h (suc b) 7 p n (member p (more a (more c ks)) s) x) same
@@ -191,11 +171,11 @@ module _ (ws : List Word) (n : ℕ) where
     complete {p = p} (a_not {a = a} {u = u} s) h b q st low lv lt free sq =
         let d = complete s (h - 1) b q st.1 (omega (arith, low)) lv (omega (arith, lt)) (λ m less. absurd (omega arith)) sq in
         let e = below_read h b 0 (p + 1) (a, q) (omega (arith, low)) d.2 in
-        (n, omega arith, zero_is h b p q q (negation p a) (negation_read ws n _ _ h b p a q st.0 e (omega (arith, low, some_height a))) refl)
+        (n, omega arith, zero_is h b p q q (negation p a) (negation_read ws n _ _ h b p a q st.0 e (omega (arith, low, expr_tall a))) refl)
     complete {p = p} (an_inversion {a = a} {u = u} s) h b q st low lv lt free sq =
         let d = complete s (h - 1) b q st.1 (omega (arith, low)) lv (omega (arith, lt)) (λ m less. absurd (omega arith)) sq in
         let e = below_read h b 0 (p + 1) (a, q) (omega (arith, low)) d.2 in
-        (n, omega arith, zero_is h b p q q (inversion p a) (inversion_read ws n _ _ h b p a q st.0 e (omega (arith, low, some_height a))) refl)
+        (n, omega arith, zero_is h b p q q (inversion p a) (inversion_read ws n _ _ h b p a q st.0 e (omega (arith, low, expr_tall a))) refl)
     complete (a_cast v size s) h zero q st low lv lt free sq = absurd (let x : None ≡ Some 0 = lv in cc)
     complete {p = p} (a_cast v {a = a} {u = u} size s) h (suc b) q st low lv lt free sq =
         let d = complete s (h - 1) (suc b) q st.1.1.1.1.1.1 (omega (arith, low)) lv (omega (arith, lt)) (λ m less. absurd (omega arith)) sq in
@@ -203,7 +183,7 @@ module _ (ws : List Word) (n : ℕ) where
           n,
           omega arith,
           zero_is h (suc b) p q q (cast p v.value a)
-              (cast_read ws n _ _ h (suc b) p (under_of ws n h (suc b)) v a q size st.0 st.1.0 st.1.1.0 st.1.1.1.0 st.1.1.1.1.0 st.1.1.1.1.1.0 e (omega (arith, low, some_height a)) (omega arith)) refl,
+              (cast_read ws n _ _ h (suc b) p (under_of ws n h (suc b)) v a q size st.0 st.1.0 st.1.1.0 st.1.1.1.0 st.1.1.1.1.0 st.1.1.1.1.1.0 e (omega (arith, low, expr_tall a)) (omega arith)) refl,
         )
     complete (in_brackets s) h zero q st low lv lt free sq = absurd (let x : None ≡ Some 0 = lv in cc)
     complete {p = p} (in_brackets {a = a} {u = u} s) h (suc b) q st low lv lt free sq =
@@ -216,7 +196,7 @@ module _ (ws : List Word) (n : ℕ) where
         let len = length-append u (key Close ∷ []) in
         let d = complete s h b m sp.0 low lu (omega (arith, lt, len)) (λ m less. rw close refl) (rw close refl) in
         let e = inside_read h b top (p + 1) (a, m) (is_read h b top (p + 1) a u m (omega (arith, lt, len)) (rw close (no_join top Close refl)) d) in
-        (n, omega arith, zero_is h (suc b) p (m + 1) q a (brackets_read ws n _ _ h (suc b) p (under_of ws n h (suc b)) a m st.0 (no_bit s ws (p + 1) m sp.0) e close (omega (arith, low, some_height a)) (omega arith)) sp.1.1)
+        (n, omega arith, zero_is h (suc b) p (m + 1) q a (brackets_read ws n _ _ h (suc b) p (under_of ws n h (suc b)) a m st.0 (no_bit s ws (p + 1) m sp.0) e close (omega (arith, low, expr_tall a)) (omega arith)) sp.1.1)
     complete {p = p} (tighter {l = l} {a = a} {u = u} s) h b q st low lv lt free sq =
         let d = complete s h b q st low lv lt (λ m less. free m (omega arith)) sq in
         let e = is_read h b l p a u q lt (λ m less. free m (omega arith)) d in
@@ -228,7 +208,7 @@ module _ (ws : List Word) (n : ℕ) where
         let ls = left-split b b u (key k ∷ v) lv in
         let same = balanced s b ls.0 ls.1 in
         let lu : left b u ≡ Some b = let x = ls.1 in cc in
-        let lw : left ls.0 v ≡ Some b = left_behind ls.0 b (left_by (key k) ls.0) v (join-plain k _ ls.0 o) ls.2 in
+        let lw : left ls.0 v ≡ Some b = plain_step ls.0 b (left_by (key k) ls.0) v (join-plain k _ ls.0 o) ls.2 in
         let z : left b v ≡ Some b = cc in
         let len = length-append u (key k ∷ v) in
         let d = complete s h b m sp.0 (omega (arith, low)) lu (omega (arith, lt, len)) (λ i less. rw at (other_level l k _ o i (omega arith))) (rw at (join-no_square k _ o)) in

@@ -4,6 +4,7 @@ use Rattle.std.specs.Prelude.{◌==◌}
 use Rattle.std.proofs.lemmas.Bool.{ne_eqb}
 use Rattle.lex_words.specs.Seen.{Word}
 use Rattle.lex_words.specs.Reading.{Read, ◌>>=◌}
+use Rattle.lex_words.proofs.Loops.{less_is}
 use Rattle.indus_tree.specs.Tree.{Expr}
 use Rattle.indus_expressions.specs.Reading.{Reader, layer, with_brackets, expr_at, inside_of, below_of, under_of, operand_at, head_at, left_at, chain, climb}
 
@@ -15,14 +16,11 @@ module _ (ws : List Word) (n : ℕ) where
   expr_at-layer (suc h) zero = refl
   expr_at-layer (suc h) (suc b) = refl
 
-  pub less_is : (m : ℕ) → 0 < m → m ≡ suc (m - 1)
-  less_is m lt = omega arith
-
   below_suc : (h b : ℕ) → below_of ws n (suc h) b ≡ expr_at ws n h b
   unfolding below_of
   below_suc h b = refl
 
-  inside_suc : (h b : ℕ) → inside_of ws n h (suc b) ≡ expr_at ws n h b
+  pub inside_suc : (h b : ℕ) → inside_of ws n h (suc b) ≡ expr_at ws n h b
   unfolding inside_of
   inside_suc h b = refl
 

@@ -4,9 +4,8 @@ use Rattle.std.proofs.lemmas.List.{append-nil}
 use Rattle.std.proofs.lemmas.Bool.{eqb-true, leb-false}
 use Rattle.std.specs.Prelude.{slice_get, nat_le, ◌==◌}
 use Rattle.lex_words.specs.declared.key.Key.{Key}
-use Rattle.lex_words.specs.declared.key.Key.TheVariants.{Open, Close, In}
+use Rattle.lex_words.specs.declared.key.Key.TheVariants.{In}
 use Rattle.lex_words.specs.Seen.{Word, name, number, key, key_in}
-use Rattle.lex_words.specs.Brackets.{left_by}
 use Rattle.lex_words.specs.Reading.{high, Read}
 use Rattle.lex_words.proofs.KeyCodes.{at_key-is, found_is_key}
 use Rattle.lex_words.proofs.Standing.{Stands-length}
@@ -19,7 +18,9 @@ use Rattle.indus_spelling.specs.declared.operator.Join.{Join}
 use Rattle.indus_spelling.specs.declared.operator.Join.TheVariants.{Binary, Member}
 use Rattle.indus_spelling.specs.Expressions.{Spells, tighter, joined, a_member}
 use Rattle.indus_expressions.specs.Reading.{Reader, of_level, join_in, right_at, turn, chain, climb}
-use Rattle.indus_expressions.proofs.SoundSteps.{zero_word, some_name, a_number_up, expr_tall}
+use Rattle.indus_expressions.proofs.Behind.{join-plain}
+use Rattle.indus_expressions.proofs.Turns.{expr_tall}
+use Rattle.indus_expressions.proofs.SoundSteps.{zero_word, some_name, a_number_up}
 use Rattle.indus_expressions.proofs.SoundLists.{Low, ReadsEach}
 
 -- ---- what a key joins
@@ -52,12 +53,6 @@ pub join_word : (l : ℕ) (o : Option Word) (x : Join) → join_in l (key_in o) 
 join_word l o x e =
     let k = join_key l (key_in o) x e in
     (k.0, at_key-is k.0 o (found_is_key k.0 o k.1), k.2)
-
--- it is no round bracket
-pub join_plain : (k : Key) (x : ℕ × Join) (b : ℕ) → join_at k ≡ Some x → left_by (key k) b ≡ Some b
-join_plain Open x b e = absurd cc
-join_plain Close x b e = absurd cc
-join_plain _ x b e = refl
 
 -- `in` alone joins a name, on level 7
 member_key : (k : Key) (m : ℕ) → join_at k ≡ level_join m Member → (k ≡ In) × (m ≡ 7)
@@ -125,7 +120,7 @@ module _ (ws : List Word) (n : ℕ) (below : Reader) (h b : ℕ) (lower : (g : �
       (λ x is. let j = join_word (l + 1) (slice_get ws i) x is in (j.0, j.1, j.2 ∙ ap (λ (y : ℕ). level_join y x) (omega arith)))
       (λ x y w o lt.
       let z = finish l p i a y x u o s e in
-      Reads-word ws _ _ b b b i (key y) _ w (join_plain y _ b o) (z.tree, z.rest, z.spells, omega (arith, z.tall, lt))
+      Reads-word ws _ _ b b b i (key y) _ w (join-plain y _ b o) (z.tree, z.rest, z.spells, omega (arith, z.tall, lt))
       (Reads-bind ws (λ t v. Spells (suc l) p t (u ++ key y ∷ v)) _ (Low h) _ b b b (i + 1) _ _ (Reads-right l p i a u y x o s e lt)
       (λ t v z. (t, [], rw (append-nil v) z, λ fits. omega arith))
       (λ t v st z low'.

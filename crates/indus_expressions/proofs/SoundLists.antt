@@ -13,7 +13,8 @@ use Rattle.indus_tree.specs.Height.{expr_height, exprs_height}
 use Rattle.indus_spelling.specs.Operators.{top}
 use Rattle.indus_spelling.specs.Expressions.{Spells, SpellsAll, last, then}
 use Rattle.indus_expressions.specs.Reading.{Reader, rest_of, all_of}
-use Rattle.indus_expressions.proofs.SoundSteps.{zero_word, a_number_up, expr_tall}
+use Rattle.indus_expressions.proofs.Turns.{expr_tall}
+use Rattle.indus_expressions.proofs.SoundSteps.{zero_word, a_number_up}
 
 abbrev pub Low : ℕ → Expr → Type 0
 Low h t = expr_height t ≤ h

@@ -1,16 +1,13 @@
 -- Steps of a reader of expressions: what each says of the words, and a number as the shortest expression.
-use Rattle.std.proofs.Common.{◌≡◌, ℕ, zero, suc, ◌+◌, ◌≤◌, Bool, true, false, cond, List, [], ◌∷◌, Option, Some, None, Ok, Err, refl, arith}
-use Rattle.std.specs.Prelude.{slice_get, nat_lt}
-use Rattle.std.proofs.lemmas.Bool.{and_parts, eqb-true, leb-true, ltb-false, le-ltb}
+use Rattle.std.proofs.Common.{◌≡◌, ℕ, zero, suc, ◌+◌, Bool, true, false, cond, List, [], ◌∷◌, Option, Some, None, Ok, Err, refl, arith}
+use Rattle.std.specs.Prelude.{slice_get}
+use Rattle.std.proofs.lemmas.Bool.{and_parts, eqb-true, leb-true}
 use Rattle.lex_text.specs.declared.literal.Literal.{Literal}
-use Rattle.lex_words.specs.declared.key.Key.TheVariants.{Open}
-use Rattle.lex_words.specs.Seen.{Word, name, number, key, name_in, number_in, at_key}
-use Rattle.lex_words.specs.Reading.{wrong, high, deep, Read, ◌>>=◌, named, numbered, room_at, named_at, numbered_at, open_at}
-use Rattle.lex_words.specs.declared.key.Key.{Key}
-use Rattle.lex_words.proofs.KeyCodes.{at_key-is, name_word, number_word}
-use Rattle.lex_words.proofs.Spelled.{Ends, Reads, Reads-word, Reads-wrong, Reads-high, Reads-deep}
-use Rattle.indus_tree.specs.Tree.{Expr, num, flag, read, count, index, member, negation, inversion, binary, cast}
-use Rattle.indus_tree.specs.Height.{expr_height}
+use Rattle.lex_words.specs.Seen.{Word, number, number_in}
+use Rattle.lex_words.specs.Reading.{wrong, Read, ◌>>=◌}
+use Rattle.lex_words.proofs.KeyCodes.{number_word}
+use Rattle.lex_words.proofs.Spelled.{Ends, Reads, Reads-word, Reads-wrong}
+use Rattle.indus_tree.specs.Tree.{Expr, num}
 use Rattle.indus_spelling.specs.Operators.{IsSize}
 use Rattle.indus_spelling.specs.Expressions.{Spells, a_number, tighter}
 use Rattle.indus_expressions.specs.Reading.{is_size, sized, sized_at}
@@ -34,19 +31,6 @@ on_level (suc l) p a u s = tighter (on_level l p a u s)
 
 pub a_number_up : (l p : ℕ) (v : Literal) → Spells l p (num p v) (number v ∷ [])
 a_number_up l p v = on_level l p (num p v) (number v ∷ []) (a_number v)
-
--- each expression is a node at least
-pub expr_tall : (e : Expr) → 1 ≤ expr_height e
-expr_tall (num p v) = omega arith
-expr_tall (flag p v) = omega arith
-expr_tall (read p x) = omega arith
-expr_tall (count p x) = omega arith
-expr_tall (index p x es) = omega arith
-expr_tall (member p es x) = omega arith
-expr_tall (negation p a) = omega arith
-expr_tall (inversion p a) = omega arith
-expr_tall (binary p op a c) = omega arith
-expr_tall (cast p w a) = omega arith
 
 pub size_is : (v : Literal) → is_size v ≡ true → IsSize v
 size_is v e =

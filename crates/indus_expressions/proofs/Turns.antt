@@ -6,7 +6,7 @@ use Rattle.lex_words.specs.declared.key.Key.TheVariants.{Comma}
 use Rattle.lex_words.specs.Seen.{Word, key_in}
 use Rattle.lex_words.specs.Reading.{high, Read, ◌>>=◌, more_of}
 use Rattle.lex_words.proofs.Loops.{Front}
-use Rattle.indus_tree.specs.Tree.{Expr, exprs_from}
+use Rattle.indus_tree.specs.Tree.{Expr, num, flag, read, count, index, member, negation, inversion, binary, cast, exprs_from}
 use Rattle.indus_tree.specs.Height.{expr_height, exprs_height}
 use Rattle.indus_spelling.specs.Operators.{top}
 use Rattle.indus_spelling.specs.declared.operator.Join.{Join}
@@ -49,6 +49,19 @@ module _ (ws : List Word) (n : ℕ) (e : Reader) where
   pub rest_front : (a : Expr) (i : ℕ) → rest_of ws n e a i ≡ Front (a ∷ []) (more_of ws Comma (e top) n i)
   unfolding rest_of
   rest_front a i = refl
+
+-- each expression is a node at least
+pub expr_tall : (e : Expr) → 1 ≤ expr_height e
+expr_tall (num p v) = omega arith
+expr_tall (flag p v) = omega arith
+expr_tall (read p x) = omega arith
+expr_tall (count p x) = omega arith
+expr_tall (index p x es) = omega arith
+expr_tall (member p es x) = omega arith
+expr_tall (negation p a) = omega arith
+expr_tall (inversion p a) = omega arith
+expr_tall (binary p op a c) = omega arith
+expr_tall (cast p w a) = omega arith
 
 pub tall_push : (ts : List Expr) (t : Expr) → exprs_height (exprs_from (ts ++ t ∷ [])) ≡ max (exprs_height (exprs_from ts)) (expr_height t)
 tall_push [] t = omega arith

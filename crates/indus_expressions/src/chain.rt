@@ -90,7 +90,16 @@ fn chain(
             return Err(Halt::High(tokens.at()));
         }
         tokens.skip();
-        left = right(alloc, tokens, start, left, found, level, height - 1, brackets)?;
+        left = right(
+            alloc,
+            tokens,
+            start,
+            left,
+            found,
+            level,
+            height - 1,
+            brackets,
+        )?;
     }
     Ok(left)
 }
@@ -216,12 +225,7 @@ pub fn list_of(
 /// An expression in brackets and what is joined behind it up to level 6, or a tuple and `in`.
 #[tactic(auto, unfolding(crate::specs::Reading::group_at), using(crate::proofs::Layers::expr_layers))]
 #[cycle(read)]
-fn group(
-    alloc: Global,
-    tokens: &mut Cursor,
-    height: u16,
-    brackets: u16,
-) -> Result<Found, Halt>
+fn group(alloc: Global, tokens: &mut Cursor, height: u16, brackets: u16) -> Result<Found, Halt>
     requires { height ≤ 256 }
     ensures reads { Moves tree_of (λ ws n. group_at ws n (inside_of ws n height brackets) (below_of ws n height brackets) (under_of ws n height brackets) height brackets) tokens.old result tokens.new }
     ensures low { IfOk result (IsLow height) }
@@ -241,12 +245,7 @@ fn group(
 /// The left side of a comparison, or of `in`.
 #[tactic(auto, unfolding(crate::specs::Reading::head_at))]
 #[cycle(read)]
-fn head(
-    alloc: Global,
-    tokens: &mut Cursor,
-    height: u16,
-    brackets: u16,
-) -> Result<Found, Halt>
+fn head(alloc: Global, tokens: &mut Cursor, height: u16, brackets: u16) -> Result<Found, Halt>
     requires { height ≤ 256 }
     ensures reads { Moves tree_of (λ ws n i. head_at ws n (inside_of ws n height brackets) (below_of ws n height brackets) (under_of ws n height brackets) height brackets (expr_at ws n height brackets 6 i) i) tokens.old result tokens.new }
     ensures low { IfOk result (IsLow height) }

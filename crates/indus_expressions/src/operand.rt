@@ -70,12 +70,7 @@ fn index(
 /// A name, perhaps with an index.
 #[tactic(auto, unfolding(crate::specs::Reading::variable_at), using(crate::proofs::Layers::expr_layers))]
 #[cycle(read)]
-fn variable(
-    alloc: Global,
-    tokens: &mut Cursor,
-    height: u16,
-    brackets: u16,
-) -> Result<Found, Halt>
+fn variable(alloc: Global, tokens: &mut Cursor, height: u16, brackets: u16) -> Result<Found, Halt>
     requires some { 1 ≤ height }
     requires low { height ≤ 256 }
     ensures reads { Moves tree_of (λ ws n. variable_at ws n (below_of ws n height brackets) height) tokens.old result tokens.new }
@@ -115,12 +110,7 @@ fn count(alloc: Global, tokens: &mut Cursor, height: u16, brackets: u16) -> Resu
 /// `!` and an operand.
 #[tactic(auto, unfolding(crate::specs::Reading::negation_at))]
 #[cycle(read)]
-fn negation(
-    alloc: Global,
-    tokens: &mut Cursor,
-    height: u16,
-    brackets: u16,
-) -> Result<Found, Halt>
+fn negation(alloc: Global, tokens: &mut Cursor, height: u16, brackets: u16) -> Result<Found, Halt>
     requires { height ≤ 256 }
     ensures reads { Moves tree_of (λ ws n. negation_at ws n (expr_at ws n height brackets)) tokens.old result tokens.new }
     ensures low { IfOk result (IsLow (height + 1)) }
@@ -137,12 +127,7 @@ fn negation(
 /// `~` and an operand.
 #[tactic(auto, unfolding(crate::specs::Reading::inversion_at))]
 #[cycle(read)]
-fn inversion(
-    alloc: Global,
-    tokens: &mut Cursor,
-    height: u16,
-    brackets: u16,
-) -> Result<Found, Halt>
+fn inversion(alloc: Global, tokens: &mut Cursor, height: u16, brackets: u16) -> Result<Found, Halt>
     requires { height ≤ 256 }
     ensures reads { Moves tree_of (λ ws n. inversion_at ws n (expr_at ws n height brackets)) tokens.old result tokens.new }
     ensures low { IfOk result (IsLow (height + 1)) }
@@ -185,12 +170,7 @@ fn cast(
 /// An expression and the bracket behind it.
 #[tactic(auto, unfolding(crate::specs::Reading::bracket_at))]
 #[cycle(read)]
-fn bracket(
-    alloc: Global,
-    tokens: &mut Cursor,
-    height: u16,
-    brackets: u16,
-) -> Result<Found, Halt>
+fn bracket(alloc: Global, tokens: &mut Cursor, height: u16, brackets: u16) -> Result<Found, Halt>
     requires { height ≤ 256 }
     ensures reads { Moves tree_of (λ ws n. bracket_at ws n (expr_at ws n height brackets)) tokens.old result tokens.new }
     ensures low { IfOk result (IsLow height) }
@@ -203,12 +183,7 @@ fn bracket(
 /// A cast, or an expression in brackets.
 #[tactic(auto, unfolding(crate::specs::Reading::opened_at), using(crate::proofs::Layers::expr_layers))]
 #[cycle(read)]
-fn opened(
-    alloc: Global,
-    tokens: &mut Cursor,
-    height: u16,
-    brackets: u16,
-) -> Result<Found, Halt>
+fn opened(alloc: Global, tokens: &mut Cursor, height: u16, brackets: u16) -> Result<Found, Halt>
     requires { height ≤ 256 }
     ensures reads { Moves tree_of (λ ws n. opened_at ws n (inside_of ws n height brackets) (below_of ws n height brackets) height brackets) tokens.old result tokens.new }
     ensures low { IfOk result (IsLow height) }
@@ -226,12 +201,7 @@ fn opened(
 /// A name or a number.
 #[tactic(auto, unfolding(crate::specs::Reading::leaf_at))]
 #[cycle(read)]
-fn leaf(
-    alloc: Global,
-    tokens: &mut Cursor,
-    height: u16,
-    brackets: u16,
-) -> Result<Found, Halt>
+fn leaf(alloc: Global, tokens: &mut Cursor, height: u16, brackets: u16) -> Result<Found, Halt>
     requires { height ≤ 256 }
     ensures reads { Moves tree_of (λ ws n. leaf_at ws n (below_of ws n height brackets) height) tokens.old result tokens.new }
     ensures low { IfOk result (IsLow height) }

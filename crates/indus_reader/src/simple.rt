@@ -120,12 +120,7 @@ fn values(alloc: Global, tokens: &mut Cursor, height: u16) -> Result<Vec<Expr>, 
 
 /// A report, whose number is `reports`.
 #[tactic(auto, unfolding(crate::specs::Reading::report_at))]
-pub fn report(
-    alloc: Global,
-    tokens: &mut Cursor,
-    height: u16,
-    reports: u32,
-) -> Result<Stmt, Halt>
+pub fn report(alloc: Global, tokens: &mut Cursor, height: u16, reports: u32) -> Result<Stmt, Halt>
     requires low { height ≤ 256 }
     requires counted { HasCounted reports tokens.old }
     ensures reads { Moves stmt_of (λ ws n. report_at ws n 256 height reports) tokens.old result tokens.new }

@@ -14,12 +14,7 @@ use std::alloc::Global;
 /// A loop.
 #[tactic(auto, unfolding(crate::specs::Reading::loop_at))]
 #[cycle(stmt)]
-fn walk(
-    alloc: Global,
-    tokens: &mut Cursor,
-    height: u16,
-    reports: u32,
-) -> Result<FoundStmt, Halt>
+fn walk(alloc: Global, tokens: &mut Cursor, height: u16, reports: u32) -> Result<FoundStmt, Halt>
     requires low { height ≤ 255 }
     requires counted { HasCounted reports tokens.old }
     ensures reads { Moves stmt_in (λ ws n. loop_at ws n 256 (stmt_at ws n 256 height) reports) tokens.old result tokens.new }
@@ -42,12 +37,7 @@ fn walk(
 /// `if` with its parts.
 #[tactic(auto, unfolding(crate::specs::Reading::if_at))]
 #[cycle(stmt)]
-fn choice(
-    alloc: Global,
-    tokens: &mut Cursor,
-    height: u16,
-    reports: u32,
-) -> Result<FoundStmt, Halt>
+fn choice(alloc: Global, tokens: &mut Cursor, height: u16, reports: u32) -> Result<FoundStmt, Halt>
     requires low { height ≤ 255 }
     requires counted { HasCounted reports tokens.old }
     ensures reads { Moves stmt_in (λ ws n. if_at ws n 256 (stmt_at ws n 256 height) (ifs_at ws n 256 height) height reports) tokens.old result tokens.new }
@@ -144,12 +134,7 @@ fn statements(
 
 /// A statement that begins with a name.
 #[tactic(auto, unfolding(crate::specs::Reading::other_at))]
-fn other(
-    alloc: Global,
-    tokens: &mut Cursor,
-    height: u16,
-    reports: u32,
-) -> Result<FoundStmt, Halt>
+fn other(alloc: Global, tokens: &mut Cursor, height: u16, reports: u32) -> Result<FoundStmt, Halt>
     requires low { height ≤ 255 }
     requires counted { HasCounted reports tokens.old }
     ensures reads { Moves stmt_in (λ ws n. other_at ws n 256 height) tokens.old result tokens.new }
@@ -202,12 +187,7 @@ fn statement(
 /// A statement that begins with `if`.
 #[tactic(auto, using(crate::proofs::Layers::ifs_layers))]
 #[cycle(stmt)]
-fn ifs(
-    alloc: Global,
-    tokens: &mut Cursor,
-    height: u16,
-    reports: u32,
-) -> Result<FoundStmt, Halt>
+fn ifs(alloc: Global, tokens: &mut Cursor, height: u16, reports: u32) -> Result<FoundStmt, Halt>
     requires low { height ≤ 255 }
     requires counted { HasCounted reports tokens.old }
     ensures reads { Moves stmt_in (λ ws n. ifs_at ws n 256 height reports) tokens.old result tokens.new }

@@ -1,14 +1,14 @@
 -- A spelled tree's places rise, by recursion on what spells it.
-use Rattle.std.proofs.Common.{◌≡◌, ℕ, suc, ◌+◌, ◌≤◌, ◌<◌, List, [], ◌∷◌, ◌++◌, length, Option, Some, None, refl, arith}
+use Rattle.std.proofs.Common.{ℕ, ◌+◌, ◌≤◌, List, [], ◌∷◌, ◌++◌, length, Option, Some, None, refl, arith}
 use Rattle.std.proofs.lemmas.List.{length-append}
 use Rattle.lex_words.specs.Seen.{Word, name, number, key}
 use Rattle.lex_words.specs.declared.key.Key.TheVariants as k
-use Rattle.indus_tree.specs.Tree.{Expr, Exprs, num, flag, read, count, index, member, negation, inversion, binary, cast, none, more, Stmt, Stmts, assign, cell, push, choice, loop, reject, report, done, next, Decl, Property}
+use Rattle.indus_tree.specs.Tree.{Expr, Exprs, num, flag, read, count, index, member, negation, inversion, binary, cast, none, more, Stmt, Stmts, assign, cell, push, choice, loop, reject, report, done, next, Decl}
 use Rattle.indus_spelling.specs.Expressions.{Spells, SpellsAll, a_number, a_true, a_false, a_name, an_index, a_length, a_not, an_inversion, a_cast, in_brackets, tighter, joined, a_member, a_tuple, last, then}
 use Rattle.indus_spelling.specs.Declarations as d
 use Rattle.indus_spelling.specs.Declarations.{SpellsValue, SpellsStart, no_start, a_start, SpellsDecl, a_tele, a_sensor, a_header, a_control, SpellsDecls, no_decl, a_decl}
-use Rattle.indus_spelling.specs.Properties.{SpellsSome, no_value, values, SpellsStmt, SpellsIfs, SpellsElse, SpellsBlock, SpellsMany, an_assign, a_cell, a_push, an_ifs, a_loop, a_reject, a_report, an_if, no_else, else_block, else_if, in_braces, no_more, one_more, push_name, SpellsProperty, a_property}
-use Rattle.indus_spelling.specs.Rising.{Rises, AllRise, StmtRises, BlockRises, StartRises, DeclsRise, PropertyRises, PlacesRise}
+use Rattle.indus_spelling.specs.Properties.{SpellsSome, no_value, values, SpellsStmt, SpellsIfs, SpellsElse, SpellsBlock, SpellsMany, an_assign, a_cell, a_push, an_ifs, a_loop, a_reject, a_report, an_if, no_else, else_block, else_if, in_braces, no_more, one_more, push_name, a_property}
+use Rattle.indus_spelling.specs.Rising.{Rises, AllRise, StmtRises, BlockRises, StartRises, DeclsRise, PlacesRise}
 
 -- ---- the bounds may be wider
 

@@ -1,5 +1,5 @@
 -- Which words spell an expression: one case for each production, on whole lists of words.
-use Rattle.std.specs.Prelude.{◌≡◌, ℕ, suc, ◌+◌, true, false, List, [], ◌∷◌, ◌++◌, length, Option, Some}
+use Rattle.std.specs.Prelude.{◌≡◌, ℕ, suc, ◌+◌, true, false, List, [], ◌∷◌, ◌++◌, length, Some}
 use Rattle.lex_text.specs.declared.literal.Literal.{Literal}
 use Rattle.lex_words.specs.Seen.{Word, name, number, key}
 use Rattle.lex_words.specs.declared.key.Key.{Key}

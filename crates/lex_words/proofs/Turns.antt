@@ -1,8 +1,8 @@
 -- The turns of code that reads with a cursor: what was read before, and what is still read.
-use Rattle.std.proofs.Common.{◌≡◌, ℕ, ◌+◌, ◌-◌, ◌≤◌, ◌<◌, Bool, true, false, List, [], ◌∷◌, ◌++◌, length, Result, Ok, Err, refl, sym, ap, subst, ◌∙◌, arith}
+use Rattle.std.proofs.Common.{◌≡◌, ℕ, ◌+◌, ◌-◌, ◌≤◌, ◌<◌, Bool, true, false, List, [], ◌∷◌, ◌++◌, length, Ok, Err, refl, sym, ap, subst, ◌∙◌, arith}
 use Rattle.std.specs.Prelude.{slice_get}
 use Rattle.lex_words.specs.Seen.{Word, at_key}
-use Rattle.lex_words.specs.Reading.{Fault, Read, ◌>>=◌, Fails, more_of, until}
+use Rattle.lex_words.specs.Reading.{Read, ◌>>=◌, Fails, more_of, until}
 use Rattle.lex_words.specs.Moving.{Place, Reader, Moves, behind, Eats}
 use Rattle.lex_words.specs.declared.halt.Halt.{Halt}
 use Rattle.lex_words.specs.declared.key.Key.{Key}

@@ -2,7 +2,7 @@
 --
 -- A tree that began with the words up to a dead one would be read (`complete`), where the reading of these words says
 -- fault, whatever stands behind them (`follows`); what is read is spelled (`sound`).
-use Rattle.std.proofs.Common.{◌≡◌, ℕ, zero, suc, ◌+◌, ◌≤◌, ◌<◌, Bool, true, false, cond, List, [], ◌∷◌, ◌++◌, length, take, drop, Some, None, Result, Ok, Err, refl, sym, ap, subst, ◌∙◌, arith, ◌⊎◌, inl, inr, append_assoc}
+use Rattle.std.proofs.Common.{◌≡◌, ℕ, zero, suc, ◌+◌, ◌≤◌, ◌<◌, Bool, true, false, cond, List, [], ◌∷◌, ◌++◌, length, take, drop, Some, Result, Ok, Err, refl, sym, ap, subst, ◌∙◌, arith, ◌⊎◌, inl, inr, append_assoc}
 use Rattle.std.proofs.lemmas.List.{append-nil, length-append, take_at, length-take, take-append-drop}
 use Rattle.std.proofs.lemmas.Bool.{cases_lt}
 use Rattle.std.proofs.lemmas.Bool.Decides.{nat_tests}
@@ -11,7 +11,7 @@ use Rattle.std.specs.Prelude.{slice_get, nat_lt}
 use Rattle.lex_words.specs.Seen.{Word}
 use Rattle.lex_words.specs.Brackets.{open_behind, left}
 use Rattle.lex_words.specs.Faults.{HasFewOpen, IsWithin, Begun, IsSyntax, HasRoom, IsTooDeep}
-use Rattle.lex_words.specs.Reading.{Fault, wrong, high, deep, Read, ◌>>=◌, all_read}
+use Rattle.lex_words.specs.Reading.{Fault, wrong, high, deep, Read, all_read}
 use Rattle.lex_words.proofs.Standing.{Stands, Stands-length, Stands-within}
 use Rattle.lex_words.proofs.Locality.{Follows, Shows}
 use Rattle.lex_words.proofs.Spelled.{Ends, Stops, Reads, Sound}

@@ -1,4 +1,4 @@
-use Rattle.std.proofs.Common.{◌≡◌, ℕ, ◌+◌, ◌-◌, ◌*◌, ◌≤◌, length, map}
+use Rattle.std.proofs.Common.{◌≡◌, ◌+◌, ◌-◌, ◌*◌, ◌≤◌, length, map}
 use Rattle.lex_words.proofs.Turns.{Turn}
 use Rattle.indus_tree.specs.Tree.{block_from}
 use Rattle.indus_tree.specs.View.{stmt_of}

@@ -2,7 +2,7 @@ use Rattle.std.proofs.Common.{◌+◌, length, refl, ◌∙◌, arith}
 use Rattle.std.proofs.lemmas.Result.{err_from_is_err_and}
 use Rattle.lex_words.specs.declared.key.Key.TheVariants.{Comma}
 use Rattle.lex_words.proofs.Turns.{more_fails, more_next, more_done}
-use Rattle.indus_reader.specs.Declaring.{type_at, others_at}
+use Rattle.indus_reader.specs.Declaring.{type_at}
 use Rattle.indus_reader.proofs.Turns.{others_front}
 use Rattle.indus_reader.proofs.types.other_types.Goals as goal
 
