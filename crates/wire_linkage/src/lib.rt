@@ -1,7 +1,7 @@
 //! The linked wire programs are a linkage, and one packet's way through them is a run of the network.
 //!
 //! The crate has definitions and two laws, and no code. The layer above gets the network of the wire
-//! program, `line3`, and `run_of_frame`, the run of one packet in it; the law that the linked programs
+//! program, `line3`, and `run_of_frame`, the run of one packet through programs in it; the law that the linked programs
 //! are a linkage, over every valid world; and the law that the way that the program computes is that run.
 //!
 //! Follows: Hydra, "Hydra: Effective Runtime Network Verification", SIGCOMM 2023.
@@ -20,16 +20,16 @@ ghost use Rattle.wire_linkage.specs.Line.{program_at, run_of_frame};
 ghost use Rattle.wire_linkage.specs.Linkage.{IsWireLinkage};
 ghost use Rattle.wire_linkage.specs.Ways.{ShowsWay, line3_links, net_before};
 
-/// For every property of the first small grammar the linked wire programs are a linkage of the wire
+/// For every small property the linked wire programs are a linkage of the wire
 /// program and the property on the line of three switches.
 pub fn wire_programs_are_a_linkage()
-    ensures { (p : Property) → IsSmall p → IsWireLinkage p }
+    ensures { (p : Property) → IsSmall p → IsWireLinkage (program_at p) p }
 {}
 
 /// The way of a frame through the linked programs, over 63 links at most, is the run of the world with
 /// this packet alone.
 pub fn a_way_is_a_run()
     ensures { (p : Property) (frame : List ℕ) →
-        ShowsWay (λ s. parts_of (program_at p s)) (run_of_frame p frame)
+        ShowsWay (λ s. parts_of (program_at p s)) (run_of_frame (program_at p) p frame)
         (travel 63 line3_links (longest_frame + (telemetry_of p.decls).size) (net_before p) 0 1 frame) }
 {}
