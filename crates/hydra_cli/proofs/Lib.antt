@@ -1,5 +1,3 @@
-pub mod Courses
-pub mod Writing
-pub mod Joining
 pub mod WireRun
 pub mod Checking
+pub mod SmallTests

@@ -23,7 +23,10 @@ use Rattle.hydra_cli.specs.declared.wire.LinkedLine.{LinkedLine}
 use Rattle.hydra_cli.specs.Line as line
 use Rattle.hydra_cli.specs.Line.{IsLinkedLine, fate_files, summary_of_way}
 use Rattle.hydra_cli.specs.Network.{link_limit, machine_for}
-use Rattle.hydra_cli.specs.Output.{Run, linked_files, program_file, frame_files, rejected_in, reports_in, summary_of, summary_of_run}
+use Rattle.wire_linkage.specs.Linkage.{IsWireLinkage}
+use Rattle.hydra_cli.specs.Output.{IsWireOutput}
+use Rattle.job_course.specs.Output.{Out}
+use Rattle.hydra_cli.specs.Wire.{Run, linked_files, program_file, frame_files, rejected_in, reports_in, summary_of, summary_of_run}
 
 -- the three switches with their linked programs are the network before the packet comes
 pub net_of-line : (p : Property) (l : LinkedLine) → IsLinkedLine p l → (machines : List Machine) (told : List code.Told)
@@ -45,16 +48,16 @@ limit_is p small = let few = small.few in omega (arith, few)
 
 -- the run from there
 pub run_shows : (p : Property) → IsSmall p → (frame : List ℕ) (limit : ℕ) (net : Net) → limit ≡ link_limit p → net ≡ net_before p
-    → ShowsWay (λ s. parts_of (program_at p s)) (run_of_frame p frame) (travel 63 wire_line_links limit net 0 1 frame)
+    → ShowsWay (λ s. parts_of (program_at p s)) (run_of_frame (program_at p) p frame) (travel 63 wire_line_links limit net 0 1 frame)
 run_shows p small frame limit net is before =
     let same : travel 63 wire_line_links limit net 0 1 frame ≡ travel 63 wire_line_links (longest_frame + (telemetry_of p.decls).size) (net_before p) 0 1 frame =
     ap₂ (λ (l : ℕ) (n : Net). travel 63 wire_line_links l n 0 1 frame) (is ∙ limit_is p small) before in
-    subst (λ way. ShowsWay (λ s. parts_of (program_at p s)) (run_of_frame p frame) way) (sym same) (way_is_run p frame)
+    subst (λ way. ShowsWay (λ s. parts_of (program_at p s)) (run_of_frame (program_at p) p frame) way) (sym same) (way_is_run p frame)
 
 -- the files of the linked programs
 pub linked_files-line : (p : Property) (out : List ℕ) (l : LinkedLine) → IsLinkedLine p l
     → program_file out (codes "s1") (program_of l.s1) ∷ program_file out (codes "s2") (program_of l.s2) ∷ program_file out (codes "s3") (program_of l.s3) ∷ []
-    ≡ linked_files out p
+    ≡ linked_files out (program_at p)
 linked_files-line p out l linked = rw (linked.s1, linked.s2, linked.s3) refl
 
 -- the same number of reports, from any number on
@@ -113,3 +116,20 @@ module _ (p : Property) (w : Run) (way : Net × Fate) (shows : ShowsWay (λ s. p
 pub cast-no_cell : (cells : List Word) → slice_get cells 0 ≡ None → 0 ≡ cast 32 (cell_at cells 0).value
 cast-no_cell [] none = refl
 cast-no_cell (x ∷ xs) none = cc
+
+-- a linkage, the written files and the summary are what `wire` owes
+pub wire_output : (programs : (switch : ℕ) → Program) (p : Property) (frame out : List ℕ) (given : Out) → IsWireLinkage programs p
+    → given.files ≡ linked_files out programs ++ frame_files out (run_of_frame programs p frame)
+    → given.text ≡ summary_of_run (run_of_frame programs p frame) → IsWireOutput p frame out given
+wire_output programs p frame out given linked files text = record {
+  headline = record {
+    programs = programs;
+    writes = files;
+    executes = text;
+    drop_rejected = λ w valid n. (linked.linkage.counts w valid n).dropped;
+    report = linked.linkage.reports;
+    send = linked.linkage.edge_frames;
+    registers = linked.linkage.forwarding_registers;
+  };
+  linkage = linked;
+}

@@ -8,7 +8,7 @@ use Rattle.wire_machine.specs.Machine.{Machine}
 use Rattle.wire_network.specs.Travel.{Net, Fate, left, dropped, lost}
 use Rattle.hydra_cli.specs.declared.wire.LinkedLine.{LinkedLine}
 use Rattle.hydra_cli.specs.declared.wire.Counts.{Counts}
-use Rattle.hydra_cli.specs.Output.{rejected_at, summary_of}
+use Rattle.hydra_cli.specs.Wire.{rejected_at, summary_of}
 
 -- each is the linked program of its switch
 pub record IsLinkedLine (p : Property) (line : LinkedLine) : Type 0 where

@@ -1,4 +1,4 @@
--- The lines of refusals, and the words and statuses of areas.
+-- The lines of refused properties.
 use Rattle.std.specs.Prelude.{ℕ, List, [], ◌∷◌, ◌++◌, codes}
 use Rattle.std.specs.Fmt.{decimal}
 use Rattle.lex_text.specs.declared.fault.LexFault.{LexFault}
@@ -7,46 +7,11 @@ use Rattle.indus_reader.specs.declared.fault.PropertyFault.{PropertyFault}
 use Rattle.indus_reader.specs.declared.fault.PropertyFault.TheVariants.{Lex, Syntax, TooDeep, NoMemory}
 use Rattle.indus_rules.specs.declared.rule.Rule.{Rule}
 use Rattle.indus_rules.specs.declared.rule.Rule.TheVariants as rule
-use Rattle.hydra_cli.specs.declared.status.Status.{Status}
-use Rattle.hydra_cli.specs.declared.status.Status.TheVariants.{BadProperty, BadCapture}
-use Rattle.hydra_cli.specs.declared.status.Area.{Area}
-use Rattle.hydra_cli.specs.declared.status.Area.TheVariants.{Property, Capture}
+use Rattle.job_course.specs.Lines.{memory_line}
 
--- a faulty command line
-abbrev pub words_line : List ℕ
-words_line = codes "hydra: words\n"
-
--- want of memory
-abbrev pub memory_line : List ℕ
-memory_line = codes "hydra: memory\n"
-
--- a file that is missing or could not be read
-abbrev pub read_line : (name : List ℕ) → List ℕ
-read_line name = codes "hydra: read " ++ name ++ 10 ∷ []
-
--- a file that could not be written; of the sink the name is `-`
-abbrev pub write_line : (name : List ℕ) → List ℕ
-write_line name = codes "hydra: write " ++ name ++ 10 ∷ []
-
--- the word of an area
-abbrev pub area_word : Area → List ℕ
-area_word Property = codes "property"
-area_word Capture = codes "capture"
-
--- the status of an area's refusals
-abbrev pub area_status : Area → Status
-area_status Property = BadProperty
-area_status Capture = BadCapture
-
--- a file that is longer than its limit
-abbrev pub long_line : Area → (name : List ℕ) → List ℕ
-long_line area name = codes "hydra: " ++ (area_word area ++ (32 ∷ (name ++ codes " Long\n")))
-
--- a property outside the small grammar
+-- a well-typed property that is not small
 abbrev pub not_built_line : (name : List ℕ) → List ℕ
 not_built_line name = codes "hydra: property " ++ (name ++ codes " NotBuilt\n")
-
--- ---- a property that is not read or not well typed
 
 -- the word of a fault of tokens, and its place; want of memory is no such fault
 abbrev pub lex_word : LexFault → List ℕ

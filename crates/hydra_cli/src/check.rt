@@ -1,21 +1,20 @@
-//! Properties of the whole language: their files, and what `check` says of them.
+//! `check`: the file of a well-typed property, and what is said of it.
 
 ghost use Rattle.std.specs.Prelude.{◌≡◌, ◌+◌, ◌/◌, ◌≤◌, length, IfOk, codes, string_bytes, ◌++◌};
 ghost use Rattle.indus_tree.specs.View.{property_of};
 ghost use Rattle.indus_reader.specs.Faults.{IsProperty};
 ghost use Rattle.indus_rules.specs.Rules.{IsWellTyped};
 ghost use Rattle.hydra_cli.specs.Command.{IsIllTyped, IsMisread, IsTyped, typed_property, whole_property};
-ghost use Rattle.hydra_cli.specs.Job.{out_of, typed_of};
+ghost use Rattle.job_course.specs.Output.{out_of};
+ghost use Rattle.hydra_cli.specs.Job.{typed_of};
 ghost use Rattle.hydra_cli.specs.Lines.{lex_place, lex_word, place_line, rule_word, type_line};
 ghost use Rattle.hydra_cli.specs.Output.{IsCheckOutput, bytes_of};
-ghost use Rattle.hydra_cli.specs.Steps.{Follows, Judged};
+ghost use Rattle.job_course.specs.Steps.{Follows, Judged};
 
-use crate::job::Output;
-use crate::reading::read_file;
-use crate::status::{Area, Refusal, Status, Stop};
 use indus_reader::{PropertyFault, read_property};
 use indus_tree::Property;
 use indus_types::{Rule, TypeFault, TypedProperty, check_property};
+use job_course::{Area, Output, Refusal, Status, Stop, read_file};
 use lex_text::LexFault;
 use outside::Store;
 use std::alloc::{AllocError, Global};

@@ -1,17 +1,17 @@
 //! What each command reads and makes.
 
 ghost use Rattle.std.specs.Prelude.{◌≡◌, IfOk, MatchOption, None, Some, map, string_bytes};
-ghost use Rattle.hydra_cli.specs.Command.{check, command_of, course_of, wire};
-ghost use Rattle.hydra_cli.specs.Job.{IsRead, job_of, out_of};
+ghost use Rattle.job_course.specs.Output.{out_of};
+ghost use Rattle.hydra_cli.specs.Command.{check, command_of, course_of, said_by, wire};
+ghost use Rattle.hydra_cli.specs.Job.{IsRead, job_of};
 ghost use Rattle.hydra_cli.specs.Output.{Outputs};
-ghost use Rattle.hydra_cli.specs.Plan.{Plans, said_by};
-ghost use Rattle.hydra_cli.specs.Steps.{Follows};
+ghost use Rattle.job_course.specs.Plan.{Plans};
+ghost use Rattle.job_course.specs.Steps.{Follows};
 
 use crate::check::{load_typed, sums};
-use crate::job::{Job, Output, WireJob};
-use crate::reading::{load_frame, load_property};
-use crate::status::Stop;
-use crate::wire::run_wire;
+use crate::job::{Job, WireJob};
+use crate::wire::{load_frame, load_small, run_wire};
+use job_course::{Output, Stop};
 use outside::Store;
 use std::alloc::{AllocError, Global};
 
@@ -49,7 +49,7 @@ pub fn read_words<'a>(words: &'a [String]) -> Option<Command<'a>>
 
 /// What a command writes.
 pub fn plan<S: Store>(alloc: Global, store: &mut S, command: Command<'_>) -> Result<Output, Stop>
-    ensures { Plans (course_of (said_by command.entry)) (S.state store.old) (S.state store.new) result }
+    ensures { Plans Outputs (course_of (said_by command.entry)) (S.state store.old) (S.state store.new) result }
 {
     let job = read_job(alloc, store, command)?;
     Ok(run(alloc, job)?)
@@ -75,7 +75,7 @@ fn read_wire<S: Store>(
     ensures follows { Follows (course_of (wire property.now frame.now out.now)) job_of (S.state store.old) (S.state store.new) result }
     ensures read { IfOk result (λ j. IsRead (job_of j)) }
 {
-    let property = load_property(alloc, store, property)?;
+    let property = load_small(alloc, store, property)?;
     let frame = load_frame(alloc, store, frame)?;
     let out = String::from_str(alloc, out)?;
     Ok(Job::Wire(WireJob {

@@ -11,24 +11,22 @@
 
 ghost use Rattle.std.specs.Prelude.{map, string_bytes};
 ghost use Rattle.hydra_cli.specs.Command.{command_of};
-ghost use Rattle.hydra_cli.specs.Ending.{Answers, IsComplete};
+ghost use Rattle.hydra_cli.specs.Answers.{Answers, IsComplete};
 
 mod check;
 #[cfg(test)]
 mod check_tests;
 mod command;
-mod delivery;
 mod job;
 #[cfg(test)]
 mod parts_tests;
-mod reading;
-mod status;
+mod small;
 #[cfg(test)]
 mod tests;
 mod wire;
 
+use job_course::{Status, deliver, refuse, say};
 use outside::{RealSink, RealStore, Sink, Store};
-use status::Status;
 use std::alloc::Global;
 use std::process::ExitCode;
 use std::{env, io};
@@ -47,12 +45,12 @@ pub fn hydra<S: Store, K: Sink>(
 {
     match command::read_words(words) {
         None => {
-            delivery::say(out, b"hydra: words\n");
+            say(out, b"hydra: words\n");
             Status::BadWords
         }
         Some(command) => match command::plan(alloc, store, command) {
-            Ok(output) => delivery::deliver(alloc, store, out, &output),
-            Err(stop) => delivery::refuse(out, &stop),
+            Ok(output) => deliver(alloc, store, out, &output),
+            Err(stop) => refuse(out, &stop),
         },
     }
 }

@@ -1,10 +1,10 @@
 //! The parts of a linked program, as its text has them.
 
+use indus_reader::read_property;
 use lex_text::Name;
 use std::test::Fail;
 use wire_linker::link_wire;
 use wire_parts::parts_of;
-use wire_reader::read_small;
 
 const COUNTS: &[u8] = b"tele bit<8> n; {} {n = n + 1;} {if (n == 2) {reject;}}";
 
@@ -15,7 +15,7 @@ fn is_path(path: &[Name], names: &[&str]) -> bool {
 #[test]
 fn linked_program_has_these_parts(rt: HostRuntime) -> Result<(), Fail> {
     let alloc = rt.alloc();
-    let Ok(property) = read_small(alloc, COUNTS) else {
+    let Ok(property) = read_property(alloc, COUNTS) else {
         assert!(rt; false);
         return Ok(());
     };

@@ -96,6 +96,54 @@ fn seven_variables_in_nested_tests(rt: HostRuntime) -> Result<(), Fail> {
     Ok(())
 }
 
+#[test]
+fn small_properties_are_taken(rt: HostRuntime) -> Result<(), Fail> {
+    for property in "\
+{}{}{}
+{}{}{reject;reject;}
+/* nothing */ {} {} {} // is done
+tele bit<8> n;{}{n=n+1;}{if(n==3){reject;}}
+tele bit<8> n; {n = 255;} {n = 007 + (0x1f + 2_5);} {}
+tele bit<8> _N9; {_N9 = _N9;} {} {}
+tele bit<8> bits; tele bit<8> ifs; {bits = ifs;} {} {}
+tele bit<8> n; {if (n == n + 1 + n) {}} {n = 1; n = 2;} {if (n == 0) {if (n == 1) {n = 2;} reject;}}
+tele bit<8> a; tele bit<8> b; tele bit<8> c; tele bit<8> d; tele bit<8> e; tele bit<8> f; tele bit<8> g; {}{}{}"
+        .lines()
+    {
+        let (status, _, _) = wired(rt.alloc(), property, &[])?;
+        assert_eq!(rt; status, Status::Done, "{property}");
+    }
+    Ok(())
+}
+
+#[test]
+fn other_properties_are_not_built(rt: HostRuntime) -> Result<(), Fail> {
+    for property in "\
+tele bit<16> n; {} {} {}
+tele bool b; {} {} {}
+tele bit<8>[2] l; {} {} {}
+sensor bit<8> s; {} {} {}
+header bit<8> h = meta.h; {} {} {}
+control bit<8> c; {} {} {}
+tele bit<8> a; tele bit<8> b; tele bit<8> c; tele bit<8> d; tele bit<8> e; tele bit<8> f; tele bit<8> g; tele bit<8> h; {}{}{}
+tele bit<8> n; {n = 8w1;} {} {}
+tele bit<8> n; {n = 1 - 1;} {} {}
+tele bit<8> n; {n = ~n;} {} {}
+tele bit<8> n; {n = (bit<8>) n;} {} {}
+tele bit<8> n; {if (1 == n) {}} {} {}
+tele bit<8> n; {if (n != 1) {}} {} {}
+tele bit<8> n; {if (true) {}} {} {}
+tele bit<8> n; {if (n == 1) {} else {n = 1;}} {} {}
+tele bit<8> n; {} {} {report(n);}"
+        .lines()
+    {
+        let (status, _, out) = wired(rt.alloc(), property, &[])?;
+        assert_eq!(rt; status, Status::BadProperty, "{property}");
+        assert_eq!(rt; out.taken(), NOT_BUILT.as_bytes(), "{property}");
+    }
+    Ok(())
+}
+
 /// No call fails.
 const NONE: (&[u64], &[u64]) = (&[], &[]);
 
@@ -118,7 +166,7 @@ fn answered(
 #[test]
 fn refusals_say_their_cause(rt: HostRuntime) -> Result<(), Fail> {
     let alloc = rt.alloc();
-    let rows: [(&str, &str, Status, &str); 8] = [
+    let rows: [(&str, &str, Status, &str); 7] = [
         ("", LEAVES, Status::BadWords, "hydra: words\n"),
         ("wire p f", LEAVES, Status::BadWords, "hydra: words\n"),
         ("check p f o", LEAVES, Status::BadWords, "hydra: words\n"),
@@ -126,12 +174,6 @@ fn refusals_say_their_cause(rt: HostRuntime) -> Result<(), Fail> {
         ("wire p g o", LEAVES, Status::ReadFault, "hydra: read g\n"),
         ("wire p g o", SENSOR, Status::BadProperty, NOT_BUILT),
         ("wire p f o", SENSOR, Status::BadProperty, NOT_BUILT),
-        (
-            "wire p f o",
-            "{} {} {} // end",
-            Status::BadProperty,
-            NOT_BUILT,
-        ),
     ];
     for (line, property, status, said) in rows {
         let (answer, store, out) = answered(alloc, line, property.as_bytes(), &[1, 2], NONE)?;
@@ -145,7 +187,7 @@ fn refusals_say_their_cause(rt: HostRuntime) -> Result<(), Fail> {
 #[test]
 fn files_past_their_limits_are_refused(rt: HostRuntime) -> Result<(), Fail> {
     let alloc = rt.alloc();
-    let spaces = vec![in alloc; 32u8; 4097]?;
+    let spaces = vec![in alloc; 32u8; 65537]?;
     let (status, _, out) = answered(alloc, "wire p f o", &spaces, &[], NONE)?;
     assert_eq!(rt; status, Status::BadProperty);
     assert_eq!(rt; out.taken(), b"hydra: property p Long\n".as_slice());

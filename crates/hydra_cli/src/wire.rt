@@ -1,27 +1,38 @@
-//! The wire program's run: three switches in a line, and one frame.
+//! `wire`: the files that it reads, and the wire program's run: three switches in a line, and one frame.
 
 ghost use Rattle.std.specs.Prelude.{◌≡◌, ◌++◌, ◌∷◌, ◌<◌, ◌≤◌, ◌-◌, ◌*◌, ◌^◌, IfOk, OnOk, codes, count_by, length, map, nat_eq, string_bytes, sum_by, []};
 ghost use Rattle.indus_tree.specs.Small.{IsSmall};
-ghost use Rattle.indus_tree.specs.View.{property_of};
 ghost use Rattle.p4_tree.specs.View.{program_of};
 ghost use Rattle.wire_machine.specs.Machine.{machine_of};
 ghost use Rattle.wire_network.specs.Fates.{fate_of, net_of, told_of};
 ghost use Rattle.wire_network.specs.Travel.{travel};
-ghost use Rattle.hydra_cli.specs.Job.{file_of, files_of, out_of};
+ghost use Rattle.hydra_cli.specs.Job.{typed_of};
+ghost use Rattle.hydra_cli.specs.Lines.{not_built_line};
 ghost use Rattle.linkage.specs.Linkage.{report_receiver};
 ghost use Rattle.wire_linkage.specs.Ways.{wire_line_links};
+ghost use Rattle.job_course.specs.Output.{file_of, files_of, out_of};
+ghost use Rattle.job_course.specs.Steps.{Follows, Judged};
+ghost use Rattle.hydra_cli.specs.Command.{IsBuilt, IsNotBuilt, frame, small_property};
 ghost use Rattle.hydra_cli.specs.Line.{IsLinkedLine, fate_files, rejected_by as rejected_of, summary_of_counts, summary_of_way};
 ghost use Rattle.hydra_cli.specs.Network.{link_limit, machine_for};
-ghost use Rattle.hydra_cli.specs.Output.{IsWireOutput, program_file};
+ghost use Rattle.hydra_cli.specs.Output.{IsWireOutput};
+ghost use Rattle.hydra_cli.specs.Wire.{program_file};
 
-use crate::job::{Output, WireJob};
-use indus_tree::Property;
+use crate::check::load_typed;
+use crate::job::WireJob;
+use crate::small::is_small;
+use indus_types::TypedProperty;
+use job_course::{Area, Output, Refusal, Status, Stop, read_file};
+use outside::Store;
 use p4_tree::Program;
 use std::alloc::{AllocError, Global};
 use wire_linker::link_wire;
 use wire_machine::Switch;
 use wire_network::{Arrival, Fate, Link, Told, carry};
 use wire_printer::program_words;
+
+/// The greatest length of a frame, in bytes.
+const FRAME_LIMIT: u64 = 65535;
 
 /// How many switches a packet may pass.
 const HOPS: u8 = 64;
@@ -63,10 +74,52 @@ pub struct Counts {
     pub reports: usize,
 }
 
+// ---- reading
+
+/// A property's file, whose property has to be well typed and small.
+pub fn load_small<S: Store>(alloc: Global, store: &mut S, name: &str) -> Result<TypedProperty, Stop>
+    ensures follows { Follows (small_property name.now) typed_of (S.state store.old) (S.state store.new) result }
+    ensures small { IfOk result (λ t. IsSmall (typed_of t)) }
+{
+    let property = load_typed(alloc, store, name)?;
+    small(alloc, name, property)
+}
+
+/// A frame's file.
+pub fn load_frame<S: Store>(alloc: Global, store: &mut S, name: &str) -> Result<Vec<u8>, Stop>
+    ensures follows { Follows (frame name.now) (λ b. b.items) (S.state store.old) (S.state store.new) result }
+    ensures within { IfOk result (λ b. length b.items ≤ 65535) }
+{
+    read_file(alloc, store, name, FRAME_LIMIT, Area::Capture)
+}
+
+/// The property, where it is small.
+fn small(alloc: Global, name: &str, property: TypedProperty) -> Result<TypedProperty, Stop>
+    ensures judged { Judged (IsBuilt (typed_of property)) (IsNotBuilt name.now (typed_of property)) typed_of result }
+    ensures small { IfOk result (λ t. IsSmall (typed_of t)) }
+{
+    if is_small(property.property()) {
+        Ok(property)
+    } else {
+        Err(Stop::Refused(Refusal {
+            status: Status::BadProperty,
+            line: not_built_text(alloc, name)?,
+        }))
+    }
+}
+
+fn not_built_text(alloc: Global, name: &str) -> Result<String, AllocError>
+    ensures { IfOk result (λ s. string_bytes s ≡ not_built_line name.now) }
+{
+    format!(in alloc; "hydra: property {name} NotBuilt\n")
+}
+
+// ---- the run
+
 /// Links the property into the wire program on the three switches, and carries the frame.
 pub fn run_wire(alloc: Global, job: WireJob) -> Result<Output, AllocError>
-    requires small { IsSmall (property_of job.property) }
-    ensures { IfOk result (λ o. IsWireOutput (property_of job.property) job.frame.items (string_bytes job.out) (out_of o)) }
+    requires small { IsSmall (typed_of job.property) }
+    ensures { IfOk result (λ o. IsWireOutput (typed_of job.property) job.frame.items (string_bytes job.out) (out_of o)) }
 {
     let WireJob {
         property,
@@ -86,9 +139,10 @@ pub fn run_wire(alloc: Global, job: WireJob) -> Result<Output, AllocError>
 }
 
 /// The linked programs: s1 has a link at port 2, s2 at ports 1 and 2, and s3 at port 1.
-fn link_line(alloc: Global, property: &Property) -> Result<LinkedLine, AllocError>
-    ensures { IfOk result (λ l. IsLinkedLine (property_of property.now) l) }
+fn link_line(alloc: Global, property: &TypedProperty) -> Result<LinkedLine, AllocError>
+    ensures { IfOk result (λ l. IsLinkedLine (typed_of property.now) l) }
 {
+    let property = property.property();
     let s1 = link_wire(alloc, property, &[2])?;
     let s2 = link_wire(alloc, property, &[1, 2])?;
     let s3 = link_wire(alloc, property, &[1])?;
@@ -111,7 +165,7 @@ fn texts_of(
 }
 
 /// The file of a switch's linked program.
-#[tactic(auto, unfolding(crate::specs::Output::program_file))]
+#[tactic(auto, unfolding(crate::specs::Wire::program_file))]
 fn linked_text(
     alloc: Global,
     out: &String,
@@ -166,11 +220,11 @@ fn carry_frame(
 }
 
 /// The greatest length of a frame on a link: 65,535 bytes and the telemetry's, 256 at most.
-fn link_limit_of(property: &Property) -> u32
-    ensures limit { result ≡ link_limit (property_of property.now) }
+fn link_limit_of(property: &TypedProperty) -> u32
+    ensures limit { result ≡ link_limit (typed_of property.now) }
     ensures low { result ≤ 65791 }
 {
-    let fields = property.decls.len();
+    let fields = property.property().decls.len();
     let counted = if fields < 255 { fields as u32 } else { 255 };
     65_536 + counted
 }

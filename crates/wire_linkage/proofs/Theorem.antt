@@ -13,7 +13,7 @@ use Rattle.linked_halves.specs.Telemetry.{telemetry_of}
 use Rattle.linked_halves.specs.Networks.{machine_of, registers_of, ports_at}
 use Rattle.linked_halves.specs.Given.{Given, IsGiven, linked_machine, AnyEntries, NoVariable, NoContents}
 use Rattle.linked_halves.proofs.Theorem.{linked}
-use Rattle.wire_linkage.specs.Line.{wire_line, plain_line, linked_line}
+use Rattle.wire_linkage.specs.Line.{wire_line, program_at, plain_line, line_of}
 use Rattle.wire_linkage.specs.Linkage.{IsWireLinkage}
 use Rattle.wire_linkage.proofs.Instance.{linked_wire_parts, wire_forwards, linked_names}
 use Rattle.wire_linkage.proofs.Ways.{wire_line_is}
@@ -26,10 +26,10 @@ module _ (p : Property) (small : IsSmall p) where
   is_given = record { forwarding = wire_forwards; property = small; network = wire_line_is; ports = omega arith }
 
   -- the machine of the parts is that of the programs
-  same_machine : linked_machine given ≡ linked_line p
+  same_machine : linked_machine given ≡ line_of (program_at p)
   same_machine = ap machine_of (λ i s. sym (linked_wire_parts p (ports_at wire_line.links s)) i)
 
-  pub wire_linked : IsWireLinkage p
+  pub wire_linked : IsWireLinkage (program_at p) p
   wire_linked =
       record {
         linkage =

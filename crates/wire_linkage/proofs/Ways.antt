@@ -24,7 +24,7 @@ use Rattle.wire_network.specs.Travel.{Net, Fate, left, dropped, lost, left_from,
 use Rattle.wire_network.specs.declared.link.Link.{Link}
 use Rattle.linked_halves.specs.Telemetry.{telemetry_of}
 use Rattle.linked_halves.specs.Networks.{network_digest, machine_of, going_of}
-use Rattle.wire_linkage.specs.Line.{wire_line, program_at, linked_line, one_packet, run_of_frame}
+use Rattle.wire_linkage.specs.Line.{wire_line, program_at, line_of, one_packet, run_of_frame}
 use Rattle.wire_linkage.specs.Ways.{wire_line_links, machines, net_before, told_of, edges_of, dropped_of, lost_of, ShowsWay}
 
 eq_by : (a b : ℕ) (c d : Bool) → nat_eq a b ≡ c → nat_eq b a ≡ d → c ≡ d
@@ -316,8 +316,8 @@ module _ (parts : ℕ → Parts) where
       (subst (λ v. ShowsWay parts (run_of_halves (machine_of parts) wire_line (limits (suc k) limit) v (Enter 0 ∷ to_its_end 0 k)) (travel k wire_line_links limit n s port frame)) (sym (ap (leaves (machine_of parts) wire_line (limits (suc k) limit) w 0) comes.place))
       (follows (suc k) limit k w n s port frame 0 comes (let all : 0 + suc k ≡ suc k = omega arith in all)))
 
-pub way_is_run : (p : Property) (frame : List ℕ) → ShowsWay (λ s. parts_of (program_at p s)) (run_of_frame p frame) (travel 63 wire_line_links (longest_frame + (telemetry_of p.decls).size) (net_before p) 0 1 frame)
+pub way_is_run : (p : Property) (frame : List ℕ) → ShowsWay (λ s. parts_of (program_at p s)) (run_of_frame (program_at p) p frame) (travel 63 wire_line_links (longest_frame + (telemetry_of p.decls).size) (net_before p) 0 1 frame)
 unfolding run_of_frame
 way_is_run p frame =
-    from_start (λ s. parts_of (program_at p s)) 63 (longest_frame + (telemetry_of p.decls).size) (first_net (linked_line p) (one_packet frame)) (net_before p) 0 1 frame
+    from_start (λ s. parts_of (program_at p s)) 63 (longest_frame + (telemetry_of p.decls).size) (first_net (line_of (program_at p)) (one_packet frame)) (net_before p) 0 1 frame
     (record { place = refl; known = omega arith; switches = refl; told = refl; edges = refl; dropped_none = refl; lost_none = refl })

@@ -26,13 +26,13 @@ wire_line =
 abbrev pub program_at : Property → (switch : ℕ) → Program
 program_at p s = linked_wire p (ports_at wire_line.links s)
 
+-- these programs at the switches
+abbrev pub line_of : (programs : (switch : ℕ) → Program) → Machine (Unit {0}) Registers Queued Contents
+line_of programs = machine_of (λ s. parts_of (programs s))
+
 -- the wire program at each switch
 abbrev pub plain_line : Machine (Unit {0}) Registers Queued Contents
-plain_line = machine_of (λ s. parts_of wire_program)
-
--- the linked program at each switch
-abbrev pub linked_line : Property → Machine (Unit {0}) Registers Queued Contents
-linked_line p = machine_of (λ s. parts_of (program_at p s))
+plain_line = line_of (λ s. wire_program)
 
 -- one packet that comes to the first switch by port 1 and may pass 64 switches, without a schedule: it goes on
 -- to its end. No number names a control variable, so their contents are no matter
@@ -46,6 +46,6 @@ one_packet frame =
       events = [];
     }
 
--- the network of the linked programs at the end
-unfoldable pub run_of_frame : Property → (frame : List ℕ) → Net Registers Queued Contents
-run_of_frame p frame = net_at_end (linked_line p) wire_line (telemetry_of p.decls).size (one_packet frame)
+-- the network of these programs at the end, on whose links a frame is longer by the property's telemetry
+unfoldable pub run_of_frame : (programs : (switch : ℕ) → Program) → Property → (frame : List ℕ) → Net Registers Queued Contents
+run_of_frame programs p frame = net_at_end (line_of programs) wire_line (telemetry_of p.decls).size (one_packet frame)

@@ -1,9 +1,9 @@
 //! The linked wire programs are a linkage, and one packet's way through them is a run of the network.
 //!
 //! The crate has definitions and three laws, and no code. The layer above gets the network of the wire
-//! program, `wire_line`, and `run_of_frame`, the run of one packet in it; the law that the linked programs
-//! are a linkage, over every valid world; that the world of one packet is valid; and the law that the
-//! way that the program computes is its run.
+//! program, `wire_line`, and `run_of_frame`, the run of one packet through programs in it; the law that
+//! the linked programs are a linkage, over every valid world; that the world of one packet is valid; and
+//! the law that the way that the program computes is that run.
 //!
 //! Follows: Hydra, "Hydra: Effective Runtime Network Verification", SIGCOMM 2023.
 //!
@@ -23,10 +23,10 @@ ghost use Rattle.wire_linkage.specs.Line.{wire_line, one_packet, program_at, run
 ghost use Rattle.wire_linkage.specs.Linkage.{IsWireLinkage};
 ghost use Rattle.wire_linkage.specs.Ways.{ShowsWay, wire_line_links, net_before};
 
-/// For every property of the first small grammar the linked wire programs are a linkage of the wire
+/// For every small property the linked wire programs are a linkage of the wire
 /// program and the property on the line of three switches.
 pub fn wire_programs_are_a_linkage()
-    ensures { (p : Property) → IsSmall p → IsWireLinkage p }
+    ensures { (p : Property) → IsSmall p → IsWireLinkage (program_at p) p }
 {}
 
 /// The world of one packet is among those worlds, where its frame has at most 65,535 bytes.
@@ -39,6 +39,6 @@ pub fn one_packet_is_valid()
 /// this packet alone.
 pub fn a_way_is_a_run()
     ensures { (p : Property) (frame : List ℕ) →
-        ShowsWay (λ s. parts_of (program_at p s)) (run_of_frame p frame)
+        ShowsWay (λ s. parts_of (program_at p s)) (run_of_frame (program_at p) p frame)
         (travel 63 wire_line_links (longest_frame + (telemetry_of p.decls).size) (net_before p) 0 1 frame) }
 {}

@@ -1,4 +1,4 @@
-//! Tests of P4 trees and of the wire program: its reader, linker, printer and machine.
+//! Tests of P4 trees and of the wire program: its linker, printer and machine.
 #![tactic(auto)]
 
 #[cfg(test)]
@@ -11,8 +11,6 @@ mod network;
 mod nodes;
 #[cfg(test)]
 mod printing;
-#[cfg(test)]
-mod reading;
 #[cfg(test)]
 mod statements;
 #[cfg(test)]

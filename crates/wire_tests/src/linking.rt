@@ -1,8 +1,8 @@
 //! The wire program and a linked one.
 
+use indus_reader::read_property;
 use std::test::Fail;
 use wire_linker::{link_wire, wire_program};
-use wire_reader::read_small;
 
 #[test]
 fn a_rejecting_property_is_linked(rt: HostRuntime) -> Result<(), Fail> {
@@ -10,7 +10,7 @@ fn a_rejecting_property_is_linked(rt: HostRuntime) -> Result<(), Fail> {
     let wire = wire_program(alloc)?;
     assert_eq!(rt; wire.tops.len(), 8);
     assert_eq!(rt; wire.main.len(), 6);
-    let property = read_small(alloc, b"tele bit<8> n; {} {} {reject;}")?;
+    let property = read_property(alloc, b"tele bit<8> n; {} {} {reject;}")?;
     let linked = link_wire(alloc, &property, &[1, 2])?;
     assert_eq!(rt; linked.tops.len(), 10);
     let text = format!(in alloc; "{linked:?}")?;

@@ -2,11 +2,11 @@
 
 use crate::machine::small_program;
 use crate::printing::every_declaration;
+use indus_reader::read_property;
 use p4_tree::{Expr, Program, Stmt};
 use std::alloc::{AllocError, Global};
 use std::test::Fail;
 use wire_linker::link_wire;
-use wire_reader::read_small;
 
 /// A copy of the program is shown as the program is.
 fn is_copied(alloc: Global, program: &Program) -> Result<bool, AllocError> {
@@ -19,7 +19,7 @@ fn is_copied(alloc: Global, program: &Program) -> Result<bool, AllocError> {
 #[test]
 fn programs_are_copied(rt: HostRuntime) -> Result<(), Fail> {
     let alloc = rt.alloc();
-    let counting = read_small(
+    let counting = read_property(
         alloc,
         b"tele bit<8> n; {} {n = n + 1;} {if (n == 3) {reject;}}",
     )?;

@@ -1,4 +1,4 @@
-use Rattle.hydra_cli.proofs.Courses.{follows_then, follows_first, follows_exit, judged_follows}
+use Rattle.job_course.proofs.Courses.{follows_then, follows_first, follows_exit, judged_follows}
 use Rattle.hydra_cli.proofs.check.load_typed.Goals as goal
 
 pub returns-in_err-tree-clause-follows : goal.returns-in_err-tree-clause-follows

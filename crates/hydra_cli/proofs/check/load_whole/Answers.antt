@@ -1,4 +1,4 @@
-use Rattle.hydra_cli.proofs.Courses.{follows_then, follows_first, follows_exit, judged_follows}
+use Rattle.job_course.proofs.Courses.{follows_then, follows_first, follows_exit, judged_follows}
 use Rattle.hydra_cli.proofs.check.load_whole.Goals as goal
 
 pub returns-in_err-text : goal.returns-in_err-text

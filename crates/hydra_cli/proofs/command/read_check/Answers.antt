@@ -1,5 +1,5 @@
 use Rattle.std.proofs.Common.{rules}
-use Rattle.hydra_cli.proofs.Courses.{follows_then, follows_first, follows_exit, follows_give}
+use Rattle.job_course.proofs.Courses.{follows_then, follows_first, follows_exit, follows_give}
 use Rattle.hydra_cli.proofs.command.read_check.Goals as goal
 
 pub returns-in_err-property-clause-follows : goal.returns-in_err-property-clause-follows

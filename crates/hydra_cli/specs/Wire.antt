@@ -1,0 +1,55 @@
+-- What `wire` writes: the texts of programs, the frame that left their network, and the summary of their run.
+use Rattle.std.specs.Prelude.{ℕ, ◌-◌, List, [], ◌∷◌, ◌++◌, length, map, sum_by, count_by, codes}
+use Rattle.std.specs.Fmt.{decimal}
+use Rattle.bit_values.specs.Bits.{cast}
+use Rattle.p4_tree.specs.Tree.{Program}
+use Rattle.p4_tree.specs.Statements.{cell_at}
+use Rattle.p4_tree.specs.Pass.{Registers, Queued}
+use Rattle.network_run.specs.Network.{Net}
+use Rattle.linkage.specs.Linkage.{is_report}
+use Rattle.wire_linker.specs.Monitor.{rejects_register}
+use Rattle.wire_printer.specs.Text.{text_of}
+use Rattle.wire_printer.specs.Programs.{words_of_program}
+
+-- the file of a switch's linked program: its words, each with a line feed behind it
+unfoldable pub program_file : (out switch : List ℕ) → Program → List ℕ × List ℕ
+program_file o s g = (o ++ (codes ".linked." ++ (s ++ codes ".p4")), text_of (words_of_program g))
+
+-- the files of the switches' programs, in the network's order
+abbrev pub linked_files : (out : List ℕ) → (programs : (switch : ℕ) → Program) → List (List ℕ × List ℕ)
+linked_files o programs =
+    program_file o (codes "s1") (programs 0)
+    ∷ program_file o (codes "s2") (programs 1)
+    ∷ program_file o (codes "s3") (programs 2)
+    ∷ []
+
+-- the network of the three switches, as far as it has come
+abbrev pub Run : Type 0
+Run = Net Registers Queued (Unit {0})
+
+-- the file of each frame that left by an edge port; of one packet there is one at most
+abbrev pub frame_files : (out : List ℕ) → Run → List (List ℕ × List ℕ)
+frame_files o w = map (λ e. (o ++ codes ".frame", e.frame)) w.edges
+
+-- how many packets a switch's register counts as rejected
+abbrev pub rejected_at : Registers → ℕ
+rejected_at cells = cast 32 (cell_at (cells rejects_register) 0).value
+
+-- how many packets all switches count as rejected
+abbrev pub rejected_in : Run → ℕ
+rejected_in w = sum_by (λ s. rejected_at (w.switches s)) (0 ∷ 1 ∷ 2 ∷ [])
+
+-- how many of the digests are reports
+abbrev pub reports_in : Run → ℕ
+reports_in w = count_by (λ t. is_report t.digest) w.told
+
+-- the six lines of the summary of one packet
+abbrev pub summary_of : (sent dropped rejected lost reports : ℕ) → List ℕ
+summary_of s d r l n =
+    codes "packets 1\nsent " ++ (decimal s ++ (codes "\ndropped " ++ (decimal d ++ (codes "\nrejected " ++ (decimal r
+    ++ (codes "\nlost " ++ (decimal l ++ (codes "\nreports " ++ (decimal n ++ codes "\n")))))))))
+
+-- the summary of a run: how many packets left, were dropped and not rejected, were rejected, were lost, and how
+-- many reports there are
+abbrev pub summary_of_run : Run → List ℕ
+summary_of_run w = summary_of (length w.edges) (length w.dropped - rejected_in w) (rejected_in w) (length w.lost) (reports_in w)

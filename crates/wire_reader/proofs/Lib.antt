@@ -1,9 +1,0 @@
-pub mod Prefixes
-pub mod Fronts
-pub mod Stands
-pub mod Sound
-pub mod Complete
-pub mod Smallness
-pub mod Whole
-pub mod Views
-pub mod Layers
