@@ -5,30 +5,32 @@ use Rattle.std.specs.Prelude.{◌≡◌, ℕ, ◌+◌, ◌<◌, List, ◌++◌, 
 use Rattle.p4_tree.specs.Tree.{Program}
 use Rattle.p4_tree.specs.Parts.{parts_of}
 use Rattle.indus_tree.specs.Tree.{Property}
+use Rattle.indus_tree.specs.State.{Contents, Held}
+use Rattle.indus_tree.specs.Law.{law_of}
 use Rattle.network_run.specs.Network.{times, one_if}
 use Rattle.network_run.specs.PathMeaning.{Path, path_meaning, rejects}
 use Rattle.network_run.specs.World.{World, IsValid, net_after}
 use Rattle.linkage.specs.Linkage.{SameRegisters, is_report, told_report}
 use Rattle.linked_halves.specs.Given.{AnyEntries, NoVariable, NoContents}
-use Rattle.linked_halves.specs.Networks.{law_of, registers_of}
-use Rattle.linked_halves.specs.Telemetry.{Tele, telemetry_of}
+use Rattle.linked_halves.specs.Networks.{registers_of}
+use Rattle.linked_halves.specs.Telemetry.{telemetry_of}
 use Rattle.wire_linker.specs.WireProgram.{wire_program}
-use Rattle.wire_linkage.specs.Line.{line3, plain_line, line_of, run_of_frame}
+use Rattle.wire_linkage.specs.Line.{wire_line, plain_line, line_of, run_of_frame}
 use Rattle.job_course.specs.Output.{Out}
 use Rattle.hydra_cli.specs.Wire.{Run, linked_files, frame_files, summary_of_run}
 
 -- what is claimed of the network of the forwarding program alone, of that of the linked programs, and
 -- of what the property says of the paths that packets take in the first
 abbrev pub Claim : Type 1
-Claim = (alone linked : Run) → (path : Path Tele (Unit {0})) → Type 0
+Claim = (alone linked : Run) → (path : Path Held Held) → Type 0
 
 -- it holds in every valid world, which is any packets and any schedule, after every number of steps
 abbrev pub InEveryWorld : (p : Property) (programs : (switch : ℕ) → Program) → Claim → Type 0
 InEveryWorld p programs Holds =
-    (w : World (Unit {0}) (Unit {0})) → IsValid line3 AnyEntries NoVariable NoContents w → (n : ℕ) →
-    Holds (net_after plain_line line3 0 w n)
-    (net_after (line_of programs) line3 (telemetry_of p.decls).size w n)
-    (path_meaning (law_of p) (net_after plain_line line3 0 w n).log)
+    (w : World (Unit {0}) Contents) → IsValid wire_line AnyEntries NoVariable NoContents w → (n : ℕ) →
+    Holds (net_after plain_line wire_line 0 w n)
+    (net_after (line_of programs) wire_line (telemetry_of p.decls).size w n)
+    (path_meaning (law_of p) (net_after plain_line wire_line 0 w n).log)
 
 pub record Headline (p : Property) (frame out : List ℕ) (given : Out) : Type 0 where
   -- Every well-typed property is linked: there is a linked program for each switch,
@@ -51,5 +53,5 @@ pub record Headline (p : Property) (frame out : List ℕ) (given : Out) : Type 0
       linked.edges ≡ filter (λ x. not (rejects path x.packet)) alone.edges)
   -- and with the forwarding registers, of the forwarding program alone.
   pub registers : InEveryWorld p programs (λ alone linked path.
-      (s : ℕ) → s < line3.switches →
+      (s : ℕ) → s < wire_line.switches →
       SameRegisters (registers_of (parts_of wire_program)) (alone.switches s) (linked.switches s))

@@ -2,7 +2,6 @@
 use Rattle.std.specs.Prelude.{◌≡◌, ℕ, ◌+◌, ◌/◌, List, [], ◌∷◌, ◌++◌, codes}
 use Rattle.std.specs.Fmt.{decimal}
 use Rattle.indus_tree.specs.Tree.{Property}
-use Rattle.indus_tree.specs.State.{Contents}
 use Rattle.indus_types.specs.Sums.{cut, cut_wide, property_bits, property_weight}
 use Rattle.wire_linkage.specs.Linkage.{IsWireLinkage}
 use Rattle.hydra_cli.specs.Headline.{Headline}

@@ -2,12 +2,13 @@
 use Rattle.std.specs.Prelude.{ℕ, ◌-◌, List, [], ◌∷◌, ◌++◌, length, map, sum_by, count_by, codes}
 use Rattle.std.specs.Fmt.{decimal}
 use Rattle.bit_values.specs.Bits.{cast}
+use Rattle.indus_tree.specs.State.{Contents}
 use Rattle.p4_tree.specs.Tree.{Program}
 use Rattle.p4_tree.specs.Statements.{cell_at}
 use Rattle.p4_tree.specs.Pass.{Registers, Queued}
 use Rattle.network_run.specs.Network.{Net}
 use Rattle.linkage.specs.Linkage.{is_report}
-use Rattle.wire_linker.specs.Monitor.{rejects_register}
+use Rattle.linked_halves.specs.Monitor.{rejects_register}
 use Rattle.wire_printer.specs.Text.{text_of}
 use Rattle.wire_printer.specs.Programs.{words_of_program}
 
@@ -25,7 +26,7 @@ linked_files o programs =
 
 -- the network of the three switches, as far as it has come
 abbrev pub Run : Type 0
-Run = Net Registers Queued (Unit {0})
+Run = Net Registers Queued Contents
 
 -- the file of each frame that left by an edge port; of one packet there is one at most
 abbrev pub frame_files : (out : List ℕ) → Run → List (List ℕ × List ℕ)
