@@ -14,8 +14,8 @@ ghost use Rattle.indus_values.specs.View.{IsShaped, cells_at, cells_in, cells_of
 use bit_values::Bits;
 use indus_tree::{Decl, DeclKind, Expr, Property, Stmt, find};
 use indus_values::{
-    Env, HopResult, HopView, Report, SensorState, TeleState, cells, either_width, held_width, holds,
-    own_width, seat, shape_size, sound_width, value_of, values_of, word_at,
+    Env, HopResult, HopView, Report, SensorState, TeleState, cells, either_width, held_width,
+    holds, own_width, seat, shape_size, sound_width, value_of, values_of, word_at,
 };
 use lex_text::Name;
 use std::alloc::{AllocError, Global};
