@@ -29,10 +29,14 @@ fn exit_part(
     ensures does { let ds = map decl_of p.now.decls.items in
         OnOk result (doing_of ds tele.new sensors.new out.new ≡ exit_behind (law_of (property_of p.now)) (reads_in ds view.now view.now.last values.now) (doing_of ds tele.old sensors.old out.old)) }
 {
-    run_part(alloc, p, &p.tele, view, view.last, values, tele, sensors, out)?;
+    run_part(
+        alloc, p, &p.tele, view, view.last, values, tele, sensors, out,
+    )?;
     out.rejected = false;
     if view.last {
-        run_part(alloc, p, &p.check, view, view.last, values, tele, sensors, out)
+        run_part(
+            alloc, p, &p.check, view, view.last, values, tele, sensors, out,
+        )
     } else {
         Ok(())
     }
@@ -59,7 +63,17 @@ pub fn hop_step(
         reports: Vec::new(alloc),
     };
     if view.first {
-        run_part(alloc, p, &p.init, view, false, &view.entry_, tele, sensors, &mut out)?;
+        run_part(
+            alloc,
+            p,
+            &p.init,
+            view,
+            false,
+            &view.entry_,
+            tele,
+            sensors,
+            &mut out,
+        )?;
     }
     if let Some(values) = &view.exit_ {
         exit_part(alloc, p, view, values, tele, sensors, &mut out)?;

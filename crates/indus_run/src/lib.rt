@@ -1,8 +1,8 @@
 //! The direct evaluator of Indus: what blocks and hops do, worked out on the tree.
 //!
-//! The layers above get `run_block` and `hop_step`, each exactly what `indus_tree` says that it
-//! means, on the states and views of `indus_values`, and tests of what they need: states of the
-//! declared shape, and short reports.
+//! The layers above get `run_block`, which is exactly what `indus_tree` says that a block means, and
+//! `hop_step`, which is exactly the two parts of the network law at a hop, on the states and views of
+//! `indus_values`; and tests of what they need: states of the declared shape, and short reports.
 //!
 //! Follows: "Hydra: Effective Runtime Network Verification", SIGCOMM 2023, as `indus_tree` does.
 //!

@@ -1,7 +1,6 @@
 -- What a linker has to show of the two halves of a linked passage, and of little else: from these
 -- laws the linkage follows over every schedule. Read `Linkage` before it.
 use Rattle.std.specs.Prelude.{◌≡◌, ℕ, ◌+◌, ◌<◌, ◌≤◌, List, [], ◌++◌, length, map, filter, Bool, true, false, not, Option, Some, None}
-use Rattle.bit_values.specs.Bits.{Word}
 use Rattle.network_run.specs.Machine.{Digest, Entered, Going, Leaving, Machine}
 use Rattle.network_run.specs.Network.{Wiring, at_edge, one_if}
 use Rattle.network_run.specs.NetworkRun.{put, longest_frame}

@@ -1,4 +1,4 @@
-use Rattle.std.proofs.Common.{refl, arith}
+use Rattle.std.proofs.Common.{[], refl, arith}
 use Rattle.std.proofs.lemmas.List.Elements.{All-nil, All-cons}
 use Rattle.network_run.specs.World.{IsArrival, IsFitEvent}
 use Rattle.linked_halves.specs.Given.{NoVariable, NoContents}
@@ -12,7 +12,7 @@ returns c = λ frame short.
       entries = λ s known. tt;
       contents = λ s v known named. absurd named;
       packets =
-          All-cons (IsArrival wire_line) _ _
+          All-cons (IsArrival wire_line) (record { switch = 0; port = 1; frame = frame }) []
           (record { switch = omega arith; port = omega arith; edge = refl; short = short })
           (All-nil (IsArrival wire_line));
       events = All-nil (IsFitEvent NoVariable NoContents);
