@@ -1,3 +1,6 @@
+use Rattle.std.proofs.Common.{sym, subst}
+use Rattle.indus_tree.specs.Tree.{Property}
+use Rattle.indus_rules.specs.Rules.{IsWellTyped}
 use Rattle.hydra_cli.proofs.Checking.{is_typed, is_ill_typed}
 use Rattle.hydra_cli.proofs.check.typed.Goals as goal
 
@@ -7,3 +10,7 @@ returns-in-Ok-clause-judged c = is_typed _ _ _ c.in-Ok.ensures.ok c.in-Ok.ensure
 pub returns-in_ok-type_text-in-Err-Type_-clause-judged : goal.returns-in_ok-type_text-in-Err-Type_-clause-judged
 returns-in_ok-type_text-in-Err-Type_-clause-judged c =
     is_ill_typed _ _ _ _ _ (rw c.in-Err-Type_.field-0-is at c.in-Err-Type_.ensures.cause) c.in_ok-type_text-in-Err-Type_.ensures
+
+pub returns-in-Ok-clause-typed : goal.returns-in-Ok-clause-typed
+returns-in-Ok-clause-typed c =
+    let P : Property → Type 0 = λ p. IsWellTyped p in subst P (sym c.in-Ok.ensures.ok) c.in-Ok.ensures.typed
