@@ -1,12 +1,12 @@
 -- What is read rests on the words up to the place where reading ends, and on no other.
 use Rattle.std.proofs.Common.{◌≡◌, ℕ, zero, suc, ◌+◌, ◌≤◌, Bool, true, false, cond, List, Option, Some, None, Ok, Err, refl, sym, ap, subst, ◌∙◌, arith, inl, inr}
-use Rattle.std.proofs.lemmas.Bool.{leb-true, le-leb, eqb-true, cases_lt}
+use Rattle.std.proofs.lemmas.Bool.{eqb-true, cases_lt}
 use Rattle.std.proofs.Math.Nat.{suc_inj}
-use Rattle.std.specs.Prelude.{slice_get, nat_le, is_some, ◌==◌}
+use Rattle.std.specs.Prelude.{slice_get, is_some, ◌==◌}
 use Rattle.lex_text.specs.declared.literal.Literal.{Literal}
 use Rattle.lex_words.specs.declared.key.Key.TheVariants.{True, False, Bit, In, Length, Not, Tilde, Open, Close, SquareOpen, SquareClose, Less, More, Comma}
-use Rattle.lex_words.specs.Seen.{Word, key, key_in, name_in, number_in, at_key}
-use Rattle.lex_words.specs.Reading.{wrong, high, Read, ◌>>=◌, look, expect_at, room_at}
+use Rattle.lex_words.specs.Seen.{Word, key, name_in, number_in, at_key}
+use Rattle.lex_words.specs.Reading.{wrong, Read, ◌>>=◌, look, expect_at, room_at}
 use Rattle.lex_words.proofs.KeyCodes.{at_key-is}
 use Rattle.lex_words.proofs.Joins as joins
 use Rattle.lex_words.proofs.Locality.{Agree, Follows, Follows-from, Follows-bind, Follows-later, Follows-cond, Follows-wrong, Follows-spent, Follows-ok, Follows-look, Follows-expect, Follows-more, Follows-named, Follows-numbered, Follows-room, Follows-open}

@@ -1,15 +1,13 @@
 -- What is joined behind an operand: what is read is spelled so.
-use Rattle.std.proofs.Common.{◌≡◌, ℕ, zero, suc, ◌+◌, ◌-◌, ◌≤◌, ◌<◌, Bool, true, false, cond, List, [], ◌∷◌, ◌++◌, length, Option, Some, None, Err, refl, sym, ap, subst, ◌∙◌, arith, append_assoc, length-append}
+use Rattle.std.proofs.Common.{◌≡◌, ℕ, zero, suc, ◌+◌, ◌-◌, ◌≤◌, ◌<◌, List, [], ◌∷◌, ◌++◌, length, Option, Some, None, refl, sym, ap, subst, arith, append_assoc, length-append}
 use Rattle.std.proofs.lemmas.List.{append-nil}
-use Rattle.std.proofs.lemmas.Bool.{eqb-true, leb-false}
-use Rattle.std.specs.Prelude.{slice_get, nat_le, ◌==◌}
 use Rattle.lex_words.specs.declared.key.Key.{Key}
 use Rattle.lex_words.specs.declared.key.Key.TheVariants.{In}
-use Rattle.lex_words.specs.Seen.{Word, name, number, key, key_in}
+use Rattle.lex_words.specs.Seen.{Word, name, number, key}
 use Rattle.lex_words.proofs.Joins as joins
 use Rattle.lex_words.proofs.Joins.{level_join, Finish}
 use Rattle.lex_words.proofs.Standing.{Stands-length}
-use Rattle.lex_words.proofs.Spelled.{Reads, Reads-bind, Reads-map, Reads-word, Reads-high, Reads-ok, Reads-spent, Reads-cond, Reads-named}
+use Rattle.lex_words.proofs.Spelled.{Reads, Reads-bind, Reads-map, Reads-ok, Reads-named}
 use Rattle.indus_tree.specs.Tree.{Expr, num, member, binary, none, more}
 use Rattle.indus_tree.specs.Height.{expr_height}
 use Rattle.indus_tree.specs.declared.tree.Op.{Op}

@@ -3,8 +3,8 @@ use Rattle.std.specs.Prelude.{◌≡◌, ℕ, zero, suc, ◌+◌, ◌≤◌, Boo
 use Rattle.lex_text.specs.declared.literal.Literal.{Literal}
 use Rattle.lex_words.specs.declared.key.Key.{Key}
 use Rattle.lex_words.specs.declared.key.Key.TheVariants.{True, False, Bit, In, Length, Not, Tilde, Open, Close, SquareOpen, SquareClose, Less, More, Comma}
-use Rattle.lex_words.specs.Seen.{Word, key_in, name_in, number_in, at_key}
-use Rattle.lex_words.specs.Reading.{wrong, high, spent, Read, ◌>>=◌, expect_at, more_of, room_at, named_at, numbered_at, open_at}
+use Rattle.lex_words.specs.Seen.{Word, name_in, number_in, at_key}
+use Rattle.lex_words.specs.Reading.{wrong, spent, Read, ◌>>=◌, expect_at, more_of, room_at, named_at, numbered_at, open_at}
 use Rattle.lex_words.specs.Joins as joins
 use Rattle.indus_tree.specs.Tree.{Expr, num, flag, read, count, index, member, negation, inversion, binary, cast, none, more, exprs_from}
 use Rattle.indus_tree.specs.Height.{expr_height, exprs_height}

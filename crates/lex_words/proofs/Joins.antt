@@ -105,7 +105,7 @@ module _ {T J : Type 0} (table : Key → Option (ℕ × J)) (height : T → ℕ)
     (finish : (l p q : ℕ) (a : T) (k : Key) (x : J) (u : List Word) → table k ≡ level_join (suc l) x → S (suc l) p a u → q ≡ p + length u → Finish (S (suc l) p) height (height a) u k)
     (right : (l p : ℕ) → T → J → ℕ → Read T) (ws : List Word) (h b : ℕ)
     (sound : (l p i : ℕ) (a : T) (u : List Word) (k : Key) (x : J) → table k ≡ level_join (suc l) x → S (suc l) p a u → i ≡ p + length u → height a < h
-        → Reads ws (λ t v. S (suc l) p t (u ++ key k ∷ v)) (λ t. height t ≤ h) b b (i + 1) (right l p a x (i + 1))) where
+    → Reads ws (λ t v. S (suc l) p t (u ++ key k ∷ v)) (λ t. height t ≤ h) b b (i + 1) (right l p a x (i + 1))) where
   abbrev Low : T → Type 0
   Low t = height t ≤ h
 
