@@ -1,20 +1,21 @@
 -- What is read rests on the words up to the place where reading ends, and on no other.
 use Rattle.std.proofs.Common.{◌≡◌, ℕ, zero, suc, ◌+◌, ◌≤◌, Bool, true, false, cond, List, Option, Some, None, Ok, Err, refl, sym, ap, subst, ◌∙◌, arith, inl, inr}
-use Rattle.std.proofs.lemmas.Bool.{leb-true, le-leb, eqb-true, cases_lt}
+use Rattle.std.proofs.lemmas.Bool.{eqb-true, cases_lt}
 use Rattle.std.proofs.Math.Nat.{suc_inj}
-use Rattle.std.specs.Prelude.{slice_get, nat_le, is_some, ◌==◌}
+use Rattle.std.specs.Prelude.{slice_get, is_some, ◌==◌}
 use Rattle.lex_text.specs.declared.literal.Literal.{Literal}
 use Rattle.lex_words.specs.declared.key.Key.TheVariants.{True, False, Bit, In, Length, Not, Tilde, Open, Close, SquareOpen, SquareClose, Less, More, Comma}
-use Rattle.lex_words.specs.Seen.{Word, key, key_in, name_in, number_in, at_key}
-use Rattle.lex_words.specs.Reading.{wrong, high, Read, ◌>>=◌, look, expect_at, room_at}
+use Rattle.lex_words.specs.Seen.{Word, key, name_in, number_in, at_key}
+use Rattle.lex_words.specs.Reading.{wrong, Read, ◌>>=◌, look, expect_at, room_at}
 use Rattle.lex_words.proofs.KeyCodes.{at_key-is}
+use Rattle.lex_words.proofs.Joins as joins
 use Rattle.lex_words.proofs.Locality.{Agree, Follows, Follows-from, Follows-bind, Follows-later, Follows-cond, Follows-wrong, Follows-spent, Follows-ok, Follows-look, Follows-expect, Follows-more, Follows-named, Follows-numbered, Follows-room, Follows-open}
 use Rattle.indus_tree.specs.Tree.{Expr, read}
 use Rattle.indus_tree.specs.Height.{expr_height}
-use Rattle.indus_spelling.specs.Operators.{top}
+use Rattle.indus_spelling.specs.Operators.{top, join_at}
 use Rattle.indus_spelling.specs.declared.operator.Join.{Join}
 use Rattle.indus_spelling.specs.declared.operator.Join.TheVariants.{Binary, Member}
-use Rattle.indus_expressions.specs.Reading.{Reader, is_size, sized, join_in, sized_at, rest_of, all_of, flag_at, numeral_at, index_at, variable_at, count_at, negation_at, inversion_at, cast_at, bracket_at, opened_at, leaf_at, operand_at, right_at, turn, chain, climb, listed_at, tuple_at, head_at, layer, idle, expr_at, inside_of, below_of, under_of}
+use Rattle.indus_expressions.specs.Reading.{Reader, is_size, sized, sized_at, rest_of, all_of, flag_at, numeral_at, index_at, variable_at, count_at, negation_at, inversion_at, cast_at, bracket_at, opened_at, leaf_at, operand_at, right_at, chain, climb, listed_at, tuple_at, head_at, layer, idle, expr_at, inside_of, below_of, under_of}
 use Rattle.indus_expressions.proofs.Layers.{expr_at-layer}
 use Rattle.indus_expressions.proofs.Heads.{Opened, Grouped, Headed, Head, head_other, head_high, head_deep, head_open}
 
@@ -114,25 +115,8 @@ module _ (ws vs : List Word) (Hs Bs : Type 0) where
             (λ o. Follows-cond ws vs Hs Bs i (is_some (name_in o)) _ _ _ _ (Follows-roomed 1 i (variable_at ws n below h) (variable_at vs m below' j) Follows-variable)
             (Follows-cond ws vs Hs Bs i (is_some (number_in o)) _ _ _ _ (Follows-roomed 1 i (numeral_at ws n h) (numeral_at vs m j) Follows-numeral) (Follows-wrong ws vs Hs Bs i)))
 
-        Follows-turn : (a : Expr) (i : ℕ) (o : Option Join) (f g : Join → Read Expr) → ((x : Join) → Follows ws vs Hs Bs i (f x) (g x)) → Follows ws vs Hs Bs i (turn ws n h a i o f) (turn vs m j a i o g)
-        Follows-turn a i None f g e = Follows-ok ws vs Hs Bs i i a (omega arith)
-        Follows-turn a i (Some x) f g e = go (nat_le h (expr_height a)) (nat_le j (expr_height a)) (leb-true j (expr_height a)) (λ v. ap (λ (y : ℕ). nat_le y (expr_height a)) (hs v)) (le-leb h (expr_height a))
-          where
-            go : (b c : Bool) → (c ≡ true → j ≤ expr_height a) → (Hs → b ≡ c) → (h ≤ expr_height a → b ≡ true) → Follows ws vs Hs Bs i (cond b (Err (high i)) (f x)) (cond c (Err (high i)) (g x))
-            go true true p q r = record { shows = (omega arith, λ _ _. refl) }
-            go true false p q r = record { shows = (omega arith, λ _ v. absurd (let e = q v in cc)) }
-            go false true p q r = absurd (let e = r (omega (arith, p refl)) in cc)
-            go false false p q r = e x
-
         Follows-chain : (l p k k' : ℕ) (a : Expr) (i : ℕ) → k ≤ k' → Follows ws vs Hs Bs i (chain ws n below h l p k a i) (chain vs m below' j l p k' a i)
-        unfolding chain look
-        Follows-chain l p zero k' a i kk = Follows-spent ws vs Hs Bs i _
-        Follows-chain l p (suc k) zero a i kk = absurd (omega arith)
-        Follows-chain l p (suc k) (suc k') a i kk =
-            Follows-look ws vs Hs Bs i (λ o. turn ws n h a i (join_in (l + 1) (key_in o)) (λ x. right_at ws n below l p a x (i + 1) >>= λ y. chain ws n below h l p k y.0 y.1))
-            (λ o. turn vs m j a i (join_in (l + 1) (key_in o)) (λ x. right_at vs m below' l p a x (i + 1) >>= λ y. chain vs m below' j l p k' y.0 y.1))
-            (λ o. Follows-turn a i (join_in (l + 1) (key_in o)) _ _ (λ x.
-            Follows-later ws vs Hs Bs i _ _ (Follows-bind ws vs Hs Bs (i + 1) _ _ _ _ (Follows-right l p a x (i + 1)) (λ y. Follows-chain l p k k' y.0 y.1 (omega arith)))))
+        Follows-chain = joins.Follows-chain join_at expr_height ws vs Hs Bs h j le hs (right_at ws n below) (right_at vs m below') Follows-right
 
         Follows-climb : (p l : ℕ) (a : Expr) (i : ℕ) → Follows ws vs Hs Bs i (climb ws n below h p l a i) (climb vs m below' j p l a i)
         unfolding climb

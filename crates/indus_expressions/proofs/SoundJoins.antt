@@ -1,15 +1,13 @@
 -- What is joined behind an operand: what is read is spelled so.
-use Rattle.std.proofs.Common.{◌≡◌, ℕ, zero, suc, ◌+◌, ◌-◌, ◌≤◌, ◌<◌, Bool, true, false, cond, List, [], ◌∷◌, ◌++◌, length, Option, Some, None, Err, refl, sym, ap, subst, ◌∙◌, arith, append_assoc, length-append}
+use Rattle.std.proofs.Common.{◌≡◌, ℕ, zero, suc, ◌+◌, ◌-◌, ◌≤◌, ◌<◌, List, [], ◌∷◌, ◌++◌, length, Option, Some, None, refl, sym, ap, subst, arith, append_assoc, length-append}
 use Rattle.std.proofs.lemmas.List.{append-nil}
-use Rattle.std.proofs.lemmas.Bool.{eqb-true, leb-false}
-use Rattle.std.specs.Prelude.{slice_get, nat_le, ◌==◌}
 use Rattle.lex_words.specs.declared.key.Key.{Key}
 use Rattle.lex_words.specs.declared.key.Key.TheVariants.{In}
-use Rattle.lex_words.specs.Seen.{Word, name, number, key, key_in}
-use Rattle.lex_words.specs.Reading.{high, Read}
-use Rattle.lex_words.proofs.KeyCodes.{at_key-is, found_is_key}
+use Rattle.lex_words.specs.Seen.{Word, name, number, key}
+use Rattle.lex_words.proofs.Joins as joins
+use Rattle.lex_words.proofs.Joins.{level_join, Finish}
 use Rattle.lex_words.proofs.Standing.{Stands-length}
-use Rattle.lex_words.proofs.Spelled.{Reads, Reads-bind, Reads-map, Reads-word, Reads-high, Reads-ok, Reads-spent, Reads-cond, Reads-named}
+use Rattle.lex_words.proofs.Spelled.{Reads, Reads-bind, Reads-map, Reads-ok, Reads-named}
 use Rattle.indus_tree.specs.Tree.{Expr, num, member, binary, none, more}
 use Rattle.indus_tree.specs.Height.{expr_height}
 use Rattle.indus_tree.specs.declared.tree.Op.{Op}
@@ -17,16 +15,13 @@ use Rattle.indus_spelling.specs.Operators.{join_at}
 use Rattle.indus_spelling.specs.declared.operator.Join.{Join}
 use Rattle.indus_spelling.specs.declared.operator.Join.TheVariants.{Binary, Member}
 use Rattle.indus_spelling.specs.Expressions.{Spells, tighter, joined, a_member}
-use Rattle.indus_expressions.specs.Reading.{Reader, of_level, join_in, right_at, turn, chain, climb}
+use Rattle.indus_expressions.specs.Reading.{Reader, right_at, chain, climb}
 use Rattle.indus_expressions.proofs.Behind.{join-plain}
 use Rattle.indus_expressions.proofs.Turns.{expr_tall}
 use Rattle.indus_expressions.proofs.SoundSteps.{zero_word, some_name, a_number_up}
 use Rattle.indus_expressions.proofs.SoundLists.{Low, ReadsEach}
 
 -- ---- what a key joins
-
-abbrev pub level_join : ℕ → Join → Option (ℕ × Join)
-level_join l x = Some (l, x)
 
 abbrev level_in : Option (ℕ × Join) → ℕ
 level_in None = 0
@@ -35,24 +30,6 @@ level_in (Some x) = x.0
 abbrev kind_in : Option (ℕ × Join) → Option Join
 kind_in None = None
 kind_in (Some x) = Some x.1
-
-of_level-test : (m d : ℕ) (x y : Join) (t : Bool) → (t ≡ true → d ≡ m) → cond t (Some y) None ≡ Some x → level_join d y ≡ level_join m x
-of_level-test m d x y true eq f = let z = eq refl in cc
-of_level-test m d x y false eq f = absurd cc
-
-of_level-is : (m : ℕ) (o : Option (ℕ × Join)) (x : Join) → of_level m o ≡ Some x → o ≡ level_join m x
-of_level-is m None x e = absurd cc
-of_level-is m (Some (d, y)) x e = of_level-test m d x y (d == m) (eqb-true d m) e
-
-join_key : (l : ℕ) (o : Option Key) (x : Join) → join_in l o ≡ Some x → (k : Key) × (o ≡ Some k) × (join_at k ≡ level_join l x)
-join_key l None x e = absurd cc
-join_key l (Some k) x e = (k, refl, of_level-is l (join_at k) x e)
-
--- the word of what joins
-pub join_word : (l : ℕ) (o : Option Word) (x : Join) → join_in l (key_in o) ≡ Some x → (k : Key) × (o ≡ Some (key k)) × (join_at k ≡ level_join l x)
-join_word l o x e =
-    let k = join_key l (key_in o) x e in
-    (k.0, at_key-is k.0 o (found_is_key k.0 o k.1), k.2)
 
 -- `in` alone joins a name, on level 7
 member_key : (k : Key) (m : ℕ) → join_at k ≡ level_join m Member → (k ≡ In) × (m ≡ 7)
@@ -71,14 +48,8 @@ member_at l p a k s u o t =
     subst (λ x. Spells x p (member p (more a none) s) (u ++ key k ∷ name s ∷ [])) (sym m.1)
     (subst (λ (x : Key). Spells 7 p (member p (more a none) s) (u ++ key x ∷ name s ∷ [])) (sym m.0) (a_member s (subst (λ x. Spells x p a u) m.1 t)))
 
--- the shortest right side; m: the height of the left side
-record Finish (l p m : ℕ) (u : List Word) (k : Key) : Type 0 where
-  tree : Expr
-  rest : List Word
-  spells : Spells (suc l) p tree (u ++ key k ∷ rest)
-  tall : expr_height tree ≤ m + 1
-
-finish : (l p q : ℕ) (a : Expr) (k : Key) (x : Join) (u : List Word) → join_at k ≡ level_join (suc l) x → Spells (suc l) p a u → q ≡ p + length u → Finish l p (expr_height a) u k
+-- the shortest right side
+finish : (l p q : ℕ) (a : Expr) (k : Key) (x : Join) (u : List Word) → join_at k ≡ level_join (suc l) x → Spells (suc l) p a u → q ≡ p + length u → Finish (Spells (suc l) p) expr_height (expr_height a) u k
 finish l p q a k (Binary op) u o s e =
     record { tree = binary p op a (num (q + 1) zero_word); rest = number zero_word ∷ []; spells = joined_at l p q a (num (q + 1) zero_word) k op u (number zero_word ∷ []) o s e (a_number_up l (q + 1) zero_word); tall = omega (arith, expr_tall a) }
 finish l p q a k Member u o s e = record { tree = member p (more a none) some_name; rest = name some_name ∷ []; spells = member_at (suc l) p a k some_name u o s; tall = omega (arith, expr_tall a) }
@@ -99,34 +70,9 @@ module _ (ws : List Word) (n : ℕ) (below : Reader) (h b : ℕ) (lower : (g : �
       Reads-named ws n _ _ b b (i + 1) _ (λ y. (member p (more a none) y, [], member_at (suc l) p a k y u o s, omega (arith, lt)))
       (λ y w. Reads-ok ws _ _ b (i + 1 + 1) _ (member_at (suc l) p a k y u o s) (omega (arith, lt)))
 
-  Reads-turn : (l p i : ℕ) (a : Expr) (u : List Word) (o : Option Join) (f : Join → Read Expr) → Spells (suc l) p a u → i ≡ p + length u → expr_height a ≤ h
-      → ((x : Join) → o ≡ Some x → (k : Key) × (slice_get ws i ≡ Some (key k)) × (join_at k ≡ level_join (suc l) x))
-      → ((x : Join) (k : Key) → slice_get ws i ≡ Some (key k) → join_at k ≡ level_join (suc l) x → expr_height a < h → Reads ws (λ t v. Spells (suc l) p t (u ++ v)) (Low h) b b i (f x))
-      → Reads ws (λ t v. Spells (suc l) p t (u ++ v)) (Low h) b b i (turn ws n h a i o f)
-  Reads-turn l p i a u None f s e low is go = Reads-ok ws _ _ b i a (rw (append-nil u) s) low
-  Reads-turn l p i a u (Some x) f s e low is go =
-      let k = is x refl in
-      let z = finish l p i a k.0 x u k.2 s e in
-      Reads-cond ws _ _ b b i (nat_le h (expr_height a)) (Err (high i)) (f x)
-      (λ _. Reads-high ws _ _ b b i (key k.0) z.tree z.rest k.1 z.spells)
-      (λ lt. go x k.0 k.1 k.2 (leb-false h (expr_height a) lt))
-
   pub Reads-chain : (l p k i : ℕ) (a : Expr) (u : List Word) → Spells (suc l) p a u → i ≡ p + length u → expr_height a ≤ h
       → Reads ws (λ t v. Spells (suc l) p t (u ++ v)) (Low h) b b i (chain ws n below h l p k a i)
-  unfolding chain
-  Reads-chain l p zero i a u s e low = Reads-spent ws _ _ b b i
-  Reads-chain l p (suc k) i a u s e low =
-      Reads-turn l p i a u (join_in (l + 1) (key_in (slice_get ws i))) _ s e low
-      (λ x is. let j = join_word (l + 1) (slice_get ws i) x is in (j.0, j.1, j.2 ∙ ap (λ (y : ℕ). level_join y x) (omega arith)))
-      (λ x y w o lt.
-      let z = finish l p i a y x u o s e in
-      Reads-word ws _ _ b b b i (key y) _ w (join-plain y _ b o) (z.tree, z.rest, z.spells, omega (arith, z.tall, lt))
-      (Reads-bind ws (λ t v. Spells (suc l) p t (u ++ key y ∷ v)) _ (Low h) _ b b b (i + 1) _ _ (Reads-right l p i a u y x o s e lt)
-      (λ t v z. (t, [], rw (append-nil v) z, λ fits. omega arith))
-      (λ t v st z low'.
-      let long : t.1 ≡ p + length (u ++ key y ∷ v) = omega (arith, e, Stands-length ws (i + 1) t.1 v st, length-append u (key y ∷ v)) in
-      Reads-map ws _ _ _ _ b b t.1 _ (λ r v' c. subst (λ q. Spells (suc l) p r q) (append_assoc u (key y ∷ v) v') c) (λ r c. c)
-      (Reads-chain l p k t.1 t.0 (u ++ key y ∷ v) z long low'))))
+  Reads-chain = joins.Reads-chain join_at expr_height Spells join-plain finish (right_at ws n below) ws h b Reads-right
 
   -- behind an operand a
   pub Reads-climb : (l p i : ℕ) (a : Expr) (u : List Word) → Spells 0 p a u → i ≡ p + length u → expr_height a ≤ h

@@ -1,14 +1,14 @@
 -- The turns of the code's loops.
-use Rattle.std.proofs.Common.{◌≡◌, ℕ, zero, suc, ◌+◌, ◌-◌, ◌≤◌, ◌<◌, max, true, false, List, [], ◌∷◌, ◌++◌, Option, Some, None, Ok, Err, refl, sym, ap, ◌∙◌, arith}
-use Rattle.std.proofs.lemmas.Bool.{le-leb, lt-leb}
-use Rattle.std.specs.Prelude.{slice_get, nat_le}
+use Rattle.std.proofs.Common.{◌≡◌, ℕ, ◌+◌, ◌-◌, ◌≤◌, ◌<◌, max, List, [], ◌∷◌, ◌++◌, Some, None, Ok, Err, refl, ap, ◌∙◌, arith}
+use Rattle.std.specs.Prelude.{slice_get}
 use Rattle.lex_words.specs.declared.key.Key.TheVariants.{Comma}
 use Rattle.lex_words.specs.Seen.{Word, key_in}
 use Rattle.lex_words.specs.Reading.{high, Read, ◌>>=◌, more_of}
 use Rattle.lex_words.proofs.Loops.{Front}
+use Rattle.lex_words.proofs.Joins as joins
 use Rattle.indus_tree.specs.Tree.{Expr, num, flag, read, count, index, member, negation, inversion, binary, cast, exprs_from}
 use Rattle.indus_tree.specs.Height.{expr_height, exprs_height}
-use Rattle.indus_spelling.specs.Operators.{top}
+use Rattle.indus_spelling.specs.Operators.{top, join_at}
 use Rattle.indus_spelling.specs.declared.operator.Join.{Join}
 use Rattle.indus_expressions.specs.Reading.{Reader, join_in, right_at, rest_of, chain, expr_at, below_of}
 use Rattle.indus_expressions.proofs.Layers.{below_is}
@@ -17,33 +17,22 @@ use Rattle.indus_expressions.proofs.Layers.{below_is}
 abbrev pub item_at : (h b : ℕ) → List Word → ℕ → ℕ → Read Expr
 item_at h b ws n i = expr_at ws n h b top i
 
--- what joins in one list joins in the same list
-pub join_along : (l : ℕ) (vs ws : List Word) (q : ℕ) (o : Option Join) → vs ≡ ws → o ≡ join_in l (key_in (slice_get vs q)) → join_in l (key_in (slice_get ws q)) ≡ o
-join_along l vs ws q o same e = ap (λ v. join_in l (key_in (slice_get v q))) (sym same) ∙ sym e
-
 module _ (ws : List Word) (n h b l p : ℕ) where
   abbrev pub Chain : ℕ → Expr → ℕ → Read Expr
   Chain k a q = chain ws n (below_of ws n h b) h l p k a q
 
   pub chain_ends : (k q : ℕ) (a : Expr) → 0 < k → join_in (l + 1) (key_in (slice_get ws q)) ≡ None → Chain k a q ≡ Ok (a, q)
-  unfolding chain
-  chain_ends zero q a lt e = absurd (omega arith)
-  chain_ends (suc k) q a lt e = rw e refl
+  chain_ends = joins.chain_ends join_at expr_height (right_at ws n (below_of ws n h b)) ws h l p
 
   pub chain_high : (k q : ℕ) (a : Expr) (x : Join) → 0 < k → join_in (l + 1) (key_in (slice_get ws q)) ≡ Some x → h ≤ expr_height a → Chain k a q ≡ Err (high q)
-  unfolding chain
-  chain_high zero q a x lt e le = absurd (omega arith)
-  chain_high (suc k) q a x lt e le = let t : nat_le h (expr_height a) ≡ true = le-leb h (expr_height a) le in rw (e, t) refl
+  chain_high = joins.chain_high join_at expr_height (right_at ws n (below_of ws n h b)) ws h l p
 
   pub chain_goes_on : (k q : ℕ) (a : Expr) (x : Join) → 0 < k → join_in (l + 1) (key_in (slice_get ws q)) ≡ Some x → expr_height a < h
       → Chain k a q ≡ (right_at ws n (expr_at ws n (h - 1) b) l p a x (q + 1) >>= λ y. Chain (k - 1) y.0 y.1)
-  unfolding chain
-  chain_goes_on zero q a x lt e le = absurd (omega arith)
-  chain_goes_on (suc k) q a x lt e le =
-      let t : nat_le h (expr_height a) ≡ false = lt-leb h (expr_height a) le in
-      let j : suc k - 1 ≡ k = omega arith in
+  chain_goes_on k q a x lt e le =
       let low : below_of ws n h b ≡ expr_at ws n (h - 1) b = below_is ws n h b (omega (arith, le)) in
-      rw (e, t, j) (ap (λ (f : Reader). right_at ws n f l p a x (q + 1) >>= λ y. chain ws n (below_of ws n h b) h l p k y.0 y.1) low)
+      joins.chain_goes_on join_at expr_height (right_at ws n (below_of ws n h b)) ws h l p k q a x lt e le
+      ∙ ap (λ (f : Reader). right_at ws n f l p a x (q + 1) >>= λ y. Chain (k - 1) y.0 y.1) low
 
 module _ (ws : List Word) (n : ℕ) (e : Reader) where
   pub rest_front : (a : Expr) (i : ℕ) → rest_of ws n e a i ≡ Front (a ∷ []) (more_of ws Comma (e top) n i)

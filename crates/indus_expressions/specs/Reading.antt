@@ -3,8 +3,9 @@ use Rattle.std.specs.Prelude.{◌≡◌, ℕ, zero, suc, ◌+◌, ◌≤◌, Boo
 use Rattle.lex_text.specs.declared.literal.Literal.{Literal}
 use Rattle.lex_words.specs.declared.key.Key.{Key}
 use Rattle.lex_words.specs.declared.key.Key.TheVariants.{True, False, Bit, In, Length, Not, Tilde, Open, Close, SquareOpen, SquareClose, Less, More, Comma}
-use Rattle.lex_words.specs.Seen.{Word, key_in, name_in, number_in, at_key}
-use Rattle.lex_words.specs.Reading.{wrong, high, spent, Read, ◌>>=◌, expect_at, more_of, room_at, named_at, numbered_at, open_at}
+use Rattle.lex_words.specs.Seen.{Word, name_in, number_in, at_key}
+use Rattle.lex_words.specs.Reading.{wrong, spent, Read, ◌>>=◌, expect_at, more_of, room_at, named_at, numbered_at, open_at}
+use Rattle.lex_words.specs.Joins as joins
 use Rattle.indus_tree.specs.Tree.{Expr, num, flag, read, count, index, member, negation, inversion, binary, cast, none, more, exprs_from}
 use Rattle.indus_tree.specs.Height.{expr_height, exprs_height}
 use Rattle.indus_tree.specs.View.{expr_of, exprs_of}
@@ -28,14 +29,9 @@ abbrev pub sized : ℕ → Option Literal → Read ℕ
 sized i None = Err (wrong i)
 sized i (Some v) = if is_size v then Ok (v.value, i + 1) else Err (wrong i)
 
--- what joins of this level
-abbrev pub of_level : ℕ → Option (ℕ × Join) → Option Join
-of_level l None = None
-of_level l (Some (m, x)) = if m == l then Some x else None
-
+-- what joins on this level
 abbrev pub join_in : ℕ → Option Key → Option Join
-join_in l None = None
-join_in l (Some k) = of_level l (join_at k)
+join_in l o = joins.join_in join_at l o
 
 module _ (ws : List Word) (n : ℕ) where
   unfoldable pub sized_at : ℕ → Read ℕ
@@ -152,16 +148,9 @@ module _ (ws : List Word) (n : ℕ) where
     s ← named_at ws n i
     Ok (member p (more a none) s.0, s.1)
 
-  -- one turn of a chain: the end, or what goes on behind an operator
-  abbrev pub turn : (h : ℕ) → Expr → ℕ → Option Join → (Join → Read Expr) → Read Expr
-  turn h a i None go = Ok (a, i)
-  turn h a i (Some x) go = if nat_le h (expr_height a) then Err (high i) else go x
-
   -- what is joined on level l + 1, behind the left side a, which begins at p
-  unfoldable pub chain : Reader → (h l p k : ℕ) → Expr → ℕ → Read Expr
-  chain below h l p zero a i = Err spent
-  chain below h l p (suc k) a i =
-      turn h a i (join_in (l + 1) (key_in (slice_get ws i))) (λ x. right_at below l p a x (i + 1) >>= λ y. chain below h l p k y.0 y.1)
+  abbrev pub chain : Reader → (h l p k : ℕ) → Expr → ℕ → Read Expr
+  chain below h l p k a i = joins.chain join_at expr_height (right_at below) ws h l p k a i
 
   -- what is joined on the levels from 1 to l
   unfoldable pub climb : Reader → (h p l : ℕ) → Expr → ℕ → Read Expr

@@ -10,6 +10,7 @@ pub mod Standing
 pub mod Locality
 pub mod Loops
 pub mod Spelled
+pub mod Joins
 pub mod OpenBehind
 pub mod Whole
 pub mod OneAnswer

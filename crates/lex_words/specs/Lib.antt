@@ -8,5 +8,6 @@ pub mod Brackets
 pub mod Faults
 -- What readers are made of.
 pub mod Reading
+pub mod Joins
 pub mod Moving
 pub mod Placed

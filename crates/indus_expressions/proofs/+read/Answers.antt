@@ -4,12 +4,14 @@ use Rattle.std.proofs.lemmas.List.{map_push}
 use Rattle.lex_words.specs.declared.key.Key.TheVariants.{Comma}
 use Rattle.lex_words.specs.Reading.{high, more_of}
 use Rattle.lex_words.proofs.Loops.{Front}
+use Rattle.lex_words.proofs.Joins.{join_along}
 use Rattle.lex_words.proofs.Turns.{turn_fails, turn_gives, more_fails, more_next, more_done}
 use Rattle.indus_tree.specs.Tree.{exprs_from}
 use Rattle.indus_tree.specs.Height.{expr_height, exprs_height}
 use Rattle.indus_tree.specs.View.{expr_of}
+use Rattle.indus_spelling.specs.Operators.{join_at}
 use Rattle.indus_expressions.specs.Reading.{right_at, expr_at, tree_of}
-use Rattle.indus_expressions.proofs.Turns.{item_at, join_along, chain_ends, chain_high, chain_goes_on, rest_front, tall_push}
+use Rattle.indus_expressions.proofs.Turns.{item_at, chain_ends, chain_high, chain_goes_on, rest_front, tall_push}
 use Rattle.indus_expressions.proofs.+read.Goals as goal
 
 pub chain::chain-turns-init : goal.chain::chain-turns-init
@@ -20,7 +22,7 @@ chain::chain-returns-then-height-left-clause-reads t c =
     let ws = c.args.tokens.now.words in
     let l = c.turns.invariant in
     let len = ap length l.same in
-    let j = join_along (c.args.level + 1) c.turns.tokens.words ws c.turns.tokens.at (Some c.in-Some.found) l.same c.in-Some.ensures.value in
+    let j = join_along join_at (c.args.level + 1) c.turns.tokens.words ws c.turns.tokens.at (Some c.in-Some.found) l.same c.in-Some.ensures.value in
     record {
       gives = l.goes_on.2 ∙ chain_high ws (length ws + 1) c.args.height c.args.brackets c.args.level c.args.start l.goes_on.0 c.turns.tokens.at (expr_of c.turns.left.tree) c.in-Some.found (omega (arith, l.goes_on.1, c.in-Some.ensures.within, len)) j (omega (arith, c.if-height-left.true, l.is_low.tall)) ∙ ap (λ q. Err (high q)) (sym c.at.ensures.value);
       same = l.same;
@@ -34,7 +36,7 @@ chain::chain-returns-in_err-left-clause-reads t c =
     let l = c.turns.invariant in
     let len = ap length l.same in
     let p = err_from_is_err_and c.from_residual.result c.from_residual.ensures.1 in
-    let j = join_along (c.args.level + 1) c.turns.tokens.words ws c.turns.tokens.at (Some c.in-Some.found) l.same c.in-Some.ensures.value in
+    let j = join_along join_at (c.args.level + 1) c.turns.tokens.words ws c.turns.tokens.at (Some c.in-Some.found) l.same c.in-Some.ensures.value in
     let w = c.skip.ensures.same ∙ l.same in
     let step = l.goes_on.2 ∙ chain_goes_on ws n c.args.height c.args.brackets c.args.level c.args.start l.goes_on.0 c.turns.tokens.at (expr_of c.turns.left.tree) c.in-Some.found (omega (arith, l.goes_on.1, c.in-Some.ensures.within, len)) j (omega (arith, c.if-height-left.false, l.is_low.tall)) in
     record {
@@ -49,7 +51,7 @@ chain::chain-turns-preserved t c =
     let n = length ws + 1 in
     let l = c.turns.invariant in
     let len = ap length l.same in
-    let j = join_along (c.args.level + 1) c.turns.tokens.words ws c.turns.tokens.at (Some c.in-Some.found) l.same c.in-Some.ensures.value in
+    let j = join_along join_at (c.args.level + 1) c.turns.tokens.words ws c.turns.tokens.at (Some c.in-Some.found) l.same c.in-Some.ensures.value in
     let w = c.skip.ensures.same ∙ l.same in
     let r = c.in_ok-left.ensures in
     let step = l.goes_on.2 ∙ chain_goes_on ws n c.args.height c.args.brackets c.args.level c.args.start l.goes_on.0 c.turns.tokens.at (expr_of c.turns.left.tree) c.in-Some.found (omega (arith, l.goes_on.1, c.in-Some.ensures.within, len)) j (omega (arith, c.if-height-left.false, l.is_low.tall)) in
@@ -70,7 +72,7 @@ chain::chain-returns-clause-reads t c =
     let ws = c.args.tokens.now.words in
     let l = c.turns.invariant in
     let len = ap length l.same in
-    let j = join_along (c.args.level + 1) c.turns.tokens.words ws c.turns.tokens.at None l.same c.in_default.ensures.value in
+    let j = join_along join_at (c.args.level + 1) c.turns.tokens.words ws c.turns.tokens.at None l.same c.in_default.ensures.value in
     record {
       gives = l.goes_on.2 ∙ chain_ends ws (length ws + 1) c.args.height c.args.brackets c.args.level c.args.start l.goes_on.0 c.turns.tokens.at (expr_of c.turns.left.tree) (omega (arith, l.goes_on.1, c.in_default.ensures.within, len)) j;
       same = l.same;
