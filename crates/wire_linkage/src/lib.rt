@@ -1,8 +1,9 @@
 //! The linked wire programs are a linkage, and one packet's way through them is a run of the network.
 //!
 //! The crate has definitions and two laws, and no code. The layer above gets the network of the wire
-//! program, `line3`, and `run_of_frame`, the run of one packet through programs in it; the law that the linked programs
-//! are a linkage, over every valid world; and the law that the way that the program computes is that run.
+//! program, `line3`, and `run_of_frame`, the run of one packet through programs in it; the law that
+//! the linked programs are a linkage, over every valid world; and the law that the way that the program
+//! computes is such a run.
 //!
 //! Follows: Hydra, "Hydra: Effective Runtime Network Verification", SIGCOMM 2023.
 //!
