@@ -1,5 +1,5 @@
 -- A property is the one that its text spells, or is refused for a cause that the text has.
-use Rattle.std.proofs.Common.{◌≡◌, ◌≢◌, ℕ, List, Some, refl, subst, sym}
+use Rattle.std.proofs.Common.{◌≡◌, ◌≢◌, ℕ, List, Some, refl, sym}
 use Rattle.lex_text.specs.declared.fault.LexFault.{LexFault}
 use Rattle.indus_tree.specs.Tree.{Property}
 use Rattle.indus_tree.specs.Small.{IsSmall}

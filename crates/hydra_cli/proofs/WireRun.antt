@@ -1,7 +1,7 @@
 -- The way that the program computes is the run of the linked programs.
-use Rattle.std.proofs.Common.{◌≡◌, ℕ, ◌+◌, ◌≤◌, List, [], ◌∷◌, ◌++◌, map, length, Bool, true, false, cond, Some, None, refl, ap, ap₂, sym, ◌∙◌, subst, arith, codes}
+use Rattle.std.proofs.Common.{◌≡◌, ℕ, ◌+◌, List, [], ◌∷◌, ◌++◌, map, length, cond, None, refl, ap, ap₂, sym, ◌∙◌, subst, arith, codes}
 use Rattle.std.specs.List.{fold}
-use Rattle.std.specs.Prelude.{slice_get, nat_eq, count_by, sum_by, min}
+use Rattle.std.specs.Prelude.{slice_get, nat_eq, count_by, sum_by}
 use Rattle.bit_values.specs.Bits.{Word, cast}
 use Rattle.indus_tree.specs.Tree.{Property}
 use Rattle.indus_tree.specs.Small.{IsSmall}
@@ -26,7 +26,7 @@ use Rattle.hydra_cli.specs.Network.{link_limit, machine_for}
 use Rattle.wire_linkage.specs.Linkage.{IsWireLinkage}
 use Rattle.hydra_cli.specs.Output.{IsWireOutput}
 use Rattle.job_course.specs.Output.{Out}
-use Rattle.hydra_cli.specs.Wire.{Run, linked_files, program_file, frame_files, rejected_in, reports_in, summary_of, summary_of_run}
+use Rattle.hydra_cli.specs.Wire.{Run, linked_files, program_file, frame_files, rejected_in, reports_in, summary_of_run}
 
 -- the three switches with their linked programs are the network before the packet comes
 pub net_of-line : (p : Property) (l : LinkedLine) → IsLinkedLine p l → (machines : List Machine) (told : List code.Told)

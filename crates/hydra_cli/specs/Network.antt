@@ -1,5 +1,5 @@
 -- The programs and switches of the wire program's network. Read `Line` of the wire linkage before.
-use Rattle.std.specs.Prelude.{ℕ, ◌+◌, List, length, min}
+use Rattle.std.specs.Prelude.{ℕ, ◌+◌, length, min}
 use Rattle.indus_tree.specs.Tree.{Property}
 use Rattle.p4_tree.specs.Tree.{Program}
 use Rattle.p4_tree.specs.Parts.{parts_of}

@@ -1,4 +1,5 @@
-//! `wire`: the files that it reads, and the wire program's run: three switches in a line, and one frame.
+//! `wire`: the files that it reads, and the wire program's run: three switches in a line, and one
+//! frame.
 
 ghost use Rattle.std.specs.Prelude.{◌≡◌, ◌++◌, ◌∷◌, ◌<◌, ◌≤◌, ◌-◌, ◌*◌, ◌^◌, IfOk, OnOk, codes, count_by, length, map, nat_eq, string_bytes, sum_by, []};
 ghost use Rattle.indus_tree.specs.Small.{IsSmall};

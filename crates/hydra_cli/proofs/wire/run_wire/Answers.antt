@@ -1,5 +1,5 @@
 -- The files and the summary are those of the run.
-use Rattle.std.proofs.Common.{List, ℕ, ◌++◌, ap, ap₂, sym, subst, string_bytes, ◌∙◌}
+use Rattle.std.proofs.Common.{List, ℕ, ◌++◌, ap₂, sym, subst, string_bytes, ◌∙◌}
 use Rattle.hydra_cli.specs.Job.{typed_of}
 use Rattle.p4_tree.specs.Parts.{parts_of}
 use Rattle.wire_linkage.specs.Line.{program_at, run_of_frame}
@@ -16,6 +16,6 @@ returns c =
     let net = net_of-line p c.in_ok-line.line c.in_ok-line.ensures _ _ c.in_ok-switches.ensures.machines c.new-told.ensures.items in
     let shows = subst (λ way. ShowsWay (λ s. parts_of (program_at p s)) run way) (sym c.in_ok-fate.ensures) (run_shows p c.requires.small c.args.job.frame.items _ _ c.link_limit_of-limit.ensures.limit net) in
     wire_output (program_at p) p c.args.job.frame.items out _ (wire_linked p c.requires.small)
-        (c.in_ok-push_frame.ensures
-        ∙ ap₂ (λ (a b : List (List ℕ × List ℕ)). a ++ b) (c.in_ok-files.ensures ∙ linked_files-line p out c.in_ok-line.line c.in_ok-line.ensures) (frame_files-way p run _ shows out))
-        (c.in_ok-text.ensures ∙ (rw (c.deref.ensures.value, c.deref-2.ensures.value) at c.count-counts.ensures) ∙ summary-way p run _ shows)
+    (c.in_ok-push_frame.ensures
+    ∙ ap₂ (λ (a b : List (List ℕ × List ℕ)). a ++ b) (c.in_ok-files.ensures ∙ linked_files-line p out c.in_ok-line.line c.in_ok-line.ensures) (frame_files-way p run _ shows out))
+    (c.in_ok-text.ensures ∙ (rw (c.deref.ensures.value, c.deref-2.ensures.value) at c.count-counts.ensures) ∙ summary-way p run _ shows)
