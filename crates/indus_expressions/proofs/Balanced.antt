@@ -1,19 +1,19 @@
--- The words of an expression close each round bracket that they open.
+-- The lexemes of an expression close each round bracket that they open.
 use Rattle.std.proofs.Common.{◌≡◌, ℕ, zero, suc, ◌≤◌, List, [], ◌∷◌, length, Some, None, refl, ap, ◌∙◌, arith}
 use Rattle.std.proofs.lemmas.List.{length-append}
 use Rattle.std.specs.Prelude.{option_and_then}
 use Rattle.lex_words.specs.declared.key.Key.TheVariants.{Close, SquareClose, Comma, In}
-use Rattle.lex_words.specs.Seen.{Word, key, name}
+use Rattle.lex_words.specs.Seen.{Lexeme, key, name}
 use Rattle.lex_words.specs.Brackets.{left, left_by}
 use Rattle.lex_words.proofs.Spelled.{plain_step, left-some, left-split}
 use Rattle.indus_tree.specs.Tree.{Expr, Exprs}
 use Rattle.indus_spelling.specs.Expressions.{Spells, SpellsAll, a_number, a_true, a_false, a_name, an_index, a_length, a_not, an_inversion, a_cast, in_brackets, tighter, joined, a_member, a_tuple, last, then}
 use Rattle.indus_expressions.proofs.Behind.{join-plain}
 
--- behind a word that is no round bracket
+-- behind a lexeme that is no round bracket
 mutual
   -- as many may be opened behind them as before them
-  pub balanced : {l p : ℕ} {t : Expr} {u : List Word} → Spells l p t u → (b c : ℕ) → left b u ≡ Some c → c ≡ b
+  pub balanced : {l p : ℕ} {t : Expr} {u : List Lexeme} → Spells l p t u → (b c : ℕ) → left b u ≡ Some c → c ≡ b
   balanced (a_number n) b c e = let x : Some b ≡ Some c = e in cc
   balanced a_true b c e = let x : Some b ≡ Some c = e in cc
   balanced a_false b c e = let x : Some b ≡ Some c = e in cc
@@ -48,7 +48,7 @@ mutual
       let d = balanced_all all b r.0 r.1 in
       let x : Some (suc r.0) ≡ Some c = r.2 in cc
 
-  pub balanced_all : {p : ℕ} {ts : Exprs} {u : List Word} → SpellsAll p ts u → (b c : ℕ) → left b u ≡ Some c → c ≡ b
+  pub balanced_all : {p : ℕ} {ts : Exprs} {u : List Lexeme} → SpellsAll p ts u → (b c : ℕ) → left b u ≡ Some c → c ≡ b
   balanced_all (last s) b c e = balanced s b c e
   balanced_all (then {u = u} {v = v} s t) b c e =
       let r = left-split b c u (key Comma ∷ v) e in
@@ -56,8 +56,8 @@ mutual
       let z = balanced_all t r.0 c r.2 in cc
 
 mutual
-  -- no more are opened than there are words
-  pub roomy : {l p : ℕ} {t : Expr} {u : List Word} → Spells l p t u → (b : ℕ) → length u ≤ b → left b u ≡ Some b
+  -- no more are opened than there are lexemes
+  pub roomy : {l p : ℕ} {t : Expr} {u : List Lexeme} → Spells l p t u → (b : ℕ) → length u ≤ b → left b u ≡ Some b
   roomy (a_number n) b le = refl
   roomy a_true b le = refl
   roomy a_false b le = refl
@@ -80,7 +80,7 @@ mutual
   roomy (a_tuple s {u = u} all) (suc b) le =
       left-some b b u (key Close ∷ key In ∷ name s ∷ []) (roomy_all all b (omega (arith, length-append u (key Close ∷ key In ∷ name s ∷ []))))
 
-  pub roomy_all : {p : ℕ} {ts : Exprs} {u : List Word} → SpellsAll p ts u → (b : ℕ) → length u ≤ b → left b u ≡ Some b
+  pub roomy_all : {p : ℕ} {ts : Exprs} {u : List Lexeme} → SpellsAll p ts u → (b : ℕ) → length u ≤ b → left b u ≡ Some b
   roomy_all (last s) b le = roomy s b le
   roomy_all (then {u = u} {v = v} s t) b le =
       let len = length-append u (key Comma ∷ v) in

@@ -4,7 +4,7 @@ use Rattle.std.proofs.lemmas.Bool.{ne_eqb}
 use Rattle.std.specs.Prelude.{◌==◌}
 use Rattle.lex_words.specs.declared.key.Key.{Key}
 use Rattle.lex_words.specs.declared.key.Key.TheVariants.{Open, Close, SquareOpen}
-use Rattle.lex_words.specs.Seen.{Word, key, key_in, at_key}
+use Rattle.lex_words.specs.Seen.{Lexeme, key, key_in, at_key}
 use Rattle.lex_words.specs.Brackets.{left_by}
 use Rattle.indus_tree.specs.Tree.{Expr, Exprs, none, more, exprs_from}
 use Rattle.indus_spelling.specs.Operators.{join_at}
@@ -12,7 +12,7 @@ use Rattle.indus_spelling.specs.declared.operator.Join.{Join}
 use Rattle.indus_expressions.specs.Reading.{join_in}
 
 -- nothing stands there that joins on a level from 1 to l
-abbrev pub NoJoin : ℕ → Option Word → Type 0
+abbrev pub NoJoin : ℕ → Option Lexeme → Type 0
 NoJoin l o = (m : ℕ) → m < l → join_in (m + 1) (key_in o) ≡ None
 
 -- nothing stands there

@@ -5,7 +5,7 @@ use Rattle.std.proofs.lemmas.Bool.{eq-eqb, eqb-true}
 use Rattle.std.specs.Prelude.{slice_get, ◌==◌}
 use Rattle.lex_words.specs.declared.key.Key.{Key}
 use Rattle.lex_words.specs.declared.key.Key.TheVariants.{Bit, In, Open, Close, SquareOpen, SquareClose, Comma}
-use Rattle.lex_words.specs.Seen.{Word, name, key, key_in, at_key}
+use Rattle.lex_words.specs.Seen.{Lexeme, name, key, key_in, at_key}
 use Rattle.lex_words.specs.Brackets.{left, left_by}
 use Rattle.lex_words.specs.Reading.{Read, ◌>>=◌}
 use Rattle.lex_words.proofs.Standing.{Stands, Stands-split}
@@ -25,11 +25,11 @@ use Rattle.indus_expressions.proofs.Behind.{NoJoin, no_join, other_level, join-n
 use Rattle.indus_expressions.proofs.Balanced.{balanced, balanced_all}
 use Rattle.indus_expressions.proofs.CompleteSteps.{Operand, goes_on, With, listed, more_none, more_some, all_listed, named_ok, number_read, true_read, false_read, name_read, index_read, count_read, negation_read, inversion_read, cast_read, brackets_read, several_read, head_same}
 
--- ---- what words begin with, and how high a tree is at least
+-- ---- what lexemes begin with, and how high a tree is at least
 
 mutual
   -- no expression begins with `bit`
-  no_bit : {l p : ℕ} {t : Expr} {u : List Word} → Spells l p t u → (ws : List Word) (i q : ℕ) → Stands ws i u q → at_key Bit (slice_get ws i) ≡ false
+  no_bit : {l p : ℕ} {t : Expr} {u : List Lexeme} → Spells l p t u → (ws : List Lexeme) (i q : ℕ) → Stands ws i u q → at_key Bit (slice_get ws i) ≡ false
   no_bit (a_number n) ws i q st = rw st.0 refl
   no_bit a_true ws i q st = rw st.0 refl
   no_bit a_false ws i q st = rw st.0 refl
@@ -45,15 +45,15 @@ mutual
   no_bit (a_member s {u = u} t) ws i q st = no_bit t ws i (i + length u) (Stands-split ws i q u (key In ∷ name s ∷ []) st).0
   no_bit (a_tuple s all) ws i q st = rw st.0 refl
 
-  no_bit_all : {p : ℕ} {ts : Exprs} {u : List Word} → SpellsAll p ts u → (ws : List Word) (i q : ℕ) → Stands ws i u q → at_key Bit (slice_get ws i) ≡ false
+  no_bit_all : {p : ℕ} {ts : Exprs} {u : List Lexeme} → SpellsAll p ts u → (ws : List Lexeme) (i q : ℕ) → Stands ws i u q → at_key Bit (slice_get ws i) ≡ false
   no_bit_all (last s) ws i q st = no_bit s ws i q st
   no_bit_all (then {u = u} {v = v} s t) ws i q st = no_bit s ws i (i + length u) (Stands-split ws i q u (key Comma ∷ v) st).0
 
-all_height : {p : ℕ} {ts : Exprs} {u : List Word} → SpellsAll p ts u → 1 ≤ exprs_height ts
+all_height : {p : ℕ} {ts : Exprs} {u : List Lexeme} → SpellsAll p ts u → 1 ≤ exprs_height ts
 all_height (last {a = a} s) = omega (arith, expr_tall a)
 all_height (then {a = a} s t) = omega (arith, expr_tall a)
 
-module _ (ws : List Word) (n : ℕ) where
+module _ (ws : List Lexeme) (n : ℕ) where
   -- ---- levels
 
   -- a reader of level l, when it has read a up to q and may make k more turns
@@ -66,11 +66,11 @@ module _ (ws : List Word) (n : ℕ) where
   rest_ends h b zero p k a q lt free = refl
   rest_ends h b (suc l) p k a q lt free = chain_ends ws n h b l p k q a lt (free l (omega arith))
 
-  -- it has read t, and for each turn that it made there is a word
-  abbrev Done : (h b l p : ℕ) → Expr → List Word → ℕ → Type 0
+  -- it has read t, and for each turn that it made there is a lexeme
+  abbrev Done : (h b l p : ℕ) → Expr → List Lexeme → ℕ → Type 0
   Done h b l p t u q = (k : ℕ) × (n ≤ k + length u) × (expr_at ws n h b l p ≡ rest_at h b l p k t q)
 
-  is_read : (h b l p : ℕ) (t : Expr) (u : List Word) (q : ℕ) → length u < n → NoJoin l (slice_get ws q) → Done h b l p t u q → expr_at ws n h b l p ≡ Ok (t, q)
+  is_read : (h b l p : ℕ) (t : Expr) (u : List Lexeme) (q : ℕ) → length u < n → NoJoin l (slice_get ws q) → Done h b l p t u q → expr_at ws n h b l p ≡ Ok (t, q)
   is_read h b l p t u q lt free d = d.2 ∙ rest_ends h b l p d.0 t q (omega (arith, d.1)) free
 
   seven_is : (h b p : ℕ) (x : Expr × ℕ) → Head ws n (inside_of ws n h b) (below_of ws n h b) (under_of ws n h b) h b p ≡ Ok x
@@ -95,7 +95,7 @@ module _ (ws : List Word) (n : ℕ) where
 
   -- ---- one turn
 
-  joins : (l : ℕ) (k : Key) (x : Join) (o : Option Word) → o ≡ Some (key k) → join_at k ≡ Some (suc l, x) → join_in (l + 1) (key_in o) ≡ Some x
+  joins : (l : ℕ) (k : Key) (x : Join) (o : Option Lexeme) → o ≡ Some (key k) → join_at k ≡ Some (suc l, x) → join_in (l + 1) (key_in o) ≡ Some x
   joins l k x o w j = let t : (suc l == l + 1) ≡ true = eq-eqb (suc l) (l + 1) (omega arith) in rw (w, j, t) refl
 
   binary_read : (h b l p k m q : ℕ) (a c : Expr) (x : Key) (op : Op) → 0 < k → slice_get ws m ≡ Some (key x) → join_at x ≡ Some (suc l, Binary op) → expr_height a < h
@@ -150,7 +150,7 @@ module _ (ws : List Word) (n : ℕ) where
   Free l q = (m : ℕ) → m + 1 < l → join_in (m + 1) (key_in (slice_get ws q)) ≡ None
 
   mutual
-    complete : {l p : ℕ} {t : Expr} {u : List Word} → Spells l p t u → (h b q : ℕ) → Stands ws p u q → expr_height t ≤ h → left b u ≡ Some b → length u < n → Free l q → at_key SquareOpen (slice_get ws q) ≡ false → Done h b l p t u q
+    complete : {l p : ℕ} {t : Expr} {u : List Lexeme} → Spells l p t u → (h b q : ℕ) → Stands ws p u q → expr_height t ≤ h → left b u ≡ Some b → length u < n → Free l q → at_key SquareOpen (slice_get ws q) ≡ false → Done h b l p t u q
     complete {p = p} (a_number v) h b q st low lv lt free sq = (n, omega arith, zero_is h b p (p + 1) q (num p v) (number_read ws n _ _ h b p v st.0 low) st.1)
     complete {p = p} a_true h b q st low lv lt free sq = (n, omega arith, zero_is h b p (p + 1) q (flag p true) (true_read ws n _ _ h b p st.0 low) st.1)
     complete {p = p} a_false h b q st low lv lt free sq = (n, omega arith, zero_is h b p (p + 1) q (flag p false) (false_read ws n _ _ h b p st.0 low) st.1)
@@ -240,7 +240,7 @@ module _ (ws : List Word) (n : ℕ) where
         (n, omega arith, tuple_is h b p m q s a c ks st.0 (no_bit_all all ws (p + 1) m sp.0) e close sp.1.1.0 sp.1.1.1.0 sp.1.1.1.1 (omega (arith, low)) (omega (arith, lt)))
 
     -- the first at most h high, the others at most g
-    complete_all : {p : ℕ} {ts : Exprs} {u : List Word} → SpellsAll p ts u → (h g b q k : ℕ) → Stands ws p u q → exprs_height ts ≤ h → exprs_height ts ≤ g → left b u ≡ Some b → length u < n → length u < k
+    complete_all : {p : ℕ} {ts : Exprs} {u : List Lexeme} → SpellsAll p ts u → (h g b q k : ℕ) → Stands ws p u q → exprs_height ts ≤ h → exprs_height ts ≤ g → left b u ≡ Some b → length u < n → length u < k
         → NoJoin top (slice_get ws q) → at_key Comma (slice_get ws q) ≡ false → at_key SquareOpen (slice_get ws q) ≡ false → listed ws n (expr_at ws n h b) (expr_at ws n g b) k p ≡ Ok (list_of ts, q)
     complete_all {p = p} (last {a = a} {u = u} s) h g b q k st low less lv lt lk free nc sq =
         let d = complete s h b q st (omega (arith, low)) lv lt (λ m m_less. free m (omega arith)) sq in
@@ -262,11 +262,11 @@ module _ (ws : List Word) (n : ℕ) where
   -- ---- what is spelled is read
 
   -- where nothing that stands behind it is joined to it or is an index
-  pub expr_is_read : {l p : ℕ} {t : Expr} {u : List Word} → Spells l p t u → (h b q : ℕ) → Stands ws p u q → expr_height t ≤ h → left b u ≡ Some b → length u < n → NoJoin l (slice_get ws q) → at_key SquareOpen (slice_get ws q) ≡ false
+  pub expr_is_read : {l p : ℕ} {t : Expr} {u : List Lexeme} → Spells l p t u → (h b q : ℕ) → Stands ws p u q → expr_height t ≤ h → left b u ≡ Some b → length u < n → NoJoin l (slice_get ws q) → at_key SquareOpen (slice_get ws q) ≡ false
       → expr_at ws n h b l p ≡ Ok (t, q)
   expr_is_read {l = l} {p = p} {t = t} {u = u} s h b q st low lv lt free sq = is_read h b l p t u q lt free (complete s h b q st low lv lt (λ m less. free m (omega arith)) sq)
 
   -- and no comma
-  pub all_are_read : {p : ℕ} {ts : Exprs} {u : List Word} → SpellsAll p ts u → (h b q : ℕ) → Stands ws p u q → exprs_height ts ≤ h → left b u ≡ Some b → length u < n
+  pub all_are_read : {p : ℕ} {ts : Exprs} {u : List Lexeme} → SpellsAll p ts u → (h b q : ℕ) → Stands ws p u q → exprs_height ts ≤ h → left b u ≡ Some b → length u < n
       → NoJoin top (slice_get ws q) → at_key Comma (slice_get ws q) ≡ false → at_key SquareOpen (slice_get ws q) ≡ false → all_of ws n (expr_at ws n h b) p ≡ Ok (list_of ts, q)
   all_are_read {p = p} s h b q st low lv lt free nc sq = all_listed ws n (expr_at ws n h b) p ∙ complete_all s h h b q n st low low lv lt lt free nc sq

@@ -5,7 +5,7 @@ use Rattle.std.specs.Prelude.{slice_get}
 use Rattle.lex_text.specs.declared.literal.Literal.{Literal}
 use Rattle.lex_words.specs.declared.key.Key.{Key}
 use Rattle.lex_words.specs.declared.key.Key.TheVariants.{True, False, Bit, In, Length, Not, Tilde, Open, Close, SquareOpen, SquareClose, Less, More, Comma}
-use Rattle.lex_words.specs.Seen.{Word, name, number, key, at_key}
+use Rattle.lex_words.specs.Seen.{Lexeme, name, number, key, at_key}
 use Rattle.lex_words.specs.Reading.{Fault, wrong, Read, ◌>>=◌, either, expect_at, more_of, named_at, numbered_at}
 use Rattle.lex_words.proofs.KeyCodes.{at_key-is, at_key-same}
 use Rattle.indus_tree.specs.Tree.{Expr, num, flag, read, count, index, member, negation, inversion, cast, exprs_from}
@@ -37,7 +37,7 @@ same_others a c u v i j e = let f = same_list (a ∷ u) (c ∷ v) i j e in cc
 pub goes_on : {A B : Type 0} (r : Result A Fault) (f : A → Result B Fault) (x : A) (y : Result B Fault) → r ≡ Ok x → f x ≡ y → (r >>= f) ≡ y
 goes_on r f x y e g = ap (λ z. z >>= f) e ∙ g
 
-module _ (ws : List Word) (n : ℕ) where
+module _ (ws : List Lexeme) (n : ℕ) where
   -- ---- keys, names and numbers
 
   pub expect_ok : (k : Key) (i : ℕ) → slice_get ws i ≡ Some (key k) → expect_at ws k i ≡ Ok (k, i + 1)
@@ -219,7 +219,7 @@ module _ (ws : List Word) (n : ℕ) where
         unfolding expect_at
         is_closed y f = closes y (at_key Close (slice_get ws y.1)) f
 
-        no_comma : (o : Option Word) → at_key Close o ≡ true → at_key Comma o ≡ false
+        no_comma : (o : Option Lexeme) → at_key Close o ≡ true → at_key Comma o ≡ false
         no_comma o e = rw (at_key-is Close o e) refl
 
         bracket_same : (r : Read Expr) → ((r >>= Closed) >>= λ z. climb ws n below h p 6 z.0 z.1) ≡ Ok x → (r >>= Choice) ≡ Ok x

@@ -4,7 +4,7 @@ use Rattle.std.proofs.lemmas.Bool.{lt-ltb, le-ltb, ne_eqb}
 use Rattle.std.specs.Prelude.{slice_get, nat_lt, ◌==◌}
 use Rattle.lex_words.specs.declared.key.Key.{Key}
 use Rattle.lex_words.specs.declared.key.Key.TheVariants.{Bit, Open, Close, Comma}
-use Rattle.lex_words.specs.Seen.{Word, key, at_key}
+use Rattle.lex_words.specs.Seen.{Lexeme, key, at_key}
 use Rattle.lex_words.specs.Reading.{high, deep, Read, ◌>>=◌, expect_at, room_at, open_at}
 use Rattle.indus_tree.specs.Tree.{Expr}
 use Rattle.indus_spelling.specs.Operators.{top}
@@ -28,7 +28,7 @@ pub room_high : (m h i : ℕ) → h < m → room_at m h i ≡ Err (high i)
 unfolding room_at
 room_high m h i lt = rw (lt-ltb h m lt) refl
 
-module _ (ws : List Word) (n : ℕ) where
+module _ (ws : List Lexeme) (n : ℕ) where
   pub open_ok : (b i : ℕ) → slice_get ws i ≡ Some (key Open) → 0 < b → open_at ws n b i ≡ Ok (Open, i + 1)
   unfolding open_at
   open_ok b i w lt = rw (w, le-ltb b 1 (omega (arith, lt))) refl

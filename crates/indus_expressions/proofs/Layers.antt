@@ -2,13 +2,13 @@
 use Rattle.std.proofs.Common.{◌≡◌, ℕ, zero, suc, ◌-◌, ◌<◌, ◌≢◌, false, List, Ok, refl, sym, ap, ◌∙◌, arith}
 use Rattle.std.specs.Prelude.{◌==◌}
 use Rattle.std.proofs.lemmas.Bool.{ne_eqb}
-use Rattle.lex_words.specs.Seen.{Word}
+use Rattle.lex_words.specs.Seen.{Lexeme}
 use Rattle.lex_words.specs.Reading.{Read, ◌>>=◌}
 use Rattle.lex_words.proofs.Loops.{less_is}
 use Rattle.indus_tree.specs.Tree.{Expr}
 use Rattle.indus_expressions.specs.Reading.{Reader, layer, with_brackets, expr_at, inside_of, below_of, under_of, operand_at, head_at, left_at, chain, climb}
 
-module _ (ws : List Word) (n : ℕ) where
+module _ (ws : List Lexeme) (n : ℕ) where
   pub expr_at-layer : (h b : ℕ) → expr_at ws n h b ≡ layer ws n (inside_of ws n h b) (below_of ws n h b) (under_of ws n h b) h b
   unfolding expr_at with_brackets inside_of below_of under_of
   expr_at-layer zero zero = refl

@@ -1,11 +1,11 @@
--- What is read rests on the words up to the place where reading ends, and on no other.
+-- What is read rests on the lexemes up to the place where reading ends, and on no other.
 use Rattle.std.proofs.Common.{◌≡◌, ℕ, zero, suc, ◌+◌, ◌≤◌, Bool, true, false, cond, List, Option, Some, None, Ok, Err, refl, sym, ap, subst, ◌∙◌, arith, inl, inr}
 use Rattle.std.proofs.lemmas.Bool.{eqb-true, cases_lt}
 use Rattle.std.proofs.Math.Nat.{suc_inj}
 use Rattle.std.specs.Prelude.{slice_get, is_some, ◌==◌}
 use Rattle.lex_text.specs.declared.literal.Literal.{Literal}
 use Rattle.lex_words.specs.declared.key.Key.TheVariants.{True, False, Bit, In, Length, Not, Tilde, Open, Close, SquareOpen, SquareClose, Less, More, Comma}
-use Rattle.lex_words.specs.Seen.{Word, key, name_in, number_in, at_key}
+use Rattle.lex_words.specs.Seen.{Lexeme, key, name_in, number_in, at_key}
 use Rattle.lex_words.specs.Reading.{wrong, Read, ◌>>=◌, look, expect_at, room_at}
 use Rattle.lex_words.proofs.KeyCodes.{at_key-is}
 use Rattle.lex_words.proofs.Joins as joins
@@ -19,8 +19,8 @@ use Rattle.indus_expressions.specs.Reading.{Reader, is_size, sized, sized_at, re
 use Rattle.indus_expressions.proofs.Layers.{expr_at-layer}
 use Rattle.indus_expressions.proofs.Heads.{Opened, Grouped, Headed, Head, head_other, head_high, head_deep, head_open}
 
--- Two readings, of the words ws and vs. Hs: both have the same bound on heights; Bs: on brackets.
-module _ (ws vs : List Word) (Hs Bs : Type 0) where
+-- Two readings, of the lexemes ws and vs. Hs: both have the same bound on heights; Bs: on brackets.
+module _ (ws vs : List Lexeme) (Hs Bs : Type 0) where
   -- ---- sizes
 
   pub Follows-sized : (n m i : ℕ) → Follows ws vs Hs Bs i (sized_at ws n i) (sized_at vs m i)
@@ -172,7 +172,7 @@ module _ (ws vs : List Word) (Hs Bs : Type 0) where
 
 -- ---- levels. inside: with one bracket less; below: one node lower; under: both
 
-module _ (ws vs : List Word) (Hs Bs : Type 0) (n m : ℕ) (turns : n ≤ m) where
+module _ (ws vs : List Lexeme) (Hs Bs : Type 0) (n m : ℕ) (turns : n ≤ m) where
   module _ (inside inside' : Reader) (within : FollowsR ws vs Hs Bs n m turns inside inside') (below below' : Reader) (lower : FollowsR ws vs Hs Bs n m turns below below')
       (under under' : Reader) (far : FollowsR ws vs Hs Bs n m turns under under') (h j : ℕ) (le : h ≤ j) (hs : Hs → h ≡ j) (b c : ℕ) (be : b ≤ c) (bs : Bs → b ≡ c) where
     climbs : (p : ℕ) (a : Expr) (i : ℕ) → Follows ws vs Hs Bs i (climb ws n below h p 6 a i) (climb vs m below' j p 6 a i)
@@ -196,8 +196,8 @@ module _ (ws vs : List Word) (Hs Bs : Type 0) (n m : ℕ) (turns : n ≤ m) wher
         (Follows-bind ws vs Hs Bs (p + 1) _ _ _ _ (Follows-behind ws vs Hs Bs n m turns below below' lower h j le hs b c be bs inside inside' within p (p + 1)) (λ x. climbs p x.0 x.1))
         (Follows-grouped p))
 
-    other_word : (p : ℕ) (o : Option Word) → slice_get ws p ≡ o → Agree ws vs Hs Bs p → slice_get vs p ≡ o
-    other_word p o e ag = sym (ag p (omega arith)) ∙ e
+    other_lexeme : (p : ℕ) (o : Option Lexeme) → slice_get ws p ≡ o → Agree ws vs Hs Bs p → slice_get vs p ≡ o
+    other_lexeme p o e ag = sym (ag p (omega arith)) ∙ e
 
     Follows-head : (p : ℕ) → Follows ws vs Hs Bs p (layer ws n inside below under h b 6 p) (layer vs m inside' below' under' j c 6 p)
         → Follows ws vs Hs Bs p (Head ws n inside below under h b p) (Head vs m inside' below' under' j c p)
@@ -206,12 +206,12 @@ module _ (ws vs : List Word) (Hs Bs : Type 0) (n m : ℕ) (turns : n ≤ m) wher
         opens : slice_get ws p ≡ Some (key Open) → Follows ws vs Hs Bs p (Head ws n inside below under h b p) (Head vs m inside' below' under' j c p)
         opens w = elim (cases_lt 0 h) [
           | inr z ↦ along ws vs Hs Bs p _ _ _ (head_high ws n inside below under h b p w (omega (arith, z)))
-              (record { shows = (omega arith, λ ag v. head_high vs m inside' below' under' j c p (other_word p _ w ag) (omega (arith, z, hs v))) })
+              (record { shows = (omega arith, λ ag v. head_high vs m inside' below' under' j c p (other_lexeme p _ w ag) (omega (arith, z, hs v))) })
           | inl lt ↦ elim (cases_lt 0 b) [
             | inr z ↦ along ws vs Hs Bs p _ _ _ (head_deep ws n inside below under h b p w lt (omega (arith, z)))
-                (record { shows = (omega arith, λ ag v. head_deep vs m inside' below' under' j c p (other_word p _ w ag) (omega (arith, lt, le)) (omega (arith, z, bs v))) })
+                (record { shows = (omega arith, λ ag v. head_deep vs m inside' below' under' j c p (other_lexeme p _ w ag) (omega (arith, lt, le)) (omega (arith, z, bs v))) })
             | inl lb ↦ along ws vs Hs Bs p _ _ _ (head_open ws n inside below under h b p w lt lb)
-                (Follows-from ws vs Hs Bs p p _ (Headed vs m inside' below' under' j c p) _ (omega arith) (λ ag. head_open vs m inside' below' under' j c p (other_word p _ w ag) (omega (arith, lt, le)) (omega (arith, lb, be)))
+                (Follows-from ws vs Hs Bs p p _ (Headed vs m inside' below' under' j c p) _ (omega arith) (λ ag. head_open vs m inside' below' under' j c p (other_lexeme p _ w ag) (omega (arith, lt, le)) (omega (arith, lb, be)))
                 (Follows-later ws vs Hs Bs p _ _ (Follows-headed p)))
           ]
         ]
@@ -220,7 +220,7 @@ module _ (ws vs : List Word) (Hs Bs : Type 0) (n m : ℕ) (turns : n ≤ m) wher
         go true e = opens (at_key-is Open (slice_get ws p) (sym e))
         go false e =
             along ws vs Hs Bs p _ _ _ (head_other ws n inside below under h b p (sym e))
-            (Follows-from ws vs Hs Bs p p _ (layer vs m inside' below' under' j c 6 p) _ (omega arith) (λ ag. head_other vs m inside' below' under' j c p (ap (at_key Open) (other_word p _ refl ag) ∙ sym e)) f)
+            (Follows-from ws vs Hs Bs p p _ (layer vs m inside' below' under' j c 6 p) _ (omega arith) (λ ag. head_other vs m inside' below' under' j c p (ap (at_key Open) (other_lexeme p _ refl ag) ∙ sym e)) f)
 
     -- the left side on level l + 1
     Follows-left : (l i : ℕ) (t : Bool) → (t ≡ true → l ≡ 6) → Follows ws vs Hs Bs i (layer ws n inside below under h b l i) (layer vs m inside' below' under' j c l i)

@@ -5,7 +5,7 @@ use Rattle.std.proofs.lemmas.Bool.{eqb-true}
 use Rattle.std.proofs.Math.Nat.{suc_inj}
 use Rattle.std.specs.Prelude.{slice_get, ◌==◌}
 use Rattle.lex_words.specs.declared.key.Key.TheVariants.{Bit, In, Open, Close, Comma}
-use Rattle.lex_words.specs.Seen.{Word, name, number, key, at_key}
+use Rattle.lex_words.specs.Seen.{Lexeme, name, number, key, at_key}
 use Rattle.lex_words.specs.Reading.{Read, ◌>>=◌, expect_at}
 use Rattle.lex_words.proofs.KeyCodes.{at_key-is}
 use Rattle.lex_words.proofs.Standing.{Stands-length}
@@ -16,35 +16,35 @@ use Rattle.indus_spelling.specs.Operators.{top}
 use Rattle.indus_spelling.specs.Expressions.{Spells, SpellsAll, a_tuple, in_brackets, tighter, last}
 use Rattle.indus_expressions.specs.Reading.{Reader, all_of, listed_at, tuple_at, group_at, head_at, left_at, climb, layer, expr_at, inside_of, below_of, under_of}
 use Rattle.indus_expressions.proofs.Layers.{expr_at-layer}
-use Rattle.indus_expressions.proofs.SoundSteps.{zero_word, some_name, on_level, a_number_up}
+use Rattle.indus_expressions.proofs.SoundSteps.{zero_lexeme, some_name, on_level, a_number_up}
 use Rattle.indus_expressions.proofs.SoundLists.{Low, LowAll, ReadsEach, AreSeveral, then_at, Reads-several, Reads-list}
 use Rattle.indus_expressions.proofs.SoundJoins.{Reads-chain, Reads-climb}
 use Rattle.indus_expressions.proofs.SoundOperands.{Reads-operand}
 
 -- ---- several in brackets, and `in`
 
-tuple_of : (p : ℕ) (ts : List Expr) (s : List ℕ) (u : List Word) → AreSeveral ts → SpellsAll (p + 1) (exprs_from ts) u
+tuple_of : (p : ℕ) (ts : List Expr) (s : List ℕ) (u : List Lexeme) → AreSeveral ts → SpellsAll (p + 1) (exprs_from ts) u
     → Spells 7 p (member p (exprs_from ts) s) (key Open ∷ (u ++ key Close ∷ key In ∷ name s ∷ []))
 tuple_of p [] s u m t = absurd m
 tuple_of p (a ∷ []) s u m t = absurd m
 tuple_of p (a ∷ c ∷ ts) s u m t = a_tuple s t
 
--- u: the words of the first; v: those of the others
-tuple_behind : (p : ℕ) (ts : List Expr) (s : List ℕ) (u v : List Word) → AreSeveral ts → SpellsAll (p + 1) (exprs_from ts) (u ++ v)
+-- u: the lexemes of the first; v: those of the others
+tuple_behind : (p : ℕ) (ts : List Expr) (s : List ℕ) (u v : List Lexeme) → AreSeveral ts → SpellsAll (p + 1) (exprs_from ts) (u ++ v)
     → Spells 7 p (member p (exprs_from ts) s) (key Open ∷ (u ++ (v ++ key Close ∷ key In ∷ name s ∷ [])))
 tuple_behind p ts s u v m t =
     subst (λ w. Spells 7 p (member p (exprs_from ts) s) (key Open ∷ w)) (append_assoc u v (key Close ∷ key In ∷ name s ∷ [])) (tuple_of p ts s (u ++ v) m t)
 
 -- the shortest tuple behind its first expression
-pair_of : (p q : ℕ) (a : Expr) (u : List Word) → Spells top (p + 1) a u → q ≡ p + 1 + length u
-    → Spells 7 p (member p (exprs_from (a ∷ num (q + 1) zero_word ∷ [])) some_name) (key Open ∷ (u ++ key Comma ∷ number zero_word ∷ key Close ∷ key In ∷ name some_name ∷ []))
+pair_of : (p q : ℕ) (a : Expr) (u : List Lexeme) → Spells top (p + 1) a u → q ≡ p + 1 + length u
+    → Spells 7 p (member p (exprs_from (a ∷ num (q + 1) zero_lexeme ∷ [])) some_name) (key Open ∷ (u ++ key Comma ∷ number zero_lexeme ∷ key Close ∷ key In ∷ name some_name ∷ []))
 pair_of p q a u s e =
-    tuple_behind p (a ∷ num (q + 1) zero_word ∷ []) some_name u (key Comma ∷ number zero_word ∷ []) tt
-    (then_at (p + 1) q a (more (num (q + 1) zero_word) none) u (number zero_word ∷ []) s e (last (a_number_up top (q + 1) zero_word)))
+    tuple_behind p (a ∷ num (q + 1) zero_lexeme ∷ []) some_name u (key Comma ∷ number zero_lexeme ∷ []) tt
+    (then_at (p + 1) q a (more (num (q + 1) zero_lexeme) none) u (number zero_lexeme ∷ []) s e (last (a_number_up top (q + 1) zero_lexeme)))
 
-module _ (ws : List Word) (n : ℕ) (h b : ℕ) where
+module _ (ws : List Lexeme) (n : ℕ) (h b : ℕ) where
   -- behind "(" at p, which leaves c, and the first expression a
-  Reads-listed : (under : Reader) (g c p i : ℕ) (a : Expr) (u : List Word) → h ≡ suc g → b ≡ suc c → ReadsEach ws under g c
+  Reads-listed : (under : Reader) (g c p i : ℕ) (a : Expr) (u : List Lexeme) → h ≡ suc g → b ≡ suc c → ReadsEach ws under g c
       → Spells top (p + 1) a u → i ≡ p + 1 + length u → expr_height a ≤ g → at_key Comma (slice_get ws i) ≡ true
       → Reads ws (λ t v. Spells 7 p t (key Open ∷ (u ++ v))) (Low h) c b i (listed_at ws n under p a i)
   unfolding listed_at
@@ -58,12 +58,12 @@ module _ (ws : List Word) (n : ℕ) (h b : ℕ) where
       (Reads-named ws n _ _ b b (x.1 + 1 + 1) _ (λ y. (member p (exprs_from x.0) y, [], whole y, omega (arith, low', eh))) (λ y w.
       Reads-ok ws _ _ b (x.1 + 1 + 1 + 1) _ (whole y) (omega (arith, low', eh))))))
 
-  Reads-tuple : (under : Reader) (c p i : ℕ) (a : Expr) (u : List Word) → b ≡ suc c → ((g : ℕ) → h ≡ suc g → ReadsEach ws under g c)
+  Reads-tuple : (under : Reader) (c p i : ℕ) (a : Expr) (u : List Lexeme) → b ≡ suc c → ((g : ℕ) → h ≡ suc g → ReadsEach ws under g c)
       → Spells top (p + 1) a u → i ≡ p + 1 + length u → at_key Comma (slice_get ws i) ≡ true
       → Reads ws (λ t v. Spells 7 p t (key Open ∷ (u ++ v))) (Low h) c b i (tuple_at ws n under h p a i)
   unfolding tuple_at
   Reads-tuple under c p i a u eb lower s e comma =
-      Reads-room ws _ _ c b i (expr_height a + 1) h _ (key Comma) (member p (exprs_from (a ∷ num (i + 1) zero_word ∷ [])) some_name) (number zero_word ∷ key Close ∷ key In ∷ name some_name ∷ [])
+      Reads-room ws _ _ c b i (expr_height a + 1) h _ (key Comma) (member p (exprs_from (a ∷ num (i + 1) zero_lexeme ∷ [])) some_name) (number zero_lexeme ∷ key Close ∷ key In ∷ name some_name ∷ [])
       (at_key-is Comma (slice_get ws i) comma) (pair_of p i a u s e)
       (λ le.
       let g : (g : ℕ) × (h ≡ suc g) = (h - 1, omega (arith, le)) in
@@ -72,7 +72,7 @@ module _ (ws : List Word) (n : ℕ) (h b : ℕ) where
   module _ (inside below under : Reader) (within : (c : ℕ) → b ≡ suc c → ReadsEach ws inside h c) (lower : (g : ℕ) → h ≡ suc g → ReadsEach ws below g b)
       (both : (c : ℕ) → b ≡ suc c → (g : ℕ) → h ≡ suc g → ReadsEach ws under g c) where
     -- one expression in brackets and what is joined behind it
-    Reads-closed : (c p i : ℕ) (a : Expr) (u : List Word) → b ≡ suc c → Spells top (p + 1) a u → i ≡ p + 1 + length u → expr_height a ≤ h
+    Reads-closed : (c p i : ℕ) (a : Expr) (u : List Lexeme) → b ≡ suc c → Spells top (p + 1) a u → i ≡ p + 1 + length u → expr_height a ≤ h
         → Reads ws (λ t v. Spells 7 p t (key Open ∷ (u ++ v))) (Low h) c b i (expect_at ws Close i >>= λ r. climb ws n below h p 6 a r.1)
     Reads-closed c p i a u eb s e low =
         let one : Spells 0 p a (key Open ∷ (u ++ key Close ∷ [])) = in_brackets s in
@@ -85,9 +85,9 @@ module _ (ws : List Word) (n : ℕ) (h b : ℕ) where
     Reads-group : (i : ℕ) → slice_get ws i ≡ Some (key Open) → Reads ws (Spells 7 i) (Low h) b b i (group_at ws n inside below under h b i)
     unfolding group_at
     Reads-group i w =
-        let short : Spells 7 i (num (i + 1) zero_word) (key Open ∷ number zero_word ∷ key Close ∷ []) = on_level 7 i (num (i + 1) zero_word) (key Open ∷ number zero_word ∷ key Close ∷ []) (in_brackets (a_number_up top (i + 1) zero_word)) in
-        Reads-room ws _ _ b b i 1 h _ (key Open) (num (i + 1) zero_word) (number zero_word ∷ key Close ∷ []) w short (λ le.
-        Reads-open ws n _ _ b b i _ (num (i + 1) zero_word) (number zero_word ∷ key Close ∷ []) short (omega arith) (λ c eb.
+        let short : Spells 7 i (num (i + 1) zero_lexeme) (key Open ∷ number zero_lexeme ∷ key Close ∷ []) = on_level 7 i (num (i + 1) zero_lexeme) (key Open ∷ number zero_lexeme ∷ key Close ∷ []) (in_brackets (a_number_up top (i + 1) zero_lexeme)) in
+        Reads-room ws _ _ b b i 1 h _ (key Open) (num (i + 1) zero_lexeme) (number zero_lexeme ∷ key Close ∷ []) w short (λ le.
+        Reads-open ws n _ _ b b i _ (num (i + 1) zero_lexeme) (number zero_lexeme ∷ key Close ∷ []) short (omega arith) (λ c eb.
         Reads-bind ws (Spells top (i + 1)) _ (Low h) _ c c b (i + 1) _ _ (within c eb top (i + 1))
         (λ a v t. (a, key Close ∷ [], on_level 7 i a (key Open ∷ (v ++ key Close ∷ [])) (in_brackets t), λ fits. omega arith))
         (λ x v st t low.
@@ -117,7 +117,7 @@ module _ (ws : List Word) (n : ℕ) (h b : ℕ) where
         (λ a v t. (a, [], rw (append-nil v) t, λ fits. omega arith))
         (λ x v st t low. Reads-chain ws n below h b lower l i n x.1 x.0 v t (Stands-length ws i x.1 v st) low)
 
-module _ (ws : List Word) (n : ℕ) where
+module _ (ws : List Lexeme) (n : ℕ) where
   Reads-step : (h b : ℕ) → ((c : ℕ) → b ≡ suc c → ReadsEach ws (inside_of ws n h b) h c) → ((g : ℕ) → h ≡ suc g → ReadsEach ws (below_of ws n h b) g b)
       → ((c : ℕ) → b ≡ suc c → (g : ℕ) → h ≡ suc g → ReadsEach ws (under_of ws n h b) g c) → ReadsEach ws (expr_at ws n h b) h b
   Reads-step h b within lower both = rw (expr_at-layer ws n h b) (Reads-layer ws n h b (inside_of ws n h b) (below_of ws n h b) (under_of ws n h b) within lower both)

@@ -3,18 +3,18 @@ use Rattle.std.proofs.Common.{◌≡◌, ℕ, zero, suc, ◌+◌, ◌≤◌, tru
 use Rattle.std.proofs.lemmas.List.{append-nil}
 use Rattle.std.specs.Prelude.{slice_get}
 use Rattle.lex_words.specs.declared.key.Key.TheVariants.{Comma}
-use Rattle.lex_words.specs.Seen.{Word, number, key, at_key}
+use Rattle.lex_words.specs.Seen.{Lexeme, number, key, at_key}
 use Rattle.lex_words.specs.Reading.{◌>>=◌, either, more_of}
 use Rattle.lex_words.proofs.KeyCodes.{at_key-is}
 use Rattle.lex_words.proofs.Standing.{Stands-length}
-use Rattle.lex_words.proofs.Spelled.{Reads, Reads-bind, Reads-map, Reads-word, Reads-ok, Reads-spent, Reads-either}
+use Rattle.lex_words.proofs.Spelled.{Reads, Reads-bind, Reads-map, Reads-lexeme, Reads-ok, Reads-spent, Reads-either}
 use Rattle.indus_tree.specs.Tree.{Expr, Exprs, num, none, more, exprs_from}
 use Rattle.indus_tree.specs.Height.{expr_height, exprs_height}
 use Rattle.indus_spelling.specs.Operators.{top}
 use Rattle.indus_spelling.specs.Expressions.{Spells, SpellsAll, last, then}
 use Rattle.indus_expressions.specs.Reading.{Reader, rest_of, all_of}
 use Rattle.indus_expressions.proofs.Turns.{expr_tall}
-use Rattle.indus_expressions.proofs.SoundSteps.{zero_word, a_number_up}
+use Rattle.indus_expressions.proofs.SoundSteps.{zero_lexeme, a_number_up}
 
 abbrev pub Low : ℕ → Expr → Type 0
 Low h t = expr_height t ≤ h
@@ -23,7 +23,7 @@ abbrev pub LowAll : ℕ → List Expr → Type 0
 LowAll h ts = exprs_height (exprs_from ts) ≤ h
 
 -- what the reader gives is spelled so, is at most h high, and leaves as many brackets as before it
-abbrev pub ReadsEach : (ws : List Word) → Reader → (h b : ℕ) → Type 0
+abbrev pub ReadsEach : (ws : List Lexeme) → Reader → (h b : ℕ) → Type 0
 ReadsEach ws f h b = (l p : ℕ) → Reads ws (Spells l p) (Low h) b b p (f l p)
 
 -- one expression at least
@@ -36,21 +36,21 @@ abbrev pub AreSeveral : List Expr → Type 0
 AreSeveral [] = ⊥
 AreSeveral (a ∷ ts) = AreSome ts
 
-pub then_at : (p q : ℕ) (a : Expr) (rest : Exprs) (u v : List Word) → Spells top p a u → q ≡ p + length u → SpellsAll (q + 1) rest v → SpellsAll p (more a rest) (u ++ key Comma ∷ v)
+pub then_at : (p q : ℕ) (a : Expr) (rest : Exprs) (u v : List Lexeme) → Spells top p a u → q ≡ p + length u → SpellsAll (q + 1) rest v → SpellsAll p (more a rest) (u ++ key Comma ∷ v)
 then_at p q a rest u v s e t = then s (subst (λ x. SpellsAll (x + 1) rest v) e t)
 
 -- the shortest list behind a comma
-pub also_at : (p q : ℕ) (a : Expr) (u : List Word) → Spells top p a u → q ≡ p + length u → SpellsAll p (more a (exprs_from (num (q + 1) zero_word ∷ []))) (u ++ key Comma ∷ number zero_word ∷ [])
-also_at p q a u s e = then_at p q a (more (num (q + 1) zero_word) none) u (number zero_word ∷ []) s e (last (a_number_up top (q + 1) zero_word))
+pub also_at : (p q : ℕ) (a : Expr) (u : List Lexeme) → Spells top p a u → q ≡ p + length u → SpellsAll p (more a (exprs_from (num (q + 1) zero_lexeme ∷ []))) (u ++ key Comma ∷ number zero_lexeme ∷ [])
+also_at p q a u s e = then_at p q a (more (num (q + 1) zero_lexeme) none) u (number zero_lexeme ∷ []) s e (last (a_number_up top (q + 1) zero_lexeme))
 
-module _ (ws : List Word) (n : ℕ) (below : Reader) (h b : ℕ) (lower : ReadsEach ws below h b) where
+module _ (ws : List Lexeme) (n : ℕ) (below : Reader) (h b : ℕ) (lower : ReadsEach ws below h b) where
   -- behind the expression a: none or more
   abbrev ReadsMore : ℕ → Type 0
-  ReadsMore k = (p q : ℕ) (a : Expr) (u : List Word) → Spells top p a u → q ≡ p + length u → 1 ≤ h
+  ReadsMore k = (p q : ℕ) (a : Expr) (u : List Lexeme) → Spells top p a u → q ≡ p + length u → 1 ≤ h
       → Reads ws (λ ts v. SpellsAll p (more a (exprs_from ts)) (u ++ v)) (LowAll h) b b q (more_of ws Comma (below top) k q)
 
   -- behind the expression a and a comma: one or more
-  Reads-next : (k : ℕ) → ReadsMore k → (p q : ℕ) (a : Expr) (u : List Word) → Spells top p a u → q ≡ p + length u → 1 ≤ h
+  Reads-next : (k : ℕ) → ReadsMore k → (p q : ℕ) (a : Expr) (u : List Lexeme) → Spells top p a u → q ≡ p + length u → 1 ≤ h
       → Reads ws (λ ts v. AreSome ts × SpellsAll p (more a (exprs_from ts)) (u ++ key Comma ∷ v)) (LowAll h) b b (q + 1)
       (below top (q + 1) >>= λ x. more_of ws Comma (below top) k x.1 >>= λ y. Ok (x.0 ∷ y.0, y.1))
   Reads-next k on p q a u s e some =
@@ -64,19 +64,19 @@ module _ (ws : List Word) (n : ℕ) (below : Reader) (h b : ℕ) (lower : ReadsE
   unfolding more_of
   Reads-more zero p q a u s e some = Reads-spent ws _ _ b b q
   Reads-more (suc k) p q a u s e some =
-      Reads-either ws _ _ b b b q Comma _ _ refl (num (q + 1) zero_word ∷ [], number zero_word ∷ [], also_at p q a u s e, omega (arith, some))
+      Reads-either ws _ _ b b b q Comma _ _ refl (num (q + 1) zero_lexeme ∷ [], number zero_lexeme ∷ [], also_at p q a u s e, omega (arith, some))
       (Reads-map ws _ _ (LowAll h) (LowAll h) b b (q + 1) _ (λ ts v z. z.1) (λ ts z. z) (Reads-next k (λ i j. Reads-more k i j) p q a u s e some))
       (Reads-ok ws _ _ b q [] (rw (append-nil u) (last s)) (omega arith))
 
   -- where a comma stands behind a
-  pub Reads-some : (k p q : ℕ) (a : Expr) (u : List Word) → Spells top p a u → q ≡ p + length u → 1 ≤ h → at_key Comma (slice_get ws q) ≡ true
+  pub Reads-some : (k p q : ℕ) (a : Expr) (u : List Lexeme) → Spells top p a u → q ≡ p + length u → 1 ≤ h → at_key Comma (slice_get ws q) ≡ true
       → Reads ws (λ ts v. AreSome ts × SpellsAll p (more a (exprs_from ts)) (u ++ v)) (LowAll h) b b q (more_of ws Comma (below top) k q)
   unfolding more_of either
   Reads-some zero p q a u s e some c = Reads-spent ws _ _ b b q
   Reads-some (suc k) p q a u s e some c =
-      rw c (Reads-word ws _ _ b b b q (key Comma) _ (at_key-is Comma (slice_get ws q) c) refl (num (q + 1) zero_word ∷ [], number zero_word ∷ [], (tt, also_at p q a u s e), omega (arith, some)) (Reads-next k (λ i j. Reads-more k i j) p q a u s e some))
+      rw c (Reads-lexeme ws _ _ b b b q (key Comma) _ (at_key-is Comma (slice_get ws q) c) refl (num (q + 1) zero_lexeme ∷ [], number zero_lexeme ∷ [], (tt, also_at p q a u s e), omega (arith, some)) (Reads-next k (λ i j. Reads-more k i j) p q a u s e some))
 
-  pub Reads-rest : (p q : ℕ) (a : Expr) (u : List Word) → Spells top p a u → q ≡ p + length u → expr_height a ≤ h
+  pub Reads-rest : (p q : ℕ) (a : Expr) (u : List Lexeme) → Spells top p a u → q ≡ p + length u → expr_height a ≤ h
       → Reads ws (λ ts v. SpellsAll p (exprs_from ts) (u ++ v)) (LowAll h) b b q (rest_of ws n below a q)
   unfolding rest_of
   Reads-rest p q a u s e low =
@@ -85,7 +85,7 @@ module _ (ws : List Word) (n : ℕ) (below : Reader) (h b : ℕ) (lower : ReadsE
       (λ y v st al low'. Reads-ok ws _ _ b y.1 _ (rw (append-nil v) al) (omega (arith, low, low')))
 
   -- two or more, where a comma stands behind a
-  pub Reads-several : (p q : ℕ) (a : Expr) (u : List Word) → Spells top p a u → q ≡ p + length u → expr_height a ≤ h → at_key Comma (slice_get ws q) ≡ true
+  pub Reads-several : (p q : ℕ) (a : Expr) (u : List Lexeme) → Spells top p a u → q ≡ p + length u → expr_height a ≤ h → at_key Comma (slice_get ws q) ≡ true
       → Reads ws (λ ts v. AreSeveral ts × SpellsAll p (exprs_from ts) (u ++ v)) (LowAll h) b b q (rest_of ws n below a q)
   unfolding rest_of
   Reads-several p q a u s e low c =

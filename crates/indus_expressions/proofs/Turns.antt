@@ -2,7 +2,7 @@
 use Rattle.std.proofs.Common.{◌≡◌, ℕ, ◌+◌, ◌-◌, ◌≤◌, ◌<◌, max, List, [], ◌∷◌, ◌++◌, Some, None, Ok, Err, refl, ap, ◌∙◌, arith}
 use Rattle.std.specs.Prelude.{slice_get}
 use Rattle.lex_words.specs.declared.key.Key.TheVariants.{Comma}
-use Rattle.lex_words.specs.Seen.{Word, key_in}
+use Rattle.lex_words.specs.Seen.{Lexeme, key_in}
 use Rattle.lex_words.specs.Reading.{high, Read, ◌>>=◌, more_of}
 use Rattle.lex_words.proofs.Loops.{Front}
 use Rattle.lex_words.proofs.Joins as joins
@@ -14,10 +14,10 @@ use Rattle.indus_expressions.specs.Reading.{Reader, join_in, right_at, rest_of, 
 use Rattle.indus_expressions.proofs.Layers.{below_is}
 
 -- the reader of an item of a list
-abbrev pub item_at : (h b : ℕ) → List Word → ℕ → ℕ → Read Expr
+abbrev pub item_at : (h b : ℕ) → List Lexeme → ℕ → ℕ → Read Expr
 item_at h b ws n i = expr_at ws n h b top i
 
-module _ (ws : List Word) (n h b l p : ℕ) where
+module _ (ws : List Lexeme) (n h b l p : ℕ) where
   abbrev pub Chain : ℕ → Expr → ℕ → Read Expr
   Chain k a q = chain ws n (below_of ws n h b) h l p k a q
 
@@ -34,7 +34,7 @@ module _ (ws : List Word) (n h b l p : ℕ) where
       joins.chain_goes_on join_at expr_height (right_at ws n (below_of ws n h b)) ws h l p k q a x lt e le
       ∙ ap (λ (f : Reader). right_at ws n f l p a x (q + 1) >>= λ y. Chain (k - 1) y.0 y.1) low
 
-module _ (ws : List Word) (n : ℕ) (e : Reader) where
+module _ (ws : List Lexeme) (n : ℕ) (e : Reader) where
   pub rest_front : (a : Expr) (i : ℕ) → rest_of ws n e a i ≡ Front (a ∷ []) (more_of ws Comma (e top) n i)
   unfolding rest_of
   rest_front a i = refl

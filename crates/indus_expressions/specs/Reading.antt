@@ -1,9 +1,9 @@
--- Reading expressions from left to right, with one word of choice. A reader gets the words, how many turns each loop may make, how high a tree may be and how many more round brackets may be open.
+-- Reading expressions from left to right, with one lexeme of choice. A reader gets the lexemes, how many turns each loop may make, how high a tree may be and how many more round brackets may be open.
 use Rattle.std.specs.Prelude.{◌≡◌, ℕ, zero, suc, ◌+◌, ◌≤◌, Bool, true, false, ◌&&◌, ◌==◌, nat_le, List, ◌∷◌, map, Option, Some, None, is_some, Ok, Err, if◌then◌else◌, slice_get}
 use Rattle.lex_text.specs.declared.literal.Literal.{Literal}
 use Rattle.lex_words.specs.declared.key.Key.{Key}
 use Rattle.lex_words.specs.declared.key.Key.TheVariants.{True, False, Bit, In, Length, Not, Tilde, Open, Close, SquareOpen, SquareClose, Less, More, Comma}
-use Rattle.lex_words.specs.Seen.{Word, name_in, number_in, at_key}
+use Rattle.lex_words.specs.Seen.{Lexeme, name_in, number_in, at_key}
 use Rattle.lex_words.specs.Reading.{wrong, spent, Read, ◌>>=◌, expect_at, more_of, room_at, named_at, numbered_at, open_at}
 use Rattle.lex_words.specs.Joins as joins
 use Rattle.indus_tree.specs.Tree.{Expr, num, flag, read, count, index, member, negation, inversion, binary, cast, none, more, exprs_from}
@@ -33,7 +33,7 @@ sized i (Some v) = if is_size v then Ok (v.value, i + 1) else Err (wrong i)
 abbrev pub join_in : ℕ → Option Key → Option Join
 join_in l o = joins.join_in join_at l o
 
-module _ (ws : List Word) (n : ℕ) where
+module _ (ws : List Lexeme) (n : ℕ) where
   unfoldable pub sized_at : ℕ → Read ℕ
   sized_at i = sized i (number_in (slice_get ws i))
 

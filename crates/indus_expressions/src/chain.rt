@@ -15,9 +15,9 @@ use std::alloc::Global;
 
 /// What joins on this level, if it stands here.
 fn join(tokens: &Cursor, level: u8) -> Option<Join>
-    ensures value { result ≡ join_in level (key_in (slice_get tokens.now.words tokens.now.at)) }
-    ensures inside { OnSome result (tokens.now.at < length tokens.now.words) }
-    ensures within { tokens.now.at ≤ length tokens.now.words }
+    ensures value { result ≡ join_in level (key_in (slice_get tokens.now.lexemes tokens.now.at)) }
+    ensures inside { OnSome result (tokens.now.at < length tokens.now.lexemes) }
+    ensures within { tokens.now.at ≤ length tokens.now.lexemes }
 {
     let (found, join) = join_of(tokens.key()?)?;
     if found == level { Some(join) } else { None }

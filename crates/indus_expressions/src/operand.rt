@@ -15,7 +15,7 @@ use std::alloc::Global;
 /// `true` or `false`, which stands here.
 #[tactic(auto, unfolding(crate::specs::Reading::flag_at))]
 fn flag(tokens: &mut Cursor, height: u16, value: bool) -> Result<Found, Halt>
-    requires { tokens.old.at < length tokens.old.words }
+    requires { tokens.old.at < length tokens.old.lexemes }
     ensures reads { Moves tree_of (λ ws n. flag_at ws n value height) tokens.old result tokens.new }
     ensures low { IfOk result (IsLow height) }
 {

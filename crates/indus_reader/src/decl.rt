@@ -182,8 +182,8 @@ fn declaration(alloc: Global, tokens: &mut Cursor) -> Result<Decl, Halt>
 /// Whether a declaration begins here.
 #[tactic(auto, unfolding(crate::specs::Declaring::is_decl))]
 fn begins(tokens: &Cursor) -> bool
-    ensures value { result ≡ is_decl tokens.now.words (length tokens.now.words + 1) tokens.now.at }
-    ensures inside { tokens.now.at ≤ length tokens.now.words }
+    ensures value { result ≡ is_decl tokens.now.lexemes (length tokens.now.lexemes + 1) tokens.now.at }
+    ensures inside { tokens.now.at ≤ length tokens.now.lexemes }
 {
     tokens.is(Key::Tele)
         || tokens.is(Key::Sensor)

@@ -5,8 +5,8 @@ ghost use Rattle.lex_text.specs.Tokens.{FaultOf};
 ghost use Rattle.lex_text.specs.declared.fault.LexFault.{LexFault as Fault};
 ghost use Rattle.lex_text.specs.Places.{AreIn};
 ghost use Rattle.lex_text.specs.declared.token.Words.TheVariants.{Indus};
-ghost use Rattle.lex_words.specs.Seen.{words_of};
-ghost use Rattle.lex_words.specs.Written.{AreWords};
+ghost use Rattle.lex_words.specs.Seen.{lexemes_of};
+ghost use Rattle.lex_words.specs.Written.{AreLexemes};
 ghost use Rattle.lex_words.specs.Reading.{Gives};
 ghost use Rattle.indus_tree.specs.Tree.{Property as Tree};
 ghost use Rattle.indus_tree.specs.View.{property_of};
@@ -25,8 +25,8 @@ use std::alloc::Global;
 #[tactic(auto, unfolding(crate::specs::Reading::property_at, crate::specs::Reading::whole_at, lex_words::specs::Reading::all_read))]
 fn whole(alloc: Global, tokens: &mut Cursor) -> Result<Property, Halt>
     requires start { tokens.old.at ≡ 0 }
-    requires short { length tokens.old.words ≤ 65536 }
-    ensures { Gives property_of result (property_at tokens.old.words (length tokens.old.words + 1) 256 255) }
+    requires short { length tokens.old.lexemes ≤ 65536 }
+    ensures { Gives property_of result (property_at tokens.old.lexemes (length tokens.old.lexemes + 1) 256 255) }
 {
     let decls = declarations(alloc, tokens)?;
     let init = block(alloc, tokens, 255, 0)?;
@@ -48,9 +48,9 @@ fn whole(alloc: Global, tokens: &mut Cursor) -> Result<Property, Halt>
 /// The same, of a list of tokens.
 fn property(alloc: Global, text: &[u8], list: &[Token]) -> Result<Property, Halt>
     requires fits { AreIn text.now list.now }
-    requires fair { AreWords Indus (words_of Indus text.now list.now) }
+    requires fair { AreLexemes Indus (lexemes_of Indus text.now list.now) }
     requires short { length list.now ≤ 65536 }
-    ensures { Gives property_of result (property_read (words_of Indus text.now list.now)) }
+    ensures { Gives property_of result (property_read (lexemes_of Indus text.now list.now)) }
 {
     let mut tokens = Cursor::new(Words::Indus, text, list);
     whole(alloc, &mut tokens)

@@ -1,7 +1,7 @@
 -- A spelled tree's places rise, by recursion on what spells it.
 use Rattle.std.proofs.Common.{ℕ, ◌+◌, ◌≤◌, List, [], ◌∷◌, ◌++◌, length, Option, Some, None, refl, arith}
 use Rattle.std.proofs.lemmas.List.{length-append}
-use Rattle.lex_words.specs.Seen.{Word, name, number, key}
+use Rattle.lex_words.specs.Seen.{Lexeme, name, number, key}
 use Rattle.lex_words.specs.declared.key.Key.TheVariants as k
 use Rattle.indus_tree.specs.Tree.{Expr, Exprs, num, flag, read, count, index, member, negation, inversion, binary, cast, none, more, Stmt, Stmts, assign, cell, push, choice, loop, reject, report, done, next, Decl}
 use Rattle.indus_spelling.specs.Expressions.{Spells, SpellsAll, a_number, a_true, a_false, a_name, an_index, a_length, a_not, an_inversion, a_cast, in_brackets, tighter, joined, a_member, a_tuple, last, then}
@@ -46,7 +46,7 @@ mutual
 -- ---- expressions
 
 mutual
-  rises : {l p : ℕ} {t : Expr} {u : List Word} → Spells l p t u → Rises p (p + length u) t
+  rises : {l p : ℕ} {t : Expr} {u : List Lexeme} → Spells l p t u → Rises p (p + length u) t
   rises (a_number n) = (omega arith, omega arith)
   rises a_true = (omega arith, omega arith)
   rises a_false = (omega arith, omega arith)
@@ -67,19 +67,19 @@ mutual
   rises {p = p} (a_tuple s {a = a} {b = b} {ks = ks} {u = u} all) =
       (omega arith, wider_all (more a (more b ks)) (p + 1) (p + 1 + length u) p (p + length (key k.Open ∷ (u ++ key k.Close ∷ key k.In ∷ name s ∷ []))) (omega arith) (omega (arith, length-append u (key k.Close ∷ key k.In ∷ name s ∷ []))) (rises_all all))
 
-  rises_all : {p : ℕ} {es : Exprs} {u : List Word} → SpellsAll p es u → AllRise p (p + length u) es
+  rises_all : {p : ℕ} {es : Exprs} {u : List Lexeme} → SpellsAll p es u → AllRise p (p + length u) es
   rises_all {p = p} (last {u = u} s) = (p + length u, rises s, omega arith)
   rises_all {p = p} (then {a = a} {rest = es} {u = u} {v = v} s t) =
       (p + length u, rises s, wider_all es (p + length u + 1) (p + length u + 1 + length v) (p + length u) (p + length (u ++ key k.Comma ∷ v)) (omega arith) (omega (arith, length-append u (key k.Comma ∷ v))) (rises_all t))
 
 -- ---- statements
 
-some_rise : {p : ℕ} {es : Exprs} {u : List Word} → SpellsSome p es u → AllRise p (p + length u) es
+some_rise : {p : ℕ} {es : Exprs} {u : List Lexeme} → SpellsSome p es u → AllRise p (p + length u) es
 some_rise no_value = omega arith
 some_rise (values all) = rises_all all
 
 mutual
-  stmt_rises : {p r : ℕ} {t : Stmt} {u : List Word} → SpellsStmt p r t u → StmtRises p (p + length u) t
+  stmt_rises : {p r : ℕ} {t : Stmt} {u : List Lexeme} → SpellsStmt p r t u → StmtRises p (p + length u) t
   stmt_rises {p = p} (an_assign s {e = e} {u = u} t) =
       (omega arith, wider e (p + 1 + 1) (p + 1 + 1 + length u) (p + 1) (p + length (name s ∷ key k.Assign ∷ (u ++ key k.Semicolon ∷ []))) (omega arith) (omega (arith, length-append u (key k.Semicolon ∷ []))) (rises t))
   stmt_rises {p = p} (a_cell s {i = i} {e = e} {u = u} {v = v} t w) = (
@@ -103,7 +103,7 @@ mutual
   stmt_rises {p = p} (a_report {es = es} {u = u} t) =
       (omega arith, wider_all es (p + 1 + 1) (p + 1 + 1 + length u) (p + 1) (p + length (key k.Report ∷ key k.Open ∷ (u ++ key k.Close ∷ key k.Semicolon ∷ []))) (omega arith) (omega (arith, length-append u (key k.Close ∷ key k.Semicolon ∷ []))) (some_rise t))
 
-  ifs_rises : {p r : ℕ} {t : Stmt} {u : List Word} → SpellsIfs p r t u → StmtRises p (p + length u) t
+  ifs_rises : {p r : ℕ} {t : Stmt} {u : List Lexeme} → SpellsIfs p r t u → StmtRises p (p + length u) t
   ifs_rises {p = p} (an_if {e = e} {ys = ys} {zs = zs} {u = u} {v = v} {w = w} t y z) = (
     omega arith,
     (
@@ -116,23 +116,23 @@ mutual
     ),
   )
 
-  else_rises : {p r : ℕ} {t : Stmts} {u : List Word} → SpellsElse p r t u → BlockRises p (p + length u) t
+  else_rises : {p r : ℕ} {t : Stmts} {u : List Lexeme} → SpellsElse p r t u → BlockRises p (p + length u) t
   else_rises no_else = omega arith
   else_rises {p = p} (else_block {ss = ss} {u = u} t) = wider_block ss (p + 1) (p + 1 + length u) p (p + length (key k.Else ∷ u)) (omega arith) (omega arith) (block_rises t)
   else_rises {p = p} (else_if {c = c} {u = u} t) = (p + length (key k.Else ∷ u), wider_stmt c (p + 1) (p + 1 + length u) p (p + length (key k.Else ∷ u)) (omega arith) (omega arith) (ifs_rises t), omega arith)
 
-  block_rises : {p r : ℕ} {t : Stmts} {u : List Word} → SpellsBlock p r t u → BlockRises p (p + length u) t
+  block_rises : {p r : ℕ} {t : Stmts} {u : List Lexeme} → SpellsBlock p r t u → BlockRises p (p + length u) t
   block_rises {p = p} (in_braces {ss = ss} {u = u} t) =
       wider_block ss (p + 1) (p + 1 + length u) p (p + length (key k.BraceOpen ∷ (u ++ key k.BraceClose ∷ []))) (omega arith) (omega (arith, length-append u (key k.BraceClose ∷ []))) (many_rise t)
 
-  many_rise : {p r : ℕ} {t : Stmts} {u : List Word} → SpellsMany p r t u → BlockRises p (p + length u) t
+  many_rise : {p r : ℕ} {t : Stmts} {u : List Lexeme} → SpellsMany p r t u → BlockRises p (p + length u) t
   many_rise no_more = omega arith
   many_rise {p = p} (one_more {rest = rest} {u = u} {v = v} t w) =
       (p + length u, stmt_rises t, wider_block rest (p + length u) (p + length u + length v) (p + length u) (p + length (u ++ v)) (omega arith) (omega (arith, length-append u v)) (many_rise w))
 
 -- ---- declarations
 
-value_rises : {p : ℕ} {e : Expr} {u : List Word} → SpellsValue p e u → Rises p (p + length u) e
+value_rises : {p : ℕ} {e : Expr} {u : List Lexeme} → SpellsValue p e u → Rises p (p + length u) e
 value_rises (d.a_number n) = (omega arith, omega arith)
 value_rises d.a_true = (omega arith, omega arith)
 value_rises d.a_false = (omega arith, omega arith)
@@ -141,11 +141,11 @@ wider_start : (e : Option Expr) (p q p' q' : ℕ) → p' ≤ p → q ≤ q' → 
 wider_start None p q p' q' a b x = omega (arith, x)
 wider_start (Some e) p q p' q' a b x = wider e p q p' q' a b x
 
-start_rises : {p : ℕ} {e : Option Expr} {u : List Word} → SpellsStart p e u → StartRises p (p + length u) e
+start_rises : {p : ℕ} {e : Option Expr} {u : List Lexeme} → SpellsStart p e u → StartRises p (p + length u) e
 start_rises no_start = omega arith
 start_rises {p = p} (a_start {e = e} {u = u} s) = wider e (p + 1) (p + 1 + length u) p (p + length (key k.Assign ∷ u)) (omega arith) (omega arith) (value_rises s)
 
-decl_rises : {p : ℕ} {t : Decl} {u : List Word} → SpellsDecl p t u → (p ≤ t.place) × StartRises (t.place + 1) (p + length u) t.start
+decl_rises : {p : ℕ} {t : Decl} {u : List Lexeme} → SpellsDecl p t u → (p ≤ t.place) × StartRises (t.place + 1) (p + length u) t.start
 decl_rises {p = p} (a_tele x {u = u} s) = (omega arith, omega (arith, length-append u (name x ∷ key k.Semicolon ∷ [])))
 decl_rises {p = p} (a_sensor x {e = e} {u = u} {v = v} s t) = (
   omega arith,
@@ -159,7 +159,7 @@ wider_decls : (ds : List Decl) (p q q' : ℕ) → q ≤ q' → DeclsRise p q ds 
 wider_decls [] p q q' b x = omega (arith, x)
 wider_decls (t ∷ ds) p q q' b x = (x.0, x.1, x.2, wider_decls ds x.0 q q' b x.3)
 
-decls_rise : {p : ℕ} {ds : List Decl} {u : List Word} → SpellsDecls p ds u → DeclsRise p (p + length u) ds
+decls_rise : {p : ℕ} {ds : List Decl} {u : List Lexeme} → SpellsDecls p ds u → DeclsRise p (p + length u) ds
 decls_rise no_decl = omega arith
 decls_rise {p = p} (a_decl {ds = ds} {u = u} {v = v} t w) =
     let r = decl_rises t in

@@ -1,4 +1,4 @@
--- Which words spell a property. To be read in this order.
+-- Which lexemes spell a property. To be read in this order.
 pub mod Operators
 pub mod Expressions
 pub mod Declarations

@@ -1,6 +1,6 @@
--- The places of a tree rise in the order of the text, and lie among the words that spell it.
+-- The places of a tree rise in the order of the text, and lie among the lexemes that spell it.
 use Rattle.std.specs.Prelude.{◌≡◌, ℕ, ◌+◌, ◌≤◌, ◌<◌, List, [], ◌∷◌, length, Option, Some, None}
-use Rattle.lex_words.specs.Seen.{Word}
+use Rattle.lex_words.specs.Seen.{Lexeme}
 use Rattle.indus_tree.specs.Tree.{Expr, Exprs, num, flag, read, count, index, member, negation, inversion, binary, cast, none, more, Stmt, Stmts, assign, cell, push, choice, loop, reject, report, done, next, Decl, Property}
 use Rattle.indus_spelling.specs.Properties.{SpellsProperty}
 
@@ -15,7 +15,7 @@ abbrev mutual
   Rises p q (member r es s) = (p ≤ r) × AllRise r q es
   Rises p q (negation r a) = (p ≤ r) × Rises (r + 1) q a
   Rises p q (inversion r a) = (p ≤ r) × Rises (r + 1) q a
-  -- a binary operator's place is that of its left side's first word
+  -- a binary operator's place is that of its left side's first lexeme
   Rises p q (binary r op a b) = (p ≤ r) × ((m : ℕ) × Rises r m a × Rises (m + 1) q b)
   Rises p q (cast r w a) = (p ≤ r) × Rises (r + 1) q a
 
@@ -57,6 +57,6 @@ pub record PropertyRises (q : ℕ) (t : Property) : Type 0 where
   pub tele : BlockRises tele_from check_from t.tele
   pub check : BlockRises check_from q t.check
 
--- a spelled tree's places rise, and lie among its words
+-- a spelled tree's places rise, and lie among its lexemes
 abbrev pub PlacesRise : Type 0
-PlacesRise = (t : Property) (ws : List Word) → SpellsProperty t ws → PropertyRises (length ws) t
+PlacesRise = (t : Property) (ws : List Lexeme) → SpellsProperty t ws → PropertyRises (length ws) t

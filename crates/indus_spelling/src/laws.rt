@@ -2,7 +2,7 @@
 
 ghost use Rattle.indus_spelling.specs.Rising.{PlacesRise};
 
-/// The places of a tree rise, and lie among the words that spell it.
+/// The places of a tree rise, and lie among the lexemes that spell it.
 pub fn places()
     ensures { PlacesRise }
 {}

@@ -1,4 +1,4 @@
-//! Which lists of words spell an Indus property.
+//! Which lists of lexemes spell an Indus property.
 //!
 //! The layers above get the relations of `specs/Expressions`, `Declarations` and `Properties`: one
 //! for each nonterminal of the grammar, with one case for each production; and `join_of`, the

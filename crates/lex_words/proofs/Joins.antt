@@ -1,17 +1,17 @@
--- Operands that are joined: the turns of a chain, what it rests on, and what it says of the words, for any table of levels and any trees.
+-- Operands that are joined: the turns of a chain, what it rests on, and what it says of the lexemes, for any table of levels and any trees.
 use Rattle.std.proofs.Common.{◌≡◌, ℕ, zero, suc, ◌+◌, ◌-◌, ◌≤◌, ◌<◌, Bool, true, false, cond, List, [], ◌∷◌, ◌++◌, length, Option, Some, None, Ok, Err, refl, sym, ap, subst, ◌∙◌, arith, append_assoc, length-append}
 use Rattle.std.proofs.lemmas.List.{append-nil}
 use Rattle.std.proofs.lemmas.Bool.{eqb-true, leb-true, leb-false, le-leb, lt-leb}
 use Rattle.std.specs.Prelude.{slice_get, nat_le, ◌==◌}
 use Rattle.lex_words.specs.declared.key.Key.{Key}
-use Rattle.lex_words.specs.Seen.{Word, key, key_in}
+use Rattle.lex_words.specs.Seen.{Lexeme, key, key_in}
 use Rattle.lex_words.specs.Brackets.{left_by}
 use Rattle.lex_words.specs.Reading.{high, Read, ◌>>=◌, look}
 use Rattle.lex_words.specs.Joins.{of_level, join_in, turn, chain}
 use Rattle.lex_words.proofs.KeyCodes.{at_key-is, found_is_key}
 use Rattle.lex_words.proofs.Standing.{Stands-length}
 use Rattle.lex_words.proofs.Locality.{Follows, Follows-bind, Follows-later, Follows-spent, Follows-ok, Follows-look}
-use Rattle.lex_words.proofs.Spelled.{Reads, Reads-bind, Reads-map, Reads-word, Reads-high, Reads-ok, Reads-spent, Reads-cond}
+use Rattle.lex_words.proofs.Spelled.{Reads, Reads-bind, Reads-map, Reads-lexeme, Reads-high, Reads-ok, Reads-spent, Reads-cond}
 
 -- ---- what a key joins
 
@@ -32,20 +32,20 @@ module _ {J : Type 0} where
     join_key l None x e = absurd cc
     join_key l (Some k) x e = (k, refl, of_level-is l (table k) x e)
 
-    -- the word of what joins
-    pub join_word : (l : ℕ) (o : Option Word) (x : J) → join_in table l (key_in o) ≡ Some x → (k : Key) × (o ≡ Some (key k)) × (table k ≡ level_join l x)
-    join_word l o x e =
+    -- the lexeme of what joins
+    pub join_lexeme : (l : ℕ) (o : Option Lexeme) (x : J) → join_in table l (key_in o) ≡ Some x → (k : Key) × (o ≡ Some (key k)) × (table k ≡ level_join l x)
+    join_lexeme l o x e =
         let k = join_key l (key_in o) x e in
         (k.0, at_key-is k.0 o (found_is_key k.0 o k.1), k.2)
 
     -- what joins in one list joins in the same list
-    pub join_along : (l : ℕ) (vs ws : List Word) (q : ℕ) (o : Option J) → vs ≡ ws → o ≡ join_in table l (key_in (slice_get vs q)) → join_in table l (key_in (slice_get ws q)) ≡ o
+    pub join_along : (l : ℕ) (vs ws : List Lexeme) (q : ℕ) (o : Option J) → vs ≡ ws → o ≡ join_in table l (key_in (slice_get vs q)) → join_in table l (key_in (slice_get ws q)) ≡ o
     join_along l vs ws q o same e = ap (λ v. join_in table l (key_in (slice_get v q))) (sym same) ∙ sym e
 
 module _ {T J : Type 0} (table : Key → Option (ℕ × J)) (height : T → ℕ) where
   -- ---- the turns
 
-  module _ (right : (l p : ℕ) → T → J → ℕ → Read T) (ws : List Word) (h l p : ℕ) where
+  module _ (right : (l p : ℕ) → T → J → ℕ → Read T) (ws : List Lexeme) (h l p : ℕ) where
     abbrev Chain : ℕ → T → ℕ → Read T
     Chain k a q = chain table height right ws h l p k a q
 
@@ -69,7 +69,7 @@ module _ {T J : Type 0} (table : Key → Option (ℕ × J)) (height : T → ℕ)
 
   -- ---- what it rests on
 
-  module _ (ws vs : List Word) (Hs Bs : Type 0) (h j : ℕ) (le : h ≤ j) (hs : Hs → h ≡ j) (right right' : (l p : ℕ) → T → J → ℕ → Read T)
+  module _ (ws vs : List Lexeme) (Hs Bs : Type 0) (h j : ℕ) (le : h ≤ j) (hs : Hs → h ≡ j) (right right' : (l p : ℕ) → T → J → ℕ → Read T)
       (lower : (l p : ℕ) (a : T) (x : J) (i : ℕ) → Follows ws vs Hs Bs i (right l p a x i) (right' l p a x i)) where
     Follows-turn : (a : T) (i : ℕ) (o : Option J) (f g : J → Read T) → ((x : J) → Follows ws vs Hs Bs i (f x) (g x)) → Follows ws vs Hs Bs i (turn height h a i o f) (turn height j a i o g)
     Follows-turn a i None f g e = Follows-ok ws vs Hs Bs i i a (omega arith)
@@ -91,25 +91,25 @@ module _ {T J : Type 0} (table : Key → Option (ℕ × J)) (height : T → ℕ)
         (λ o. Follows-turn a i (join_in table (l + 1) (key_in o)) _ _ (λ x.
         Follows-later ws vs Hs Bs i _ _ (Follows-bind ws vs Hs Bs (i + 1) _ _ _ _ (lower l p a x (i + 1)) (λ y. Follows-chain l p k k' y.0 y.1 (omega arith)))))
 
--- ---- what it says of the words
+-- ---- what it says of the lexemes
 
--- the shortest right side behind words u and a key; m: the height of the left side
-pub record Finish {T : Type 0} (S : T → List Word → Type 0) (height : T → ℕ) (m : ℕ) (u : List Word) (k : Key) : Type 0 where
+-- the shortest right side behind lexemes u and a key; m: the height of the left side
+pub record Finish {T : Type 0} (S : T → List Lexeme → Type 0) (height : T → ℕ) (m : ℕ) (u : List Lexeme) (k : Key) : Type 0 where
   pub tree : T
-  pub rest : List Word
+  pub rest : List Lexeme
   pub spells : S tree (u ++ key k ∷ rest)
   pub tall : height tree ≤ m + 1
 
--- S: which words spell a tree of a level from a place on. b: how many brackets may be opened, before a chain as behind it.
-module _ {T J : Type 0} (table : Key → Option (ℕ × J)) (height : T → ℕ) (S : (l p : ℕ) → T → List Word → Type 0) (plain : (k : Key) (x : ℕ × J) (b : ℕ) → table k ≡ Some x → left_by (key k) b ≡ Some b)
-    (finish : (l p q : ℕ) (a : T) (k : Key) (x : J) (u : List Word) → table k ≡ level_join (suc l) x → S (suc l) p a u → q ≡ p + length u → Finish (S (suc l) p) height (height a) u k)
-    (right : (l p : ℕ) → T → J → ℕ → Read T) (ws : List Word) (h b : ℕ)
-    (sound : (l p i : ℕ) (a : T) (u : List Word) (k : Key) (x : J) → table k ≡ level_join (suc l) x → S (suc l) p a u → i ≡ p + length u → height a < h
+-- S: which lexemes spell a tree of a level from a place on. b: how many brackets may be opened, before a chain as behind it.
+module _ {T J : Type 0} (table : Key → Option (ℕ × J)) (height : T → ℕ) (S : (l p : ℕ) → T → List Lexeme → Type 0) (plain : (k : Key) (x : ℕ × J) (b : ℕ) → table k ≡ Some x → left_by (key k) b ≡ Some b)
+    (finish : (l p q : ℕ) (a : T) (k : Key) (x : J) (u : List Lexeme) → table k ≡ level_join (suc l) x → S (suc l) p a u → q ≡ p + length u → Finish (S (suc l) p) height (height a) u k)
+    (right : (l p : ℕ) → T → J → ℕ → Read T) (ws : List Lexeme) (h b : ℕ)
+    (sound : (l p i : ℕ) (a : T) (u : List Lexeme) (k : Key) (x : J) → table k ≡ level_join (suc l) x → S (suc l) p a u → i ≡ p + length u → height a < h
     → Reads ws (λ t v. S (suc l) p t (u ++ key k ∷ v)) (λ t. height t ≤ h) b b (i + 1) (right l p a x (i + 1))) where
   abbrev Low : T → Type 0
   Low t = height t ≤ h
 
-  Reads-turn : (l p i : ℕ) (a : T) (u : List Word) (o : Option J) (f : J → Read T) → S (suc l) p a u → i ≡ p + length u → height a ≤ h
+  Reads-turn : (l p i : ℕ) (a : T) (u : List Lexeme) (o : Option J) (f : J → Read T) → S (suc l) p a u → i ≡ p + length u → height a ≤ h
       → ((x : J) → o ≡ Some x → (k : Key) × (slice_get ws i ≡ Some (key k)) × (table k ≡ level_join (suc l) x))
       → ((x : J) (k : Key) → slice_get ws i ≡ Some (key k) → table k ≡ level_join (suc l) x → height a < h → Reads ws (λ t v. S (suc l) p t (u ++ v)) Low b b i (f x))
       → Reads ws (λ t v. S (suc l) p t (u ++ v)) Low b b i (turn height h a i o f)
@@ -121,16 +121,16 @@ module _ {T J : Type 0} (table : Key → Option (ℕ × J)) (height : T → ℕ)
       (λ _. Reads-high ws _ _ b b i (key k.0) z.tree z.rest k.1 z.spells)
       (λ lt. go x k.0 k.1 k.2 (leb-false h (height a) lt))
 
-  pub Reads-chain : (l p k i : ℕ) (a : T) (u : List Word) → S (suc l) p a u → i ≡ p + length u → height a ≤ h
+  pub Reads-chain : (l p k i : ℕ) (a : T) (u : List Lexeme) → S (suc l) p a u → i ≡ p + length u → height a ≤ h
       → Reads ws (λ t v. S (suc l) p t (u ++ v)) Low b b i (chain table height right ws h l p k a i)
   unfolding chain
   Reads-chain l p zero i a u s e low = Reads-spent ws _ _ b b i
   Reads-chain l p (suc k) i a u s e low =
       Reads-turn l p i a u (join_in table (l + 1) (key_in (slice_get ws i))) _ s e low
-      (λ x is. let j = join_word table (l + 1) (slice_get ws i) x is in (j.0, j.1, j.2 ∙ ap (λ (y : ℕ). level_join y x) (omega arith)))
+      (λ x is. let j = join_lexeme table (l + 1) (slice_get ws i) x is in (j.0, j.1, j.2 ∙ ap (λ (y : ℕ). level_join y x) (omega arith)))
       (λ x y w o lt.
       let z = finish l p i a y x u o s e in
-      Reads-word ws _ _ b b b i (key y) _ w (plain y _ b o) (z.tree, z.rest, z.spells, omega (arith, z.tall, lt))
+      Reads-lexeme ws _ _ b b b i (key y) _ w (plain y _ b o) (z.tree, z.rest, z.spells, omega (arith, z.tall, lt))
       (Reads-bind ws (λ t v. S (suc l) p t (u ++ key y ∷ v)) _ Low _ b b b (i + 1) _ _ (sound l p i a u y x o s e lt)
       (λ t v z. (t, [], rw (append-nil v) z, λ fits. fits))
       (λ t v st z low'.

@@ -1,9 +1,9 @@
 -- The lemmas.
 pub mod Dark
-pub mod WordFronts
+pub mod LexemeFronts
 pub mod Ascii
 pub mod Laid
-pub mod FairWords
+pub mod FairLexemes
 pub mod KeyCodes
 pub mod KindsSeen
 pub mod Standing

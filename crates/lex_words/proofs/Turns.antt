@@ -1,7 +1,7 @@
 -- The turns of code that reads with a cursor: what was read before, and what is still read.
 use Rattle.std.proofs.Common.{◌≡◌, ℕ, ◌+◌, ◌-◌, ◌≤◌, ◌<◌, Bool, true, false, List, [], ◌∷◌, ◌++◌, length, Ok, Err, refl, sym, ap, subst, ◌∙◌, arith}
 use Rattle.std.specs.Prelude.{slice_get}
-use Rattle.lex_words.specs.Seen.{Word, at_key}
+use Rattle.lex_words.specs.Seen.{Lexeme, at_key}
 use Rattle.lex_words.specs.Reading.{Read, ◌>>=◌, Fails, more_of, until}
 use Rattle.lex_words.specs.Moving.{Place, Reader, Moves, behind, Eats}
 use Rattle.lex_words.specs.declared.halt.Halt.{Halt}
@@ -10,13 +10,13 @@ use Rattle.lex_words.proofs.Loops.{Fails-bind, Fails-along, Front, then_ok, more
 
 -- ---- one turn, in which the reader is called at q; whole: what the loop reads
 
-module _ {A B X : Type 0} (ws : List Word) (reader : Reader A) (view : X → A) (whole : Read B) where
-  pub turn_fails : (q r : Place) (i : ℕ) (e : Halt) (f : A × ℕ → Read B) → q.words ≡ ws → q.at ≡ i → whole ≡ (reader ws (length ws + 1) i >>= f) → Moves view reader q (Err e) r → Fails e whole
+module _ {A B X : Type 0} (ws : List Lexeme) (reader : Reader A) (view : X → A) (whole : Read B) where
+  pub turn_fails : (q r : Place) (i : ℕ) (e : Halt) (f : A × ℕ → Read B) → q.lexemes ≡ ws → q.at ≡ i → whole ≡ (reader ws (length ws + 1) i >>= f) → Moves view reader q (Err e) r → Fails e whole
   turn_fails q r i e f w a step m =
       let here : Fails e (reader ws (length ws + 1) i) = subst (λ j. Fails e (reader ws (length ws + 1) j)) a (subst (λ v. Fails e (reader v (length v + 1) q.at)) w m.gives) in
       Fails-along e _ _ step (Fails-bind e (reader ws (length ws + 1) i) f here)
 
-  pub turn_gives : (q r : Place) (i : ℕ) (x : X) (f : A × ℕ → Read B) → q.words ≡ ws → q.at ≡ i → whole ≡ (reader ws (length ws + 1) i >>= f) → Moves view reader q (Ok x) r → whole ≡ f (view x, r.at)
+  pub turn_gives : (q r : Place) (i : ℕ) (x : X) (f : A × ℕ → Read B) → q.lexemes ≡ ws → q.at ≡ i → whole ≡ (reader ws (length ws + 1) i >>= f) → Moves view reader q (Ok x) r → whole ≡ f (view x, r.at)
   turn_gives q r i x f w a step m =
       let T : Read A → Type 0 = λ y. y ≡ Ok (view x, r.at) in
       let here : T (reader ws (length ws + 1) i) = subst (λ j. T (reader ws (length ws + 1) j)) a (subst (λ v. T (reader v (length v + 1) q.at)) w m.gives) in
@@ -25,20 +25,20 @@ module _ {A B X : Type 0} (ws : List Word) (reader : Reader A) (view : X → A) 
 -- ---- loops over lists
 
 -- The loop has read front, and still reads `rest k i` from place i on in at most k turns.
-pub record Turn {A : Type 0} (ws : List Word) (rest : ℕ → ℕ → Read (List A)) (whole : Read (List A)) (from : ℕ) (front : List A) (p : Place) : Type 0 where
+pub record Turn {A : Type 0} (ws : List Lexeme) (rest : ℕ → ℕ → Read (List A)) (whole : Read (List A)) (from : ℕ) (front : List A) (p : Place) : Type 0 where
   pub turns : ℕ
   pub enough : length ws + 1 ≤ turns + p.at
   pub reads : whole ≡ Front front (rest turns p.at)
-  pub same : p.words ≡ ws
+  pub same : p.lexemes ≡ ws
   pub onward : from ≤ p.at
 
 -- The loop is done: this was read, up to here.
-pub record Done {A : Type 0} (ws : List Word) (whole : Read (List A)) (from : ℕ) (front : List A) (q : Place) : Type 0 where
+pub record Done {A : Type 0} (ws : List Lexeme) (whole : Read (List A)) (from : ℕ) (front : List A) (q : Place) : Type 0 where
   pub gives : whole ≡ Ok (front, q.at)
-  pub same : q.words ≡ ws
+  pub same : q.lexemes ≡ ws
   pub within : (q.at ≤ length ws) × (from ≤ q.at)
 
-module _ {A X : Type 0} (ws : List Word) (reader : Reader A) (view : X → A) (k : Key) (whole : Read (List A)) (from : ℕ) where
+module _ {A X : Type 0} (ws : List Lexeme) (reader : Reader A) (view : X → A) (k : Key) (whole : Read (List A)) (from : ℕ) where
   abbrev item : ℕ → Read A
   item = reader ws (length ws + 1)
 
@@ -49,8 +49,8 @@ module _ {A X : Type 0} (ws : List Word) (reader : Reader A) (view : X → A) (k
 
   -- b: whether the key was passed over
   module _ (front : List A) (p q : Place) (b : Bool) (t : MoreTurn front p) (x : Eats k p b q) where
-    words_are : q.words ≡ ws
-    words_are = x.same ∙ t.same
+    lexemes_are : q.lexemes ≡ ws
+    lexemes_are = x.same ∙ t.same
 
     key_is : at_key k (slice_get ws p.at) ≡ b
     key_is = ap (λ v. at_key k (slice_get v p.at)) (sym t.same) ∙ sym x.value
@@ -65,17 +65,17 @@ module _ {A X : Type 0} (ws : List Word) (reader : Reader A) (view : X → A) (k
           t.reads ∙ more_goes_on ws item front k t.turns p.at (omega (arith, t.enough, x.inside, ap length t.same, a)) (key_is ∙ is)
 
       pub more_fails : (r : Place) (e : Halt) → Moves view reader q (Err e) r → Fails e whole
-      more_fails r e m = turn_fails ws reader view whole q r (p.at + 1) e _ words_are (at_is true is) step m
+      more_fails r e m = turn_fails ws reader view whole q r (p.at + 1) e _ lexemes_are (at_is true is) step m
 
       pub more_next : (r : Place) (y : X) (others : List A) → Moves view reader q (Ok y) r → others ≡ front ++ view y ∷ [] → MoreTurn others r
       more_next r y others m e =
           let a : q.at ≡ p.at + 1 = at_is true is in
-          let g = turn_gives ws reader view whole q r (p.at + 1) y _ words_are a step m in
+          let g = turn_gives ws reader view whole q r (p.at + 1) y _ lexemes_are a step m in
           record {
             turns = t.turns - 1;
             enough = omega (arith, t.enough, m.within.1, a);
             reads = g ∙ ap (λ z. Front z (more_of ws k item (t.turns - 1) r.at)) (sym e);
-            same = m.same ∙ words_are;
+            same = m.same ∙ lexemes_are;
             onward = omega (arith, t.onward, m.within.1, a);
           }
 
@@ -84,7 +84,7 @@ module _ {A X : Type 0} (ws : List Word) (reader : Reader A) (view : X → A) (k
         let a : q.at ≡ p.at = at_is false is in
         record {
           gives = t.reads ∙ more_ends ws item front k t.turns p.at (omega (arith, t.enough, x.inside, ap length t.same, a)) (key_is ∙ is) ∙ ap (λ i. Ok (front, i)) (sym a);
-          same = words_are;
+          same = lexemes_are;
           within = (omega (arith, x.inside, ap length t.same), omega (arith, t.onward, a));
         }
 
@@ -94,7 +94,7 @@ module _ {A X : Type 0} (ws : List Word) (reader : Reader A) (view : X → A) (k
   UntilTurn = Turn ws (λ j i. until ws k item j i) whole from
 
   -- b: whether the key stands there
-  module _ (front : List A) (p : Place) (b : Bool) (t : UntilTurn front p) (value : b ≡ at_key k (slice_get p.words p.at)) (inside : p.at ≤ length p.words) where
+  module _ (front : List A) (p : Place) (b : Bool) (t : UntilTurn front p) (value : b ≡ at_key k (slice_get p.lexemes p.at)) (inside : p.at ≤ length p.lexemes) where
     key_was : at_key k (slice_get ws p.at) ≡ b
     key_was = ap (λ v. at_key k (slice_get v p.at)) (sym t.same) ∙ sym value
 

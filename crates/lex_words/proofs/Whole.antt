@@ -1,6 +1,6 @@
--- All words of a list: what is read of them, and what a fault says, for any reader with the three laws.
+-- All lexemes of a list: what is read of them, and what a fault says, for any reader with the three laws.
 --
--- A tree that began with the words up to a dead one would be read (`complete`), where the reading of these words says
+-- A tree that began with the lexemes up to a dead one would be read (`complete`), where the reading of these lexemes says
 -- fault, whatever stands behind them (`follows`); what is read is spelled (`sound`).
 use Rattle.std.proofs.Common.{◌≡◌, ℕ, zero, suc, ◌+◌, ◌≤◌, ◌<◌, Bool, true, false, cond, List, [], ◌∷◌, ◌++◌, length, take, drop, Some, Result, Ok, Err, refl, sym, ap, subst, ◌∙◌, arith, ◌⊎◌, inl, inr, append_assoc}
 use Rattle.std.proofs.lemmas.List.{append-nil, length-append, take_at, length-take, take-append-drop}
@@ -8,7 +8,7 @@ use Rattle.std.proofs.lemmas.Bool.{cases_lt}
 use Rattle.std.proofs.lemmas.Bool.Decides.{nat_tests}
 use Rattle.std.proofs.lemmas.Option.{slice_get_within}
 use Rattle.std.specs.Prelude.{slice_get, nat_lt}
-use Rattle.lex_words.specs.Seen.{Word}
+use Rattle.lex_words.specs.Seen.{Lexeme}
 use Rattle.lex_words.specs.Brackets.{open_behind, left}
 use Rattle.lex_words.specs.Faults.{HasFewOpen, IsWithin, Begun, IsSyntax, HasRoom, IsTooDeep}
 use Rattle.lex_words.specs.Reading.{Fault, wrong, high, deep, Read, all_read}
@@ -19,51 +19,51 @@ use Rattle.lex_words.proofs.OpenBehind.{few_open, too_many}
 
 -- ---- fronts of a list
 
-drop-get : (ws : List Word) (p : ℕ) (w : Word) → slice_get ws p ≡ Some w → drop p ws ≡ w ∷ drop (p + 1) ws
+drop-get : (ws : List Lexeme) (p : ℕ) (w : Lexeme) → slice_get ws p ≡ Some w → drop p ws ≡ w ∷ drop (p + 1) ws
 drop-get [] p w e = absurd cc
 drop-get (x ∷ ws) zero w e = let s : x ≡ w = cc in ap (λ y. y ∷ ws) s
 drop-get (x ∷ ws) (suc p) w e = let n : suc (p + 1) ≡ suc p + 1 = omega arith in drop-get ws p w e ∙ ap (λ k. w ∷ drop k (x ∷ ws)) n
 
-Stands-drop : (ws : List Word) (p q : ℕ) (u : List Word) → Stands ws p u q → drop p ws ≡ u ++ drop q ws
+Stands-drop : (ws : List Lexeme) (p q : ℕ) (u : List Lexeme) → Stands ws p u q → drop p ws ≡ u ++ drop q ws
 Stands-drop ws p q [] s = ap (λ x. drop x ws) s
 Stands-drop ws p q (w ∷ u) s = drop-get ws p w s.0 ∙ ap (λ x. w ∷ x) (Stands-drop ws (p + 1) q u s.1)
 
-Stands-take : (ws : List Word) (q : ℕ) (u : List Word) → Stands ws 0 u q → u ≡ take q ws
+Stands-take : (ws : List Lexeme) (q : ℕ) (u : List Lexeme) → Stands ws 0 u q → u ≡ take q ws
 Stands-take ws q u s =
     let e : ws ≡ u ++ drop q ws = Stands-drop ws 0 q u s in
     let n : q ≡ length u = Stands-length ws 0 q u s ∙ omega arith in
     sym (take_at u (drop q ws) q (sym n)) ∙ ap (take q) (sym e)
 
-take-next : (ws : List Word) (q : ℕ) (w : Word) → slice_get ws q ≡ Some w → take (q + 1) ws ≡ take q ws ++ w ∷ []
+take-next : (ws : List Lexeme) (q : ℕ) (w : Lexeme) → slice_get ws q ≡ Some w → take (q + 1) ws ≡ take q ws ++ w ∷ []
 take-next [] q w e = absurd cc
 take-next (x ∷ ws) zero w e = let s : x ≡ w = cc in ap (λ y. y ∷ []) s
 take-next (x ∷ ws) (suc q) w e = let n : suc q + 1 ≡ suc (q + 1) = omega arith in rw n (ap (λ y. x ∷ y) (take-next ws q w e))
 
-get-same : (f a b : List Word) (k : ℕ) → k < length f → slice_get (f ++ a) k ≡ slice_get (f ++ b) k
+get-same : (f a b : List Lexeme) (k : ℕ) → k < length f → slice_get (f ++ a) k ≡ slice_get (f ++ b) k
 get-same [] a b k lt = absurd (omega arith)
 get-same (x ∷ f) a b zero lt = refl
 get-same (x ∷ f) a b (suc k) lt = get-same f a b k (omega arith)
 
--- words that begin alike agree
-Agree-begun : (ws back : List Word) (q : ℕ) → q < length ws → (k : ℕ) → k ≤ q → slice_get ws k ≡ slice_get (take (q + 1) ws ++ back) k
+-- lexemes that begin alike agree
+Agree-begun : (ws back : List Lexeme) (q : ℕ) → q < length ws → (k : ℕ) → k ≤ q → slice_get ws k ≡ slice_get (take (q + 1) ws ++ back) k
 Agree-begun ws back q lt k le =
     let e : take (q + 1) ws ++ drop (q + 1) ws ≡ ws = take-append-drop (q + 1) ws in
     ap (λ x. slice_get x k) (sym e) ∙ get-same (take (q + 1) ws) (drop (q + 1) ws) back k (omega (arith, length-take (q + 1) ws))
 
-take-all : (ws : List Word) → take (length ws) ws ≡ ws
+take-all : (ws : List Lexeme) → take (length ws) ws ≡ ws
 take-all ws = let e = take_at ws [] (length ws) refl in subst (λ x. take (length ws) x ≡ ws) (append-nil ws) e
 
 -- where a fault stands
-pub syntax_within : {T : Type 0} (Spells : T → List Word → Type 0) (ws : List Word) (q : ℕ) → IsSyntax Spells ws q → q ≤ length ws
+pub syntax_within : {T : Type 0} (Spells : T → List Lexeme → Type 0) (ws : List Lexeme) (q : ℕ) → IsSyntax Spells ws q → q ≤ length ws
 syntax_within Spells ws q s = elim s.dead [ inl a ↦ omega (arith, a.0) | inr a ↦ omega (arith, a.0) ]
 
 -- ---- readings
 
--- The reader of a grammar gets the words, how many turns each loop may make, how many brackets may be open, and one less than how high the tree may be.
-module _ {T : Type 0} (Spells : T → List Word → Type 0) (height : T → ℕ) (reader : List Word → (n b h : ℕ) → Read T)
-    (follows : (ws vs : List Word) (Hs Bs : Type 0) (n m : ℕ) → n ≤ m → (h i : ℕ) → h ≤ i → (Hs → h ≡ i) → (b c : ℕ) → b ≤ c → (Bs → b ≡ c) → Follows ws vs Hs Bs 0 (reader ws n b h) (reader vs m c i))
-    (complete : (ws : List Word) (t : T) → Spells t ws → (n h b : ℕ) → length ws < n → height t ≤ h + 1 → left b ws ≡ Some b → reader ws n b h ≡ Ok (t, length ws))
-    (even : (ws : List Word) (t : T) → Spells t ws → (b : ℕ) → length ws < b → left b ws ≡ Some b) where
+-- The reader of a grammar gets the lexemes, how many turns each loop may make, how many brackets may be open, and one less than how high the tree may be.
+module _ {T : Type 0} (Spells : T → List Lexeme → Type 0) (height : T → ℕ) (reader : List Lexeme → (n b h : ℕ) → Read T)
+    (follows : (ws vs : List Lexeme) (Hs Bs : Type 0) (n m : ℕ) → n ≤ m → (h i : ℕ) → h ≤ i → (Hs → h ≡ i) → (b c : ℕ) → b ≤ c → (Bs → b ≡ c) → Follows ws vs Hs Bs 0 (reader ws n b h) (reader vs m c i))
+    (complete : (ws : List Lexeme) (t : T) → Spells t ws → (n h b : ℕ) → length ws < n → height t ≤ h + 1 → left b ws ≡ Some b → reader ws n b h ≡ Ok (t, length ws))
+    (even : (ws : List Lexeme) (t : T) → Spells t ws → (b : ℕ) → length ws < b → left b ws ≡ Some b) where
   abbrev ok : T → ℕ → Read T
   ok t q = Ok (t, q)
 
@@ -78,8 +78,8 @@ module _ {T : Type 0} (Spells : T → List Word → Type 0) (height : T → ℕ)
   tree_in d (Ok x) = x.0
   tree_in d (Err f) = d
 
-  -- words spell one tree at most
-  pub unique : (ws : List Word) (s t : T) → Spells s ws → Spells t ws → s ≡ t
+  -- lexemes spell one tree at most
+  pub unique : (ws : List Lexeme) (s t : T) → Spells s ws → Spells t ws → s ≡ t
   unique u s t x y =
       let h : ℕ = height s + height t in
       let a = complete u s x (length u + 1) h (length u + 1) (omega arith) (omega arith) (even u s x (length u + 1) (omega arith)) in
@@ -88,7 +88,7 @@ module _ {T : Type 0} (Spells : T → List Word → Type 0) (height : T → ℕ)
       ap (tree_in s) c
 
   -- low: one less than the limit. least: a tree within it
-  module _ (low : ℕ) (sound : (ws : List Word) (n : ℕ) → Reads ws Spells (λ t. height t ≤ low + 1) (low + 1) (low + 1) 0 (reader ws n (low + 1) low)) (least : Ends Spells (λ t. height t ≤ low + 1) []) (ws : List Word) where
+  module _ (low : ℕ) (sound : (ws : List Lexeme) (n : ℕ) → Reads ws Spells (λ t. height t ≤ low + 1) (low + 1) (low + 1) 0 (reader ws n (low + 1) low)) (least : Ends Spells (λ t. height t ≤ low + 1) []) (ws : List Lexeme) where
     abbrev limit : ℕ
     limit = low + 1
 
@@ -96,10 +96,10 @@ module _ {T : Type 0} (Spells : T → List Word → Type 0) (height : T → ℕ)
     abbrev reads : Read T
     reads = reader ws (length ws + 1) limit low
 
-    -- ---- the same result from words that begin alike, with more room
+    -- ---- the same result from lexemes that begin alike, with more room
 
     module _ (q : ℕ) (lt : q < length ws) (t : T) (x : Begun Spells (take (q + 1) ws) t) where
-      abbrev other : List Word
+      abbrev other : List Lexeme
       other = take (q + 1) ws ++ x.back
 
       abbrev turns : ℕ
@@ -149,12 +149,12 @@ module _ {T : Type 0} (Spells : T → List Word → Type 0) (height : T → ℕ)
     told : (r : Read T) → reads ≡ r → Told_of r
     told r e = subst Told_of e (sound ws (length ws + 1)).sound
 
-    -- the words that were read
+    -- the lexemes that were read
     ends_at : (t : T) (q : ℕ) → reads ≡ ok t q → (q ≤ length ws) × Spells t (take q ws) × (height t ≤ limit) × (left limit (take q ws) ≡ Some limit)
     ends_at t q e =
         let s = told (ok t q) e in
-        let same : s.words ≡ take q ws = Stands-take ws q s.words s.stands in
-        (Stands-within ws 0 q s.words (omega arith) s.stands, subst (λ x. Spells t x) same s.spells, s.bound, subst (λ x. left limit x ≡ Some limit) same s.leaves)
+        let same : s.lexemes ≡ take q ws = Stands-take ws q s.lexemes s.stands in
+        (Stands-within ws 0 q s.lexemes (omega arith) s.stands, subst (λ x. Spells t x) same s.spells, s.bound, subst (λ x. left limit x ≡ Some limit) same s.leaves)
 
     -- no tree at all
     no_tree : (q : ℕ) → reads ≡ err (wrong q) → (t : T) → Spells t ws → ⊥
@@ -203,10 +203,10 @@ module _ {T : Type 0} (Spells : T → List Word → Type 0) (height : T → ℕ)
     stopped_begun q s =
         (s.value, record { back = s.back; spells = subst (λ x. Spells s.value (x ++ s.back)) (sym (stopped_at q s)) (rw (append_assoc s.front (s.last ∷ []) s.back) s.spells) })
 
-    begins_low : (front : List Word) → Ends Spells (λ t. height t ≤ limit) front → (t : T) × Begun Spells front t × (height t ≤ limit)
+    begins_low : (front : List Lexeme) → Ends Spells (λ t. height t ≤ limit) front → (t : T) × Begun Spells front t × (height t ≤ limit)
     begins_low front e = (e.0, record { back = e.1; spells = e.2 }, e.3)
 
-    stopped_low : (front : List Word) → (front ≡ []) ⊎ Ends Spells (λ t. height t ≤ limit) front → (t : T) × Begun Spells front t × (height t ≤ limit)
+    stopped_low : (front : List Lexeme) → (front ≡ []) ⊎ Ends Spells (λ t. height t ≤ limit) front → (t : T) × Begun Spells front t × (height t ≤ limit)
     stopped_low front (inl e) = subst (λ f. (t : T) × Begun Spells f t × (height t ≤ limit)) (sym e) (begins_low [] least)
     stopped_low front (inr e) = begins_low front e
 
@@ -236,7 +236,7 @@ module _ {T : Type 0} (Spells : T → List Word → Type 0) (height : T → ℕ)
           past = inr (subst (λ x. limit < open_behind x) (sym (stopped_at q s.stops)) (too_many limit s.stops.room s.stops.front s.stops.last s.stops.leaves s.over));
         }
 
-    -- ---- all words
+    -- ---- all lexemes
 
     abbrev pub answer : Result T Fault
     answer = all_read ws reads

@@ -1,6 +1,6 @@
 -- Reading operands that are joined, by levels: 1 for the tightest. What is of one level groups to the left. A language's table says what a key joins, and on which level.
 use Rattle.std.specs.Prelude.{ℕ, zero, suc, ◌+◌, ◌==◌, nat_le, List, Option, Some, None, Ok, Err, if◌then◌else◌, slice_get}
-use Rattle.lex_words.specs.Seen.{Word, key_in}
+use Rattle.lex_words.specs.Seen.{Lexeme, key_in}
 use Rattle.lex_words.specs.Reading.{high, spent, Read, ◌>>=◌}
 use Rattle.lex_words.specs.declared.key.Key.{Key}
 
@@ -19,7 +19,7 @@ turn height h a i None go = Ok (a, i)
 turn height h a i (Some x) go = if nat_le h (height a) then Err (high i) else go x
 
 -- height: of a tree. right: what is read behind what joins, with the left side, which begins at p; l: the level of right sides.
-module _ {T J : Type 0} (table : Key → Option (ℕ × J)) (height : T → ℕ) (right : (l p : ℕ) → T → J → ℕ → Read T) (ws : List Word) where
+module _ {T J : Type 0} (table : Key → Option (ℕ × J)) (height : T → ℕ) (right : (l p : ℕ) → T → J → ℕ → Read T) (ws : List Lexeme) where
   -- what is joined on level l + 1 behind the left side a, which begins at p, in at most k turns; the whole may be h high
   unfoldable pub chain : (h l p k : ℕ) → T → ℕ → Read T
   chain h l p zero a i = Err spent

@@ -1,4 +1,4 @@
--- What readers and printers rest on: reserved words and marks, tokens as words, and words as texts.
+-- What readers and printers rest on: reserved words and marks, tokens as lexemes, and lexemes as texts.
 pub mod Keys
 pub mod Seen
 pub mod Written

@@ -1,13 +1,13 @@
--- Reading words from left to right, with one word of choice: what a reader gives, and its steps. A reader is a function of the list of words and a place in it.
+-- Reading lexemes from left to right, with one lexeme of choice: what a reader gives, and its steps. A reader is a function of the list of lexemes and a place in it.
 use Rattle.std.specs.Prelude.{◌≡◌, ℕ, zero, suc, ◌+◌, List, [], ◌∷◌, length, Option, Some, None, Result, Ok, Err, if◌then◌else◌, slice_get, nat_lt}
 use Rattle.lex_text.specs.declared.literal.Literal.{Literal}
-use Rattle.lex_words.specs.Seen.{Word, name_in, number_in, at_key, at_name}
+use Rattle.lex_words.specs.Seen.{Lexeme, name_in, number_in, at_key, at_name}
 use Rattle.lex_words.specs.declared.halt.Halt.{Halt}
 use Rattle.lex_words.specs.declared.halt.Halt.TheVariants as halt
 use Rattle.lex_words.specs.declared.key.Key.{Key}
 use Rattle.lex_words.specs.declared.key.Key.TheVariants.{Open}
 
--- where reading stopped, and why: no tree goes on with this word; each one that does is too high; too many brackets are open; or the given number of turns was too small
+-- where reading stopped, and why: no tree goes on with this lexeme; each one that does is too high; too many brackets are open; or the given number of turns was too small
 pub data Fault : Type 0 where
   wrong : (place : ℕ) → Fault
   high : (place : ℕ) → Fault
@@ -49,9 +49,9 @@ numbered i (Some v) = Ok (v, i + 1)
 unfoldable pub room_at : (m h i : ℕ) → Read ℕ
 room_at m h i = if nat_lt h m then Err (high i) else Ok (m, i)
 
-module _ (ws : List Word) where
-  -- a choice by the word at i
-  unfoldable pub look : {A : Type 0} → ℕ → (Option Word → Read A) → Read A
+module _ (ws : List Lexeme) where
+  -- a choice by the lexeme at i
+  unfoldable pub look : {A : Type 0} → ℕ → (Option Lexeme → Read A) → Read A
   look i f = f (slice_get ws i)
 
   -- goes on behind a key, or without it
@@ -76,12 +76,12 @@ module _ (ws : List Word) where
   until k item zero i = Err spent
   until k item (suc n) i = look i (λ o. if at_key k o then Ok ([], i) else (item i >>= λ x. until k item n x.1 >>= λ y. Ok (x.0 ∷ y.0, y.1)))
 
-  -- what is read, where it has to be all words
+  -- what is read, where it has to be all lexemes
   unfoldable pub all_read : {A : Type 0} → Read A → Result A Fault
   all_read r = r >>= λ x. (if nat_lt x.1 (length ws) then Err (wrong x.1) else Ok x.0)
 
--- The words, and how many turns each loop may make, which these steps have no use for.
-module _ (ws : List Word) (n : ℕ) where
+-- The lexemes, and how many turns each loop may make, which these steps have no use for.
+module _ (ws : List Lexeme) (n : ℕ) where
   unfoldable pub named_at : ℕ → Read (List ℕ)
   named_at i = named i (name_in (slice_get ws i))
 

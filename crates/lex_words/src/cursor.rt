@@ -5,8 +5,8 @@ ghost use Rattle.lex_text.specs.Places.{AreIn};
 ghost use Rattle.lex_words.specs.Moving.{Eats, Moves};
 ghost use Rattle.lex_words.specs.Placed.{most};
 ghost use Rattle.lex_words.specs.Reading.{Gives, expect_at, named_at, numbered_at, open_at, this_name_at, room_at};
-ghost use Rattle.lex_words.specs.Seen.{words_of, at_key, key_in, name_in, number_in};
-ghost use Rattle.lex_words.specs.Written.{AreWords};
+ghost use Rattle.lex_words.specs.Seen.{lexemes_of, at_key, key_in, name_in, number_in};
+ghost use Rattle.lex_words.specs.Written.{AreLexemes};
 ghost use Rattle.lex_words.specs.declared.key.Key.TheVariants.{Open};
 
 use crate::halt::Halt;
@@ -16,7 +16,7 @@ use lex_text::{Literal, Name, Token, Words};
 use std::alloc::Global;
 use std::marker::Model;
 
-/// The tokens of a text, and the place of the next. Contracts see their words and that place.
+/// The tokens of a text, and the place of the next. Contracts see their lexemes and that place.
 #[derive(Drop)]
 pub struct Cursor<'a> {
     language: Words,
@@ -41,9 +41,9 @@ impl<'a> Cursor<'a> {
     /// The front of the tokens of a text in a language.
     pub fn new(language: Words, text: &'a [u8], list: &'a [Token]) -> Cursor<'a>
         requires fits { AreIn text.now list.now }
-        requires fair { AreWords language (words_of language text.now list.now) }
+        requires fair { AreLexemes language (lexemes_of language text.now list.now) }
         requires short { length list.now ≤ most language }
-        ensures words { result.words ≡ words_of language text.now list.now }
+        ensures lexemes { result.lexemes ≡ lexemes_of language text.now list.now }
         ensures at { result.at ≡ 0 }
     {
         Cursor {
@@ -57,8 +57,8 @@ impl<'a> Cursor<'a> {
     /// The number of the next token.
     pub fn at(&self) -> u32
         ensures value { result ≡ self.now.at }
-        ensures inside { result ≤ length self.now.words }
-        ensures few { length self.now.words ≤ 16777216 }
+        ensures inside { result ≤ length self.now.lexemes }
+        ensures few { length self.now.lexemes ≤ 16777216 }
     {
         let _ = &self.list;
         self.at as u32
@@ -66,40 +66,40 @@ impl<'a> Cursor<'a> {
 
     /// Whether all tokens are passed.
     pub fn is_end(&self) -> bool
-        ensures more { result ≡ false → self.now.at < length self.now.words }
-        ensures end { result ≡ true → self.now.at ≡ length self.now.words }
+        ensures more { result ≡ false → self.now.at < length self.now.lexemes }
+        ensures end { result ≡ true → self.now.at ≡ length self.now.lexemes }
     {
         self.list.len() <= self.at
     }
 
     /// The reserved word or mark that is next.
     pub fn key(&self) -> Option<Key>
-        ensures value { result ≡ key_in (slice_get self.now.words self.now.at) }
-        ensures some { OnSome result (self.now.at < length self.now.words) }
-        ensures inside { self.now.at ≤ length self.now.words }
+        ensures value { result ≡ key_in (slice_get self.now.lexemes self.now.at) }
+        ensures some { OnSome result (self.now.at < length self.now.lexemes) }
+        ensures inside { self.now.at ≤ length self.now.lexemes }
     {
         key_at(self.language, self.text, self.list, self.at)
     }
 
     /// Whether this reserved word or mark is next.
     pub fn is(&self, key: Key) -> bool
-        ensures value { result ≡ at_key key (slice_get self.now.words self.now.at) }
-        ensures some { result ≡ true → self.now.at < length self.now.words }
-        ensures inside { self.now.at ≤ length self.now.words }
+        ensures value { result ≡ at_key key (slice_get self.now.lexemes self.now.at) }
+        ensures some { result ≡ true → self.now.at < length self.now.lexemes }
+        ensures inside { self.now.at ≤ length self.now.lexemes }
     {
         is_key(self.language, self.text, self.list, self.at, key)
     }
 
     /// Whether this reserved word or mark stands behind the next token.
     pub fn is_second(&self, key: Key) -> bool
-        ensures { result ≡ at_key key (slice_get self.now.words (self.now.at + 1)) }
+        ensures { result ≡ at_key key (slice_get self.now.lexemes (self.now.at + 1)) }
     {
         is_key(self.language, self.text, self.list, self.at + 1, key)
     }
 
     /// Whether a name is next.
     pub fn has_name(&self) -> bool
-        ensures { result ≡ is_some (name_in (slice_get self.now.words self.now.at)) }
+        ensures { result ≡ is_some (name_in (slice_get self.now.lexemes self.now.at)) }
     {
         match name_at(self.language, self.text, self.list, self.at) {
             Some(_) => true,
@@ -109,7 +109,7 @@ impl<'a> Cursor<'a> {
 
     /// Whether a number is next.
     pub fn has_number(&self) -> bool
-        ensures { result ≡ is_some (number_in (slice_get self.now.words self.now.at)) }
+        ensures { result ≡ is_some (number_in (slice_get self.now.lexemes self.now.at)) }
     {
         match number_at(self.list, self.at) {
             Some(_) => true,
@@ -119,9 +119,9 @@ impl<'a> Cursor<'a> {
 
     /// Passes over the next token.
     pub fn skip(&mut self)
-        requires { self.old.at < length self.old.words }
+        requires { self.old.at < length self.old.lexemes }
         ensures at { self.new.at ≡ self.old.at + 1 }
-        ensures same { self.new.words ≡ self.old.words }
+        ensures same { self.new.lexemes ≡ self.old.lexemes }
     {
         self.at += 1;
     }

@@ -4,7 +4,7 @@ ghost use Rattle.std.specs.Prelude.{◌≡◌, ◌≤◌, ◌<◌, length, slice
 ghost use Rattle.std.specs.Option.{option_copied};
 ghost use Rattle.lex_text.specs.Places.{AreIn, bytes_of};
 ghost use Rattle.lex_words.specs.Keys.{reserved_key};
-ghost use Rattle.lex_words.specs.Seen.{word_of, words_of, name_or, key_in, name_in, number_of, is_quoted, is_include, at_key, at_name};
+ghost use Rattle.lex_words.specs.Seen.{lexeme_of, lexemes_of, name_or, key_in, name_in, number_of, is_quoted, is_include, at_key, at_name};
 
 use crate::key::{Key, mark, reserved};
 use lex_text::{Literal, Token, TokenKind, Words};
@@ -21,7 +21,7 @@ fn token_bytes<'a>(text: &'a [u8], token: &Token) -> &'a [u8]
 /// The reserved word or mark at a place.
 pub fn key_at(words: Words, text: &[u8], list: &[Token], at: usize) -> Option<Key>
     requires { AreIn text.now list.now }
-    ensures value { result ≡ key_in (slice_get (words_of words text.now list.now) at) }
+    ensures value { result ≡ key_in (slice_get (lexemes_of words text.now list.now) at) }
     ensures inside { OnSome result (at < length list.now) }
 {
     let token = list.get(at)?;
@@ -35,7 +35,7 @@ pub fn key_at(words: Words, text: &[u8], list: &[Token], at: usize) -> Option<Ke
 /// Whether this reserved word or mark stands at a place.
 pub fn is_key(words: Words, text: &[u8], list: &[Token], at: usize, key: Key) -> bool
     requires { AreIn text.now list.now }
-    ensures value { result ≡ at_key key (slice_get (words_of words text.now list.now) at) }
+    ensures value { result ≡ at_key key (slice_get (lexemes_of words text.now list.now) at) }
     ensures inside { result ≡ true → at < length list.now }
 {
     match key_at(words, text, list, at) {
@@ -58,7 +58,7 @@ fn unreserved(words: Words, bytes: &[u8]) -> Option<&[u8]>
 fn name_of<'a>(words: Words, text: &'a [u8], token: &Token) -> Option<&'a [u8]>
     requires rising { token.now.start ≤ token.now.end }
     requires inside { token.now.end ≤ length text.now }
-    ensures { option_copied result ≡ name_in (Some (word_of words text.now token.now)) }
+    ensures { option_copied result ≡ name_in (Some (lexeme_of words text.now token.now)) }
 {
     match token.kind {
         TokenKind::Name => unreserved(words, token_bytes(text, token)),
@@ -72,7 +72,7 @@ fn name_of<'a>(words: Words, text: &'a [u8], token: &Token) -> Option<&'a [u8]>
 /// The name at a place, if it is not reserved.
 pub fn name_at<'a>(words: Words, text: &'a [u8], list: &[Token], at: usize) -> Option<&'a [u8]>
     requires { AreIn text.now list.now }
-    ensures { option_copied result ≡ name_in (slice_get (words_of words text.now list.now) at) }
+    ensures { option_copied result ≡ name_in (slice_get (lexemes_of words text.now list.now) at) }
 {
     match list.get(at) {
         None => None,
@@ -83,7 +83,7 @@ pub fn name_at<'a>(words: Words, text: &'a [u8], list: &[Token], at: usize) -> O
 /// Whether this name stands at a place, and is not reserved.
 pub fn is_named(words: Words, text: &[u8], list: &[Token], at: usize, name: &[u8]) -> bool
     requires { AreIn text.now list.now }
-    ensures { result ≡ at_name name.now (slice_get (words_of words text.now list.now) at) }
+    ensures { result ≡ at_name name.now (slice_get (lexemes_of words text.now list.now) at) }
 {
     match name_at(words, text, list, at) {
         None => false,

@@ -66,21 +66,21 @@ decreases-chain::right l = (l.height + l.brackets) * 50 + 40
 
 abbrev pub invariant-chain::chain-turns : goal.invariant-chain::chain-turns
 invariant-chain::chain-turns l =
-    let ws = l.initial.tokens.words in
+    let ws = l.initial.tokens.lexemes in
     let n = length ws + 1 in
     record {
       goes_on : (k : ℕ) × (n ≤ k + l.tokens.at) × (Chain ws n l.height l.brackets l.level l.start n (expr_of l.fn.first.tree) l.initial.tokens.at ≡ Chain ws n l.height l.brackets l.level l.start k (expr_of l.left.tree) l.tokens.at);
-      same : l.tokens.words ≡ ws;
+      same : l.tokens.lexemes ≡ ws;
       onward : l.initial.tokens.at ≤ l.tokens.at;
       is_low : IsLow l.height l.left;
     }
 
 abbrev pub decreases-chain::chain-turns : goal.decreases-chain::chain-turns
-decreases-chain::chain-turns l = length l.initial.tokens.words + 1 - l.tokens.at
+decreases-chain::chain-turns l = length l.initial.tokens.lexemes + 1 - l.tokens.at
 
 abbrev pub invariant-chain::others-items : goal.invariant-chain::others-items
 invariant-chain::others-items l =
-    let ws = l.initial.tokens.words in
+    let ws = l.initial.tokens.lexemes in
     let n = length ws + 1 in
     record {
       turn : MoreTurn ws (item_at l.height l.brackets) tree_of Comma (rest_of ws n (expr_at ws n l.height l.brackets) (expr_of l.fn.first.tree) l.initial.tokens.at) l.initial.tokens.at (map expr_of l.trees.items) l.tokens;
@@ -89,4 +89,4 @@ invariant-chain::others-items l =
     }
 
 abbrev pub decreases-chain::others-items : goal.decreases-chain::others-items
-decreases-chain::others-items l = length l.initial.tokens.words + 1 - l.tokens.at
+decreases-chain::others-items l = length l.initial.tokens.lexemes + 1 - l.tokens.at

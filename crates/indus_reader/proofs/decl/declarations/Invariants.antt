@@ -5,13 +5,13 @@ use Rattle.indus_reader.proofs.decl.declarations.Given as goal
 
 abbrev pub invariant-items : goal.invariant-items
 invariant-items l =
-    let ws = l.initial.tokens.words in
+    let ws = l.initial.tokens.lexemes in
     let n = length ws + 1 in
     record {
       goes_on : (k : ℕ) × (n ≤ k + l.tokens.at) × (decls_at ws n n [] l.initial.tokens.at ≡ decls_at ws n k (map decl_of l.decls.items) l.tokens.at);
-      same : l.tokens.words ≡ ws;
+      same : l.tokens.lexemes ≡ ws;
       onward : l.initial.tokens.at ≤ l.tokens.at;
     }
 
 abbrev pub decreases-items : goal.decreases-items
-decreases-items l = length l.initial.tokens.words + 1 - l.tokens.at
+decreases-items l = length l.initial.tokens.lexemes + 1 - l.tokens.at

@@ -7,8 +7,8 @@ use Rattle.indus_reader.proofs.simple.more_names.Given as goal
 
 abbrev pub invariant-items : goal.invariant-items
 invariant-items l =
-    let ws = l.initial.tokens.words in
+    let ws = l.initial.tokens.lexemes in
     MoreTurn ws named_at (λ x. x) Comma (more_names_at ws (length ws + 1) 256 l.fn.names.items l.initial.tokens.at) l.initial.tokens.at l.names.items l.tokens
 
 abbrev pub decreases-items : goal.decreases-items
-decreases-items l = length l.initial.tokens.words + 1 - l.tokens.at
+decreases-items l = length l.initial.tokens.lexemes + 1 - l.tokens.at

@@ -15,7 +15,7 @@ use Rattle.indus_reader.proofs.stmt.+stmt.Goals as goal
 
 pub statements-items-init : goal.statements-items-init
 statements-items-init t c =
-    let ws = c.args.tokens.now.words in
+    let ws = c.args.tokens.now.lexemes in
     let n = length ws + 1 in
     let m = many_at ws n 256 (stmt_at ws n 256 c.args.height) n c.args.reports c.args.tokens.now.at in
     let e : map stmt_of c.new-stmts.result.items ≡ [] = search rules in
@@ -27,7 +27,7 @@ statements-items-init t c =
 
 pub statements-returns-in_err-one-clause-reads : goal.statements-returns-in_err-one-clause-reads
 statements-returns-in_err-one-clause-reads t c =
-    let ws = c.args.tokens.now.words in
+    let ws = c.args.tokens.now.lexemes in
     let n = length ws + 1 in
     let l = c.items.invariant.turn in
     let i = c.items.tokens.at in
@@ -44,7 +44,7 @@ statements-returns-in_err-one-clause-reads t c =
 
 pub statements-items-preserved : goal.statements-items-preserved
 statements-items-preserved t c =
-    let ws = c.args.tokens.now.words in
+    let ws = c.args.tokens.now.lexemes in
     let n = length ws + 1 in
     let l = c.items.invariant.turn in
     let i = c.items.tokens.at in
@@ -72,7 +72,7 @@ statements-items-preserved t c =
 
 pub statements-returns-clause-reads : goal.statements-returns-clause-reads
 statements-returns-clause-reads t c =
-    let ws = c.args.tokens.now.words in
+    let ws = c.args.tokens.now.lexemes in
     let n = length ws + 1 in
     let l = c.items.invariant.turn in
     let i = c.items.tokens.at in

@@ -29,7 +29,7 @@ decreases-choice l = l.height * 10 + 5
 
 abbrev pub invariant-statements-items : goal.invariant-statements-items
 invariant-statements-items l =
-    let ws = l.initial.tokens.words in
+    let ws = l.initial.tokens.lexemes in
     let n = length ws + 1 in
     let s = stmt_at ws n 256 l.height in
     record {
@@ -39,4 +39,4 @@ invariant-statements-items l =
     }
 
 abbrev pub decreases-statements-items : goal.decreases-statements-items
-decreases-statements-items l = length l.initial.tokens.words + 1 - l.tokens.at
+decreases-statements-items l = length l.initial.tokens.lexemes + 1 - l.tokens.at

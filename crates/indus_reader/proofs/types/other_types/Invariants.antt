@@ -6,8 +6,8 @@ use Rattle.indus_reader.proofs.types.other_types.Given as goal
 
 abbrev pub invariant-items : goal.invariant-items
 invariant-items l =
-    let ws = l.initial.tokens.words in
+    let ws = l.initial.tokens.lexemes in
     MoreTurn ws type_at (λ x. x) Comma (others_at ws (length ws + 1) l.fn.types.items l.initial.tokens.at) l.initial.tokens.at l.types.items l.tokens
 
 abbrev pub decreases-items : goal.decreases-items
-decreases-items l = length l.initial.tokens.words + 1 - l.tokens.at
+decreases-items l = length l.initial.tokens.lexemes + 1 - l.tokens.at
