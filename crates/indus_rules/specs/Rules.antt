@@ -268,13 +268,13 @@ stmt_place (report p n es) = p
 abbrev pub place_of : Site → ℕ
 place_of (at_expr s w e) = expr_place e
 place_of (at_stmt s c) = stmt_place c
-place_of (at_decl b d) = d.place
+place_of (at_decl b d) = d.at
 
 abbrev pub all_rules : List Rule
 all_rules = NameTwice ∷ NoSuchName ∷ WidthDiffers ∷ KindDiffers ∷ NotWritable ∷ WrongBlock ∷ LoopListChanged ∷ BadSize ∷ []
 
 -- a rule is broken at a place of a property
-abbrev pub Breaks : Rule → (place : ℕ) → Property → Type 0
+abbrev pub Breaks : Rule → (at : ℕ) → Property → Type 0
 Breaks r p property = BreaksAt Rule Site place_of broken r p (property_sites property)
 
 -- no rule is broken anywhere

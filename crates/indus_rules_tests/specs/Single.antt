@@ -7,11 +7,11 @@ use Rattle.indus_rules.specs.Rules.{first}
 use Rattle.indus_rules.specs.declared.rule.Rule.{Rule}
 
 abbrev pub declared : DeclKind → Shape → Decl
-declared k s = record { place = 7; kind = k; name = codes "x"; shape = s; start = None; path = []; valid = false }
+declared k s = record { at = 7; kind = k; name = codes "x"; shape = s; start = None; path = []; valid = false }
 
 -- with an initial value
 abbrev pub started : DeclKind → Shape → Expr → Decl
-started k s e = record { place = 7; kind = k; name = codes "x"; shape = s; start = Some e; path = []; valid = false }
+started k s e = record { at = 7; kind = k; name = codes "x"; shape = s; start = Some e; path = []; valid = false }
 
 abbrev pub first_of : Decl → Option (ℕ × Rule)
 first_of d = first (decl_sites [] (d ∷ []))

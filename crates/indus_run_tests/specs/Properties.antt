@@ -23,14 +23,14 @@ abbrev pub sum : Expr → Expr → Expr
 sum a b = binary 0 op.Add a b
 
 abbrev pub variable : DeclKind → List ℕ → Shape → Decl
-variable k x s = record { place = 0; kind = k; name = x; shape = s; start = None; path = []; valid = false }
+variable k x s = record { at = 0; kind = k; name = x; shape = s; start = None; path = []; valid = false }
 
 abbrev pub sensor : List ℕ → Shape → (start : ℕ) → Decl
-sensor x s v = record { place = 0; kind = Sensor; name = x; shape = s; start = Some (number v); path = []; valid = false }
+sensor x s v = record { at = 0; kind = Sensor; name = x; shape = s; start = Some (number v); path = []; valid = false }
 
 abbrev pub property : List Decl → (init tele check : List Stmt) → Property
 property ds init tele check =
-    record { place = 0; edition = 1; decls = ds; init = block_from init; tele = block_from tele; check = block_from check }
+    record { at = 0; edition = 1; decls = ds; init = block_from init; tele = block_from tele; check = block_from check }
 
 -- `x = x + e;`
 abbrev pub adds : List ℕ → Expr → Stmt
@@ -148,4 +148,4 @@ in_order =
 
 -- the same property, whose first sum stands at the tokens 9 and 11
 abbrev pub in_order_placed : Property
-in_order_placed = record in_order { place = 0; init = block_from (assign 7 (codes "n") (binary 9 op.Add (read 9 (codes "n")) (num 11 (record { width = 0; value = 1 }))) ∷ []) }
+in_order_placed = record in_order { at = 0; init = block_from (assign 7 (codes "n") (binary 9 op.Add (read 9 (codes "n")) (num 11 (record { width = 0; value = 1 }))) ∷ []) }

@@ -145,7 +145,7 @@ start_rises : {p : ℕ} {e : Option Expr} {u : List Lexeme} → SpellsStart p e 
 start_rises no_start = omega arith
 start_rises {p = p} (a_start {e = e} {u = u} s) = wider e (p + 1) (p + 1 + length u) p (p + length (key k.Assign ∷ u)) (omega arith) (omega arith) (value_rises s)
 
-decl_rises : {p : ℕ} {t : Decl} {u : List Lexeme} → SpellsDecl p t u → (p ≤ t.place) × StartRises (t.place + 1) (p + length u) t.start
+decl_rises : {p : ℕ} {t : Decl} {u : List Lexeme} → SpellsDecl p t u → (p ≤ t.at) × StartRises (t.at + 1) (p + length u) t.start
 decl_rises {p = p} (a_tele x {u = u} s) = (omega arith, omega (arith, length-append u (name x ∷ key k.Semicolon ∷ [])))
 decl_rises {p = p} (a_sensor x {e = e} {u = u} {v = v} s t) = (
   omega arith,
@@ -170,7 +170,7 @@ decls_rise {p = p} (a_decl {ds = ds} {u = u} {v = v} t w) =
 pub places_rise : PlacesRise
 places_rise t ws (a_property {ds = list} {c = c} {s = s} {u = u} {v = v} {w = w} ds x y z) =
     record {
-      place = refl;
+      at = refl;
       init_from = length s;
       tele_from = length s + length u;
       check_from = length s + length u + length v;

@@ -70,7 +70,7 @@ pub data SpellsPath : List (List ℕ) → Bool → List Lexeme → Type 0 where
 
 -- a declaration that begins at lexeme p
 abbrev pub decl : (p : ℕ) → DeclKind → List ℕ → Shape → Option Expr → List (List ℕ) → Bool → Decl
-decl p k x s e path valid = record { place = p; kind = k; name = x; shape = s; start = e; path = path; valid = valid }
+decl p k x s e path valid = record { at = p; kind = k; name = x; shape = s; start = e; path = path; valid = valid }
 
 pub data SpellsDecl : (p : ℕ) → Decl → List Lexeme → Type 0 where
   a_tele : {p : ℕ} (x : List ℕ) {s : Shape} {u : List Lexeme} → SpellsSized s u → SpellsDecl p (decl p kind.Tele x s None [] false) (key k.Tele ∷ (u ++ name x ∷ key k.Semicolon ∷ []))

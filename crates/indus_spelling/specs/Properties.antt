@@ -76,7 +76,7 @@ mutual
 
 -- a property, which has no edition line
 abbrev pub property : List Decl → (init tele check : Stmts) → Property
-property ds a b c = record { place = 0; edition = 1; decls = ds; init = a; tele = b; check = c }
+property ds a b c = record { at = 0; edition = 1; decls = ds; init = a; tele = b; check = c }
 
 -- The lexemes spell the property: declarations, and three blocks.
 pub data SpellsProperty : Property → List Lexeme → Type 0 where

@@ -44,11 +44,11 @@ StartRises p q (Some e) = Rises p q e
 
 abbrev pub DeclsRise : (p q : ℕ) → List Decl → Type 0
 DeclsRise p q [] = p ≤ q
-DeclsRise p q (d ∷ ds) = (m : ℕ) × (p ≤ d.place) × StartRises (d.place + 1) m d.start × DeclsRise m q ds
+DeclsRise p q (d ∷ ds) = (m : ℕ) × (p ≤ d.at) × StartRises (d.at + 1) m d.start × DeclsRise m q ds
 
 -- a property's places rise from 0 on, and are below q
 pub record PropertyRises (q : ℕ) (t : Property) : Type 0 where
-  pub place : t.place ≡ 0
+  pub at : t.at ≡ 0
   pub init_from : ℕ
   pub tele_from : ℕ
   pub check_from : ℕ

@@ -38,11 +38,11 @@ abbrev mutual
 
 -- a declaration with all places 0
 abbrev pub plain_decl : Decl → Decl
-plain_decl d = record d { place = 0; start = option_map plain d.start }
+plain_decl d = record d { at = 0; start = option_map plain d.start }
 
 -- a property with all places 0
 abbrev pub plain_property : Property → Property
-plain_property p = record p { place = 0; decls = map plain_decl p.decls; init = plain_block p.init; tele = plain_block p.tele; check = plain_block p.check }
+plain_property p = record p { at = 0; decls = map plain_decl p.decls; init = plain_block p.init; tele = plain_block p.tele; check = plain_block p.check }
 
 -- the same property but for its places
 abbrev pub IsSameProperty : Property → Property → Type 0

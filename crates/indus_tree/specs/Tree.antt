@@ -17,16 +17,16 @@ pub data Shape : Type 0 where
 mutual
   -- an expression
   pub data Expr : Type 0 where
-    num : (place : ℕ) (literal : Literal) → Expr
-    flag : (place : ℕ) (value : Bool) → Expr
-    read : (place : ℕ) (name : List ℕ) → Expr
-    count : (place : ℕ) (name : List ℕ) → Expr
-    index : (place : ℕ) (name : List ℕ) (key : Exprs) → Expr
-    member : (place : ℕ) (key : Exprs) (name : List ℕ) → Expr
-    negation : (place : ℕ) (operand : Expr) → Expr
-    inversion : (place : ℕ) (operand : Expr) → Expr
-    binary : (place : ℕ) (op : Op) (left right : Expr) → Expr
-    cast : (place : ℕ) (width : ℕ) (operand : Expr) → Expr
+    num : (at : ℕ) (literal : Literal) → Expr
+    flag : (at : ℕ) (value : Bool) → Expr
+    read : (at : ℕ) (name : List ℕ) → Expr
+    count : (at : ℕ) (name : List ℕ) → Expr
+    index : (at : ℕ) (name : List ℕ) (key : Exprs) → Expr
+    member : (at : ℕ) (key : Exprs) (name : List ℕ) → Expr
+    negation : (at : ℕ) (operand : Expr) → Expr
+    inversion : (at : ℕ) (operand : Expr) → Expr
+    binary : (at : ℕ) (op : Op) (left right : Expr) → Expr
+    cast : (at : ℕ) (width : ℕ) (operand : Expr) → Expr
 
   -- a list of expressions
   pub data Exprs : Type 0 where
@@ -46,13 +46,13 @@ exprs_count (more e es) = exprs_count es + 1
 mutual
   -- a statement
   pub data Stmt : Type 0 where
-    assign : (place : ℕ) (name : List ℕ) (value : Expr) → Stmt
-    cell : (place : ℕ) (name : List ℕ) (index value : Expr) → Stmt
-    push : (place : ℕ) (name : List ℕ) (value : Expr) → Stmt
-    choice : (place : ℕ) (test : Expr) (where_it_holds elsewhere : Stmts) → Stmt
-    loop : (place : ℕ) (names lists : List (List ℕ)) (body : Stmts) → Stmt
-    reject : (place : ℕ) → Stmt
-    report : (place : ℕ) (number : ℕ) (values : Exprs) → Stmt
+    assign : (at : ℕ) (name : List ℕ) (value : Expr) → Stmt
+    cell : (at : ℕ) (name : List ℕ) (index value : Expr) → Stmt
+    push : (at : ℕ) (name : List ℕ) (value : Expr) → Stmt
+    choice : (at : ℕ) (test : Expr) (where_it_holds elsewhere : Stmts) → Stmt
+    loop : (at : ℕ) (names lists : List (List ℕ)) (body : Stmts) → Stmt
+    reject : (at : ℕ) → Stmt
+    report : (at : ℕ) (number : ℕ) (values : Exprs) → Stmt
 
   -- a block
   pub data Stmts : Type 0 where
@@ -66,7 +66,7 @@ block_from (s ∷ ss) = next s (block_from ss)
 
 -- a declaration
 pub record Decl : Type 0 where
-  pub place : ℕ
+  pub at : ℕ
   pub kind : DeclKind
   pub name : List ℕ
   pub shape : Shape
@@ -76,7 +76,7 @@ pub record Decl : Type 0 where
 
 -- a property
 pub record Property : Type 0 where
-  pub place : ℕ
+  pub at : ℕ
   pub edition : ℕ
   pub decls : List Decl
   pub init : Stmts

@@ -61,8 +61,8 @@ block_of ss = block_from (map stmt_of ss)
 
 -- a declaration
 abbrev pub decl_of : code_decl.Decl → Decl
-decl_of d = record { place = d.at; kind = d.kind; name = d.name; shape = shape_of d.shape; start = option_map expr_of d.start; path = d.path.items; valid = d.valid }
+decl_of d = record { at = d.at; kind = d.kind; name = d.name; shape = shape_of d.shape; start = option_map expr_of d.start; path = d.path.items; valid = d.valid }
 
 -- a property
 abbrev pub property_of : code_property.Property → Property
-property_of p = record { place = p.at; edition = p.edition; decls = map decl_of p.decls.items; init = block_of p.init.items; tele = block_of p.tele.items; check = block_of p.check.items }
+property_of p = record { at = p.at; edition = p.edition; decls = map decl_of p.decls.items; init = block_of p.init.items; tele = block_of p.tele.items; check = block_of p.check.items }

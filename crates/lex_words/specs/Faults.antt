@@ -25,14 +25,14 @@ pub record IsWithin {T : Type 0} (Spells : T → List Lexeme → Type 0) (height
 
 -- no tree goes on with the lexeme at this place; or there is none, and the lexemes spell no tree
 abbrev pub IsDead : {T : Type 0} → (T → List Lexeme → Type 0) → List Lexeme → ℕ → Type 0
-IsDead {T = T} Spells ws place =
-    ((place < length ws) × ((t : T) → Begun Spells (take (place + 1) ws) t → ⊥))
-    ⊎ ((place ≡ length ws) × ((t : T) → Spells t ws → ⊥))
+IsDead {T = T} Spells ws at =
+    ((at < length ws) × ((t : T) → Begun Spells (take (at + 1) ws) t → ⊥))
+    ⊎ ((at ≡ length ws) × ((t : T) → Spells t ws → ⊥))
 
 -- some tree begins with the lexemes before this place, and none goes on so
-pub record IsSyntax {T : Type 0} (Spells : T → List Lexeme → Type 0) (ws : List Lexeme) (place : ℕ) : Type 0 where
-  pub begun : (t : T) × Begun Spells (take place ws) t
-  pub dead : IsDead Spells ws place
+pub record IsSyntax {T : Type 0} (Spells : T → List Lexeme → Type 0) (ws : List Lexeme) (at : ℕ) : Type 0 where
+  pub begun : (t : T) × Begun Spells (take at ws) t
+  pub dead : IsDead Spells ws at
 
 -- each tree that begins with these lexemes is too high, or too many brackets are open behind them
 abbrev pub IsPast : {T : Type 0} → (T → List Lexeme → Type 0) → (T → ℕ) → ℕ → List Lexeme → Type 0
@@ -44,11 +44,11 @@ pub record HasRoom {T : Type 0} (Spells : T → List Lexeme → Type 0) (height 
   pub few : HasFewOpen limit front
 
 -- some tree begins with the lexemes up to this place, the lexemes before it are within the limits, and those up to it are not
-pub record IsTooDeep {T : Type 0} (Spells : T → List Lexeme → Type 0) (height : T → ℕ) (limit : ℕ) (ws : List Lexeme) (place : ℕ) : Type 0 where
-  pub inside : place < length ws
-  pub begun : (t : T) × Begun Spells (take (place + 1) ws) t
-  pub before : HasRoom Spells height limit (take place ws)
-  pub past : IsPast Spells height limit (take (place + 1) ws)
+pub record IsTooDeep {T : Type 0} (Spells : T → List Lexeme → Type 0) (height : T → ℕ) (limit : ℕ) (ws : List Lexeme) (at : ℕ) : Type 0 where
+  pub inside : at < length ws
+  pub begun : (t : T) × Begun Spells (take (at + 1) ws) t
+  pub before : HasRoom Spells height limit (take at ws)
+  pub past : IsPast Spells height limit (take (at + 1) ws)
 
 -- ---- texts
 

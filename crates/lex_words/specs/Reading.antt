@@ -9,9 +9,9 @@ use Rattle.lex_words.specs.declared.key.Key.TheVariants.{Open}
 
 -- where reading stopped, and why: no tree goes on with this lexeme; each one that does is too high; too many brackets are open; or the given number of turns was too small
 pub data Fault : Type 0 where
-  wrong : (place : ℕ) → Fault
-  high : (place : ℕ) → Fault
-  deep : (place : ℕ) → Fault
+  wrong : (at : ℕ) → Fault
+  high : (at : ℕ) → Fault
+  deep : (at : ℕ) → Fault
   spent : Fault
 
 -- a value and the next place

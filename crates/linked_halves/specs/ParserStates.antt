@@ -17,7 +17,7 @@ link_cases [] = last_case ∷ []
 link_cases (n ∷ ns) = link_case n ∷ link_cases ns
 
 abbrev pub first_state : (linked_ports : List ℕ) → ParserState
-first_state linked_ports = record { place = 0; name = codes "start"; body = []; next = select 0 (path 0 ingress_port ∷ []) (link_cases linked_ports) }
+first_state linked_ports = record { at = 0; name = codes "start"; body = []; next = select 0 (path 0 ingress_port ∷ []) (link_cases linked_ports) }
 
 abbrev pub taken_state : ParserState
-taken_state = record { place = 0; name = codes "hydra_taken"; body = call 0 (codes "packet" ∷ codes "extract" ∷ []) (one 0 (path 0 tele_header) ∷ []) ∷ []; next = to 0 (codes "hydra_start") }
+taken_state = record { at = 0; name = codes "hydra_taken"; body = call 0 (codes "packet" ∷ codes "extract" ∷ []) (one 0 (path 0 tele_header) ∷ []) ∷ []; next = to 0 (codes "hydra_start") }

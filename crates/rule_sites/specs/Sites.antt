@@ -20,7 +20,7 @@ at_place p (Some r) = Some (p, r)
 
 module _ (R S : Type 0) (place_of : S → ℕ) (broken : R → S → Bool) where
   -- the rule is broken at a site that stands at the place
-  abbrev pub BreaksAt : R → (place : ℕ) → Sites S → Type 0
+  abbrev pub BreaksAt : R → (at : ℕ) → Sites S → Type 0
   BreaksAt r p nowhere = ⊥
   BreaksAt r p (here s) = (place_of s ≡ p) × (broken r s ≡ true)
   BreaksAt r p (both a b) = BreaksAt r p a ⊎ BreaksAt r p b

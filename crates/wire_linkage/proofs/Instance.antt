@@ -90,7 +90,7 @@ built fields cases entry exit =
       headers = record { path = tele_header; fields = record { name = codes "hydra_mark"; width = 8 } ∷ fields } ∷ [];
       metadata = [];
       states =
-          record { place = 0; name = codes "start"; body = []; next = Rattle.p4_tree.specs.Tree.select 0 (path 0 Rattle.p4_tree.specs.Standard.ingress_port ∷ []) cases }
+          record { at = 0; name = codes "start"; body = []; next = Rattle.p4_tree.specs.Tree.select 0 (path 0 Rattle.p4_tree.specs.Standard.ingress_port ∷ []) cases }
           ∷ taken_state
           ∷ Rattle.wire_linker.specs.WireProgram.passing_state (codes "hydra_start") (codes "accept")
           ∷ [];
