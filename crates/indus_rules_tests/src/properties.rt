@@ -78,6 +78,11 @@ fn statements(rt: HostRuntime) -> Result<(), Fail> {
 const PROPERTIES: &str = "\
 tele bit<8> hops; { } { hops = hops + 1; } { if (hops == 3) { reject; } } => ok bits 16 weight 9
 tele bit<8> tenant; control dict<bit<9>, bit<8>> tenants; header bit<9> in_port = standard_metadata.ingress_port; header bit<9> out_port = standard_metadata.egress_port; { tenant = tenants[in_port]; } { } { if (tenants[out_port] != tenant) { reject; } } => ok bits 16 weight 9
+tele bit<8> tenant; control dict<bit<9>, bit<8>> tenants; header bit<9> in_port = standard_metadata.ingress_port; header bit<9> out_port = standard_metadata.egress_port; { tenant = tenants[in_port]; } { } { if (tenant == 0 || tenants[out_port] != tenant) { reject; } } => ok bits 16 weight 13
+tele bool passed; control bool waypoint; { } { if (waypoint) { passed = true; } } { if (!passed) { reject; } } => ok bits 9 weight 8
+tele bit<16>[8] path; tele bool again; { } { if (switch_id in path) { again = true; } path.push(switch_id); } { if (again) { reject; } } => ok bits 145 weight 33
+tele bit<16>[8] path; tele bool again; { } { if (switch_id in path) { again = true; } if (length(path) == 8) { again = true; } path.push(switch_id); } { if (again) { reject; } } => ok bits 145 weight 39
+header bool is_tcp = hdr.tcp.isValid(); header bit<16> port = hdr.tcp.dport; control set<bit<16>> allowed; { } { } { if (is_tcp && !(port in allowed)) { reject; } } => ok bits 8 weight 7
 tele bit<8> tenant; tele bit<9>[4] ports; tele bool seen; {} {} {} => ok bits 61 weight 0
 tele bit<9>[2] l; {} {l.push((bit<9>) switch_id);} {report(length(l), 2 in l, 1 in l);} => ok bits 34 weight 17
 sensor bit<8> s = 250; {} {s = s + 3;} {} => ok bits 8 weight 5
@@ -105,6 +110,9 @@ fn properties(rt: HostRuntime) -> Result<(), Fail> {
 const REFUSALS: &str = "\
 tele bit<8> n {} => Syntax { at: 6 }
 tele bit<8> => Syntax { at: 5 }
+tele bit<300> n; {} {} {} => Syntax { at: 3 }
+{} {} {} /* end => Lex(OpenComment { at: 9 })
+tele bit<8> n; {n = 0w1;} {} {} => Lex(NumberTooWide { at: 20 })
 tele bit<8> n; {m = 1;} {} {} => 8 NoSuchName
 tele bit<8> n; {reject;} {} {} => 8 WrongBlock
 tele bit<8> n; {n = 256;} {} {} => 10 BadSize
@@ -113,6 +121,15 @@ control bit<8> c; {c = 1;} {} {} => 8 NotWritable
 tele bit<8> n; tele bool n; {} {} {} => 7 NameTwice
 tele bit<8> n; {n = true;} {} {} => 10 KindDiffers
 tele bit<8>[2] l; {for (x in l) {l.push(1);}} {} {} => 18 LoopListChanged
+tele bit<8>[4] l; {} {for (x in l) {l.push(x);}} {} => 20 LoopListChanged
+tele bit<8> n; tele bit<8> n; {} {} {} => 7 NameTwice
+tele bit<8> n; {} {} {if (n) {reject;}} => 14 KindDiffers
+tele bit<8>[4] l; {} {l = 1;} {} => 13 KindDiffers
+{} {} {if (1 == 1) {reject;}} => 7 KindDiffers
+{} {} {if (1 == m) {reject;}} => 7 KindDiffers
+header bool t = hdr.tcp.valid(); {} {} {} => 0 KindDiffers
+tele bool f; {f = first_hop;} {} {} => 7 WrongBlock
+tele bit<129> n; {} {} {} => 0 BadSize
 header bit<8> v = hdr.h.isValid(); {} {} {} => 0 KindDiffers
 header bool v = hdr.h.foo(); {} {} {} => 0 KindDiffers
 header bool v = meta.h.isValid(); {} {} {} => 0 KindDiffers
