@@ -205,16 +205,28 @@ fn brackets_closed_again(rt: HostRuntime) -> Result<(), Fail> {
     let more = bracketed(alloc, 257)?;
     // Brackets that are closed do not count.
     assert_eq!(rt;
-        answer(&rt, alloc, &format!(in alloc; "{{{most} {most}}} {{}} {{}}")?)?,
+        answer(
+            &rt,
+            alloc,
+            &format!(in alloc; "{{{most} {most}}} {{}} {{}}")?
+        )?,
         String::from_str(alloc, "{(set@1 n a@259) (set@517 n a@775)} {} {}")?
     );
     // The 257th is too many, also where all are closed behind it, and also behind others.
     assert_eq!(rt;
-        answer(&rt, alloc, &format!(in alloc; "{{{more} {most}}} {{}} {{}}")?)?,
+        answer(
+            &rt,
+            alloc,
+            &format!(in alloc; "{{{more} {most}}} {{}} {{}}")?
+        )?,
         String::from_str(alloc, "too deep 259")?
     );
     assert_eq!(rt;
-        answer(&rt, alloc, &format!(in alloc; "{{{most} {more}}} {{}} {{}}")?)?,
+        answer(
+            &rt,
+            alloc,
+            &format!(in alloc; "{{{most} {more}}} {{}} {{}}")?
+        )?,
         String::from_str(alloc, "too deep 775")?
     );
     Ok(())
@@ -263,11 +275,19 @@ fn both_limits_in_one_text(rt: HostRuntime) -> Result<(), Fail> {
     let close = copies(alloc, "}", 255)?;
     // The first that is passed is named.
     assert_eq!(rt;
-        answer(&rt, alloc, &format!(in alloc; "{{{open}{close} {deep}}} {{}} {{}}")?)?,
+        answer(
+            &rt,
+            alloc,
+            &format!(in alloc; "{{{open}{close} {deep}}} {{}} {{}}")?
+        )?,
         String::from_str(alloc, "too deep 1271")?
     );
     assert_eq!(rt;
-        answer(&rt, alloc, &format!(in alloc; "{{{deep} {open}{close}}} {{}} {{}}")?)?,
+        answer(
+            &rt,
+            alloc,
+            &format!(in alloc; "{{{deep} {open}{close}}} {{}} {{}}")?
+        )?,
         String::from_str(alloc, "too deep 259")?
     );
     Ok(())
