@@ -14,8 +14,9 @@ use Rattle.linkage.specs.Linkage.{SameRegisters, is_report, told_report}
 use Rattle.linked_halves.specs.Given.{AnyEntries, NoVariable, NoContents}
 use Rattle.linked_halves.specs.Networks.{registers_of}
 use Rattle.linked_halves.specs.Telemetry.{telemetry_of}
-use Rattle.wire_linker.specs.WireProgram.{wire_program}
-use Rattle.wire_linkage.specs.Line.{wire_line, plain_line, line_of, run_of_frame}
+use Rattle.wire_program.specs.WireProgram.{wire_program}
+use Rattle.wire_program.specs.Network.{wire_line}
+use Rattle.wire_linkage.specs.Line.{plain_line, line_of, run_of_frame}
 use Rattle.job_course.specs.Output.{Out}
 use Rattle.hydra_cli.specs.Wire.{Run, linked_files, frame_files, summary_of_run}
 

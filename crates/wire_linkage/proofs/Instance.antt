@@ -10,7 +10,7 @@ use Rattle.p4_tree.specs.declared.statement.Op.TheVariants as p4
 use Rattle.indus_tree.specs.Tree as indus
 use Rattle.lex_text.specs.Marks.{is_one_of as is_name_of}
 use Rattle.linked_halves.specs.Monitor.{number, tele_header, tele_name, rejected_name, count_name, rejects_register, lowered_op, lowered, lowered_stmt, lowered_block, lowered_else, is_port_of, entry_stmts, entry_stmt, end_stmts, check_stmts, check_stmt, exit_stmts, exit_stmt}
-use Rattle.wire_linker.specs.WireProgram.{send_by, wire_ingress, wire_program}
+use Rattle.wire_program.specs.WireProgram.{send_by, wire_ingress, wire_program}
 use Rattle.wire_linker.specs.Linked as program
 use Rattle.linked_halves.specs.ParserStates.{link_case, link_cases, taken_state}
 use Rattle.wire_linker.specs.Linked.{linked_wire}
@@ -92,7 +92,7 @@ built fields cases entry exit =
       states =
           record { at = 0; name = codes "start"; body = []; next = Rattle.p4_tree.specs.Tree.select 0 (path 0 Rattle.p4_tree.specs.Standard.ingress_port ∷ []) cases }
           ∷ taken_state
-          ∷ Rattle.wire_linker.specs.WireProgram.passing_state (codes "hydra_start") (codes "accept")
+          ∷ Rattle.wire_program.specs.WireProgram.passing_state (codes "hydra_start") (codes "accept")
           ∷ [];
       verify = done;
       ingress = next entry wire_ingress;

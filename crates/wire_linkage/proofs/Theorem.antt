@@ -8,12 +8,13 @@ use Rattle.indus_tree.specs.State.{Contents}
 use Rattle.indus_tree.specs.Small.{IsSmall}
 use Rattle.network_run.specs.Machine.{Machine}
 use Rattle.linkage.specs.Linkage.{Linkage}
-use Rattle.wire_linker.specs.WireProgram.{wire_program}
+use Rattle.wire_program.specs.WireProgram.{wire_program}
 use Rattle.linked_halves.specs.Telemetry.{telemetry_of}
 use Rattle.linked_halves.specs.Networks.{machine_of, registers_of, ports_at}
 use Rattle.linked_halves.specs.Given.{Given, IsGiven, linked_machine, AnyEntries, NoVariable, NoContents}
 use Rattle.linked_halves.proofs.Theorem.{linked}
-use Rattle.wire_linkage.specs.Line.{wire_line, program_at, plain_line, line_of}
+use Rattle.wire_program.specs.Network.{wire_line}
+use Rattle.wire_linkage.specs.Line.{program_at, plain_line, line_of}
 use Rattle.wire_linkage.specs.Linkage.{IsWireLinkage}
 use Rattle.wire_linkage.proofs.Instance.{linked_wire_parts, wire_forwards, linked_names}
 use Rattle.wire_linkage.proofs.Ways.{wire_line_is}

@@ -24,7 +24,8 @@ use Rattle.wire_network.specs.Travel.{Net, Fate, left, dropped, lost, left_from,
 use Rattle.wire_network.specs.declared.link.Link.{Link}
 use Rattle.linked_halves.specs.Telemetry.{telemetry_of}
 use Rattle.linked_halves.specs.Networks.{network_digest, machine_of, going_of}
-use Rattle.wire_linkage.specs.Line.{wire_line, program_at, line_of, one_packet, run_of_frame}
+use Rattle.wire_program.specs.Network.{wire_line}
+use Rattle.wire_linkage.specs.Line.{program_at, line_of, one_packet, run_of_frame}
 use Rattle.wire_linkage.specs.Ways.{wire_line_links, machines, net_before, told_of, edges_of, dropped_of, lost_of, ShowsWay}
 
 eq_by : (a b : ℕ) (c d : Bool) → nat_eq a b ≡ c → nat_eq b a ≡ d → c ≡ d

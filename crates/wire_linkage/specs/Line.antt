@@ -1,4 +1,5 @@
--- The wire program's network, its programs, and the run of one packet through it.
+-- The wire program and its linked programs in their network, and the run of one packet through it. Read
+-- `wire_program`'s `Network` before it.
 use Rattle.std.specs.Prelude.{ℕ, List, [], ◌∷◌}
 use Rattle.p4_tree.specs.Tree.{Program}
 use Rattle.p4_tree.specs.Parts.{parts_of}
@@ -6,21 +7,13 @@ use Rattle.p4_tree.specs.Pass.{Registers, Queued}
 use Rattle.indus_tree.specs.Tree.{Property}
 use Rattle.indus_tree.specs.State.{Contents, members}
 use Rattle.network_run.specs.Machine.{Machine}
-use Rattle.network_run.specs.Network.{Wiring, Net}
+use Rattle.network_run.specs.Network.{Net}
 use Rattle.network_run.specs.World.{World, net_at_end}
-use Rattle.wire_linker.specs.WireProgram.{wire_program}
+use Rattle.wire_program.specs.Network.{wire_line}
+use Rattle.wire_program.specs.WireProgram.{wire_program}
 use Rattle.wire_linker.specs.Linked.{linked_wire}
 use Rattle.linked_halves.specs.Telemetry.{telemetry_of}
 use Rattle.linked_halves.specs.Networks.{machine_of, ports_at}
-
--- three switches in a line, port 2 of each joined to port 1 of the next
-abbrev pub wire_line : Wiring
-wire_line =
-    record {
-      switches = 3;
-      ports = 512;
-      links = record { one = 0; one_port = 2; other = 1; other_port = 1 } ∷ record { one = 1; one_port = 2; other = 2; other_port = 1 } ∷ [];
-    }
 
 -- the linked program of a switch
 abbrev pub program_at : Property → (switch : ℕ) → Program

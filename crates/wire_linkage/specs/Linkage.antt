@@ -8,13 +8,14 @@ use Rattle.indus_tree.specs.Law.{law_of}
 use Rattle.indus_tree.specs.State.{Contents}
 use Rattle.lex_text.specs.Marks.{is_one_of}
 use Rattle.linkage.specs.Linkage.{Linkage}
-use Rattle.wire_linker.specs.WireProgram.{wire_program}
+use Rattle.wire_program.specs.WireProgram.{wire_program}
 use Rattle.linked_halves.specs.Regions.{is_mine}
 use Rattle.linked_halves.specs.LinkedParts.{rejects_cells}
 use Rattle.linked_halves.specs.Telemetry.{telemetry_of}
 use Rattle.linked_halves.specs.Networks.{registers_of}
 use Rattle.linked_halves.specs.Given.{AnyEntries, NoVariable, NoContents}
-use Rattle.wire_linkage.specs.Line.{wire_line, plain_line, line_of}
+use Rattle.wire_program.specs.Network.{wire_line}
+use Rattle.wire_linkage.specs.Line.{plain_line, line_of}
 use Rattle.wire_linkage.specs.Declared.{names_of}
 
 -- over every valid world, these programs of the switches are a linkage of the wire program and the property; each

@@ -19,7 +19,8 @@ ghost use Rattle.network_run.specs.World.{IsValid};
 ghost use Rattle.wire_network.specs.Travel.{travel};
 ghost use Rattle.linked_halves.specs.Telemetry.{telemetry_of};
 ghost use Rattle.linked_halves.specs.Given.{AnyEntries, NoVariable, NoContents};
-ghost use Rattle.wire_linkage.specs.Line.{wire_line, one_packet, program_at, run_of_frame};
+ghost use Rattle.wire_program.specs.Network.{wire_line};
+ghost use Rattle.wire_linkage.specs.Line.{one_packet, program_at, run_of_frame};
 ghost use Rattle.wire_linkage.specs.Linkage.{IsWireLinkage};
 ghost use Rattle.wire_linkage.specs.Ways.{ShowsWay, wire_line_links, net_before};
 

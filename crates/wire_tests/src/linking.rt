@@ -2,7 +2,8 @@
 
 use indus_reader::read_property;
 use std::test::Fail;
-use wire_linker::{link_wire, wire_program};
+use wire_linker::link_wire;
+use wire_program::wire_program;
 
 #[test]
 fn a_rejecting_property_is_linked(rt: HostRuntime) -> Result<(), Fail> {
