@@ -1,4 +1,4 @@
--- The command lines, and the course of each command.
+-- The command lines, and the course of each command. Read `Course` of the job's course before it and `Output` after it.
 use Rattle.std.specs.Prelude.{◌≡◌, ◌≢◌, ℕ, List, [], ◌∷◌, Option, Some, None, codes, if◌then◌else◌}
 use Rattle.std.specs.Str.{bytes_eq}
 use Rattle.indus_tree.specs.Tree.{Property}

@@ -1,4 +1,5 @@
--- A course: which files a command asks for, which first refusals the files admit, and what they give.
+-- A course: which files a command asks for, which first refusals the files admit, and what they give. Read `Ending`
+-- after it.
 use Rattle.std.specs.Prelude.{◌≡◌, ◌⊎◌, ℕ, ◌<◌, ◌≤◌, List, length, Some, None}
 use Rattle.outside.specs.Files.{Files}
 use Rattle.job_course.specs.declared.status.Status.{Status}

@@ -1,4 +1,4 @@
--- What an answer says of the store and the sink, and its cause.
+-- What an answer says of the store and the sink, and its cause. Read `Course` before it.
 use Rattle.std.specs.Prelude.{◌≡◌, ◌≢◌, ◌⊎◌, ℕ, ◌+◌, ◌<◌, ◌≤◌, List, [], ◌∷◌, ◌++◌, length, take, slice_index_or, Option, Some, None, codes}
 use Rattle.outside.specs.Causes.{Rose}
 use Rattle.outside.specs.Files.{Files, with_file, ToldBoth}
