@@ -134,7 +134,7 @@ module _ (ws : List Lexeme) (n : ℕ) (inside below : Reader) (h b : ℕ) (lower
       (λ _. Reads-cond ws _ _ b b i (is_some (number_in (slice_get ws i))) _ _
       (λ e. let x = some_is (number_in (slice_get ws i)) e in
       Reads-room ws _ _ b b i 1 h _ (number x.0) (num i x.0) [] (number_lexeme x.0 (slice_get ws i) x.1) (a_number x.0) (λ le. Reads-numeral i le))
-      (λ _. Reads-wrong ws _ _ b b i (num i zero_lexeme) (number zero_lexeme ∷ []) (a_number zero_lexeme)))
+      (λ _. Reads-wrong ws _ _ b b i))
 
   pub Reads-operand : (i : ℕ) → Reads ws (Spells 0 i) (Low h) b b i (operand_at ws n inside below h b i)
   unfolding operand_at

@@ -46,7 +46,7 @@ module _ (ws : List Lexeme) (n : ℕ) where
   Reads-sized T K b d p f short go = by (number_in (slice_get ws p)) (λ x e. number_lexeme x (slice_get ws p) e)
     where
       no_size : Reads ws T K b d p (Err (wrong p))
-      no_size = let s = short zero_lexeme zero_size in Reads-wrong ws T K b d p s.0 (number zero_lexeme ∷ s.1) s.2
+      no_size = Reads-wrong ws T K b d p
 
       tested : (x : Literal) (z : Bool) → (z ≡ true → IsSize x) → slice_get ws p ≡ Some (number x) → Reads ws T K b d p (cond z (Ok (x.value, p + 1)) (Err (wrong p)) >>= f)
       tested x true size is = Reads-lexeme ws T K b b d p (number x) (f (x.value, p + 1)) is refl (short x (size refl)) (go x (size refl) is)

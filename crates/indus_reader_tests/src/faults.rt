@@ -292,3 +292,22 @@ fn both_limits_in_one_text(rt: HostRuntime) -> Result<(), Fail> {
     );
     Ok(())
 }
+
+#[test]
+fn a_limit_and_a_dead_token_in_one_text(rt: HostRuntime) -> Result<(), Fail> {
+    let alloc = rt.alloc();
+    let open = copies(alloc, "(", 257)?;
+    let ifs = copies(alloc, "if (a) {", 255)?;
+    // The first of the two is named.
+    each(
+        &rt,
+        alloc,
+        &format!(in alloc;
+            "\
+{{n = {open};}} {{}} {{}} => too deep 259
+{{n = ; n = {open};}} {{}} {{}} => syntax 3
+{{{ifs};}} {{}} {{}} => too deep 1271
+{{; {ifs};}} {{}} {{}} => syntax 1"
+        )?,
+    )
+}

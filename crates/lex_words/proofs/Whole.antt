@@ -14,7 +14,7 @@ use Rattle.lex_words.specs.Faults.{HasFewOpen, IsWithin, Begun, IsSyntax, HasRoo
 use Rattle.lex_words.specs.Reading.{Fault, wrong, high, deep, Read, all_read}
 use Rattle.lex_words.proofs.Standing.{Stands, Stands-length, Stands-within}
 use Rattle.lex_words.proofs.Locality.{Follows, Shows}
-use Rattle.lex_words.proofs.Spelled.{Ends, Stops, Reads, Sound}
+use Rattle.lex_words.proofs.Spelled.{Ends, Begins, Stops, Reads, Sound}
 use Rattle.lex_words.proofs.OpenBehind.{few_open, too_many}
 
 -- ---- fronts of a list
@@ -52,10 +52,6 @@ Agree-begun ws back q lt k le =
 
 take-all : (ws : List Lexeme) → take (length ws) ws ≡ ws
 take-all ws = let e = take_at ws [] (length ws) refl in subst (λ x. take (length ws) x ≡ ws) (append-nil ws) e
-
--- where a fault stands
-pub syntax_within : {T : Type 0} (Spells : T → List Lexeme → Type 0) (ws : List Lexeme) (q : ℕ) → IsSyntax Spells ws q → q ≤ length ws
-syntax_within Spells ws q s = elim s.dead [ inl a ↦ omega (arith, a.0) | inr a ↦ omega (arith, a.0) ]
 
 -- ---- readings
 
@@ -156,6 +152,20 @@ module _ {T : Type 0} (Spells : T → List Lexeme → Type 0) (height : T → �
         let same : s.lexemes ≡ take q ws = Stands-take ws q s.lexemes s.stands in
         (Stands-within ws 0 q s.lexemes (omega arith) s.stands, subst (λ x. Spells t x) same s.spells, s.bound, subst (λ x. left limit x ≡ Some limit) same s.leaves)
 
+    begins_low : (front : List Lexeme) → Ends Spells (λ t. height t ≤ limit) front → (t : T) × Begun Spells front t × (height t ≤ limit)
+    begins_low front e = (e.0, record { back = e.1; spells = e.2 }, e.3)
+
+    front_low : (front : List Lexeme) → (front ≡ []) ⊎ Ends Spells (λ t. height t ≤ limit) front → (t : T) × Begun Spells front t × (height t ≤ limit)
+    front_low front (inl e) = subst (λ f. (t : T) × Begun Spells f t × (height t ≤ limit)) (sym e) (begins_low [] least)
+    front_low front (inr e) = begins_low front e
+
+    -- the lexemes before a fault
+    front_room : (q : ℕ) → Begins ws Spells (λ t. height t ≤ limit) limit 0 q → HasRoom Spells height limit (take q ws)
+    front_room q s = subst (λ f. HasRoom Spells height limit f) (Stands-take ws q s.front s.stands) (record {
+      low = front_low s.front s.begun;
+      few = few_open limit s.room s.front s.leaves;
+    })
+
     -- no tree at all
     no_tree : (q : ℕ) → reads ≡ err (wrong q) → (t : T) → Spells t ws → ⊥
     no_tree q e t x =
@@ -167,21 +177,20 @@ module _ {T : Type 0} (Spells : T → List Lexeme → Type 0) (height : T → �
         let a : ok t (length ws) ≡ err (wrong q) = sym o ∙ g in cc
 
     -- the same place in both, since the whole is spelled
-    ended_early : (s : T) (q : ℕ) → reads ≡ ok s q → q < length ws → IsSyntax Spells ws q
+    ended_early : (s : T) (q : ℕ) → reads ≡ ok s q → q < length ws → IsSyntax Spells height limit ws q
     ended_early s q e lt =
         let r = ends_at s q e in
         record {
-          begun = (s, record { back = []; spells = subst (λ x. Spells s x) (sym (append-nil (take q ws))) r.1 });
+          before = record { low = (s, record { back = []; spells = subst (λ x. Spells s x) (sym (append-nil (take q ws))) r.1 }, r.2); few = few_open limit limit (take q ws) r.3 };
           dead = inl (lt, λ t x. not_ended q lt t x s e);
         }
 
-    wrong_is : (q : ℕ) → reads ≡ err (wrong q) → IsSyntax Spells ws q
+    wrong_is : (q : ℕ) → reads ≡ err (wrong q) → IsSyntax Spells height limit ws q
     wrong_is q e =
         let s = told (err (wrong q)) e in
-        let same : s.front ≡ take q ws = Stands-take ws q s.front s.stands in
         let within = Stands-within ws 0 q s.front (omega arith) s.stands in
         record {
-          begun = (s.goes_on.0, record { back = s.back; spells = subst (λ x. Spells s.goes_on.0 (x ++ s.back)) same s.goes_on.1 });
+          before = front_room q s;
           dead = elim (cases_lt q (length ws)) [
             | inl lt ↦ inl (lt, λ t x. not_wrong q lt t x e)
             | inr le ↦ inr (omega (arith, le, within), no_tree q e)
@@ -196,25 +205,12 @@ module _ {T : Type 0} (Spells : T → List Lexeme → Type 0) (height : T → �
     stopped_within : (q : ℕ) → Stopped q → q < length ws
     stopped_within q s = slice_get_within ws q s.last s.here
 
-    stopped_at : (q : ℕ) (s : Stopped q) → take (q + 1) ws ≡ s.front ++ s.last ∷ []
-    stopped_at q s = take-next ws q s.last s.here ∙ ap (λ x. x ++ s.last ∷ []) (sym (Stands-take ws q s.front s.stands))
+    stopped_at : (q : ℕ) (s : Stopped q) → take (q + 1) ws ≡ s.before.front ++ s.last ∷ []
+    stopped_at q s = take-next ws q s.last s.here ∙ ap (λ x. x ++ s.last ∷ []) (sym (Stands-take ws q s.before.front s.before.stands))
 
     stopped_begun : (q : ℕ) → Stopped q → (t : T) × Begun Spells (take (q + 1) ws) t
     stopped_begun q s =
-        (s.value, record { back = s.back; spells = subst (λ x. Spells s.value (x ++ s.back)) (sym (stopped_at q s)) (rw (append_assoc s.front (s.last ∷ []) s.back) s.spells) })
-
-    begins_low : (front : List Lexeme) → Ends Spells (λ t. height t ≤ limit) front → (t : T) × Begun Spells front t × (height t ≤ limit)
-    begins_low front e = (e.0, record { back = e.1; spells = e.2 }, e.3)
-
-    stopped_low : (front : List Lexeme) → (front ≡ []) ⊎ Ends Spells (λ t. height t ≤ limit) front → (t : T) × Begun Spells front t × (height t ≤ limit)
-    stopped_low front (inl e) = subst (λ f. (t : T) × Begun Spells f t × (height t ≤ limit)) (sym e) (begins_low [] least)
-    stopped_low front (inr e) = begins_low front e
-
-    stopped_room : (q : ℕ) → Stopped q → HasRoom Spells height limit (take q ws)
-    stopped_room q s = subst (λ f. HasRoom Spells height limit f) (Stands-take ws q s.front s.stands) (record {
-      low = stopped_low s.front s.before;
-      few = few_open limit s.room s.front s.leaves;
-    })
+        (s.value, record { back = s.back; spells = subst (λ x. Spells s.value (x ++ s.back)) (sym (stopped_at q s)) (rw (append_assoc s.before.front (s.last ∷ []) s.back) s.spells) })
 
     high_is : (q : ℕ) → reads ≡ err (high q) → IsTooDeep Spells height limit ws q
     high_is q e =
@@ -222,7 +218,7 @@ module _ {T : Type 0} (Spells : T → List Lexeme → Type 0) (height : T → �
         record {
           inside = stopped_within q s;
           begun = stopped_begun q s;
-          before = stopped_room q s;
+          before = front_room q s.before;
           past = inl (λ t x. is_higher q (stopped_within q s) t x e);
         }
 
@@ -232,8 +228,8 @@ module _ {T : Type 0} (Spells : T → List Lexeme → Type 0) (height : T → �
         record {
           inside = stopped_within q s.stops;
           begun = stopped_begun q s.stops;
-          before = stopped_room q s.stops;
-          past = inr (subst (λ x. limit < open_behind x) (sym (stopped_at q s.stops)) (too_many limit s.stops.room s.stops.front s.stops.last s.stops.leaves s.over));
+          before = front_room q s.stops.before;
+          past = inr (subst (λ x. limit < open_behind x) (sym (stopped_at q s.stops)) (too_many limit s.stops.before.room s.stops.before.front s.stops.last s.stops.before.leaves s.over));
         }
 
     -- ---- all lexemes
@@ -269,19 +265,19 @@ module _ {T : Type 0} (Spells : T → List Lexeme → Type 0) (height : T → �
     pub found : (t : T) → answer ≡ Ok t → IsWithin Spells height limit ws t
     found t e = found_of reads t refl e
 
-    wrong_of : (r : Read T) (q : ℕ) → reads ≡ r → all_read ws r ≡ to_fault (wrong q) → IsSyntax Spells ws q
+    wrong_of : (r : Read T) (q : ℕ) → reads ≡ r → all_read ws r ≡ to_fault (wrong q) → IsSyntax Spells height limit ws q
     unfolding all_read
     wrong_of (Err f) q e a = wrong_is q (let i : f ≡ wrong q = cc in e ∙ ap err i)
     wrong_of (Ok x) q e a = go (nat_lt x.1 (length ws)) refl a
       where
-        go : (y : Bool) → nat_lt x.1 (length ws) ≡ y → cond y (to_fault (wrong x.1)) (to_tree x.0) ≡ to_fault (wrong q) → IsSyntax Spells ws q
+        go : (y : Bool) → nat_lt x.1 (length ws) ≡ y → cond y (to_fault (wrong x.1)) (to_tree x.0) ≡ to_fault (wrong q) → IsSyntax Spells height limit ws q
         go false is b = absurd cc
         go true is b =
             let lt : x.1 < length ws = grind (arith, nat_tests, is) in
             let i : x.1 ≡ q = cc in
-            subst (λ k. IsSyntax Spells ws k) i (ended_early x.0 x.1 e lt)
+            subst (λ k. IsSyntax Spells height limit ws k) i (ended_early x.0 x.1 e lt)
 
-    pub wrong_answer : (q : ℕ) → answer ≡ Err (wrong q) → IsSyntax Spells ws q
+    pub wrong_answer : (q : ℕ) → answer ≡ Err (wrong q) → IsSyntax Spells height limit ws q
     wrong_answer q e = wrong_of reads q refl e
 
     -- a fault of another kind is the reader's

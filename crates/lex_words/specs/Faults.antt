@@ -29,19 +29,19 @@ IsDead {T = T} Spells ws at =
     ((at < length ws) × ((t : T) → Begun Spells (take (at + 1) ws) t → ⊥))
     ⊎ ((at ≡ length ws) × ((t : T) → Spells t ws → ⊥))
 
--- some tree begins with the lexemes before this place, and none goes on so
-pub record IsSyntax {T : Type 0} (Spells : T → List Lexeme → Type 0) (ws : List Lexeme) (at : ℕ) : Type 0 where
-  pub begun : (t : T) × Begun Spells (take at ws) t
+-- some tree that is not too high begins with these lexemes, and at none of them too many brackets are open
+pub record HasRoom {T : Type 0} (Spells : T → List Lexeme → Type 0) (height : T → ℕ) (limit : ℕ) (front : List Lexeme) : Type 0 where
+  pub low : (t : T) × Begun Spells front t × (height t ≤ limit)
+  pub few : HasFewOpen limit front
+
+-- the lexemes before this place are within the limits, and no tree goes on so
+pub record IsSyntax {T : Type 0} (Spells : T → List Lexeme → Type 0) (height : T → ℕ) (limit : ℕ) (ws : List Lexeme) (at : ℕ) : Type 0 where
+  pub before : HasRoom Spells height limit (take at ws)
   pub dead : IsDead Spells ws at
 
 -- each tree that begins with these lexemes is too high, or too many brackets are open behind them
 abbrev pub IsPast : {T : Type 0} → (T → List Lexeme → Type 0) → (T → ℕ) → ℕ → List Lexeme → Type 0
 IsPast {T = T} Spells height limit front = ((t : T) → Begun Spells front t → limit < height t) ⊎ (limit < open_behind front)
-
--- some tree that is not too high begins with these lexemes, and at none of them too many brackets are open
-pub record HasRoom {T : Type 0} (Spells : T → List Lexeme → Type 0) (height : T → ℕ) (limit : ℕ) (front : List Lexeme) : Type 0 where
-  pub low : (t : T) × Begun Spells front t × (height t ≤ limit)
-  pub few : HasFewOpen limit front
 
 -- some tree begins with the lexemes up to this place, the lexemes before it are within the limits, and those up to it are not
 pub record IsTooDeep {T : Type 0} (Spells : T → List Lexeme → Type 0) (height : T → ℕ) (limit : ℕ) (ws : List Lexeme) (at : ℕ) : Type 0 where
