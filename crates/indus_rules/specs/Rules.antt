@@ -13,6 +13,7 @@ use Rattle.indus_tree.specs.declared.tree.DeclKind.TheVariants.{Tele, Sensor, He
 use Rattle.indus_scopes.specs.Kinds.{kinds_differ, widths_differ, width_in}
 use Rattle.indus_scopes.specs.Scopes.{Sight, Around, role_of, builtin_of, own}
 use Rattle.indus_rules.specs.Sites.{Site, at_expr, at_stmt, at_decl, property_sites}
+use Rattle.indus_scopes.specs.Items.{among, repeats}
 use Rattle.indus_scopes.specs.Uses.{is_missing, is_hop, reads, counts, indexed, may_hold, may_index, writable}
 use Rattle.indus_scopes.specs.declared.kind.Kind.{Kind}
 use Rattle.indus_scopes.specs.declared.scope.Block.{Block}
@@ -25,14 +26,6 @@ use Rattle.indus_rules.specs.declared.rule.Rule.TheVariants.{NameTwice, NoSuchNa
 
 abbrev pub declared_twice : (before : List Decl) → List ℕ → Bool
 declared_twice ds x = is_some (lookup ds x) || is_some (builtin_of x)
-
-abbrev pub among : List (List ℕ) → List ℕ → Bool
-among [] x = false
-among (y ∷ ys) x = same_text y x || among ys x
-
-abbrev pub repeats : Sight → List (List ℕ) → Bool
-repeats s [] = false
-repeats s (x ∷ xs) = not (is_missing (role_of s x)) || among xs x || repeats s xs
 
 abbrev pub names_again : Sight → Stmt → Bool
 names_again s (loop p ns ls a) = repeats s ns

@@ -5,6 +5,7 @@ use Rattle.rule_sites.specs.Sites.{Sites, nowhere, here, both}
 use Rattle.indus_tree.specs.Tree.{Expr, Exprs, none, more, num, flag, read, count, index, member, negation, inversion, binary, cast, Stmt, Stmts, done, next, assign, cell, push, choice, loop, reject, report, Shape, one, list, set, dict, Decl, Property}
 use Rattle.indus_tree.specs.declared.tree.Ty.{Ty}
 use Rattle.indus_scopes.specs.Kinds.{kind_of, as_number, join, manner_of, left_want, right_want}
+use Rattle.indus_scopes.specs.Items.{within}
 use Rattle.indus_scopes.specs.Scopes.{Sight, Stands, variable, shape_item, role_of, read_kind, index_kind, own}
 use Rattle.indus_scopes.specs.declared.kind.Kind.{Kind}
 use Rattle.indus_scopes.specs.declared.kind.Kind.TheVariants.{Number, Truth, Unknown}
@@ -86,10 +87,6 @@ abbrev mutual
   pub all_sites : Sight → Wants → Exprs → Sites Site
   all_sites s ws none = nowhere
   all_sites s ws (more a rest) = both (expr_sites s (head_want ws (own s a)) a) (all_sites s (tail_wants ws) rest)
-
--- what is in sight inside a loop
-abbrev pub within : Sight → (names lists : List (List ℕ)) → Sight
-within s ns ls = record s { loops = (record { names = ns; lists = ls }) ∷ s.loops }
 
 abbrev mutual
   -- a statement and its parts

@@ -1,18 +1,20 @@
 //! The first broken rule of expressions and statements, in their order in the text.
 
-ghost use Rattle.std.specs.Prelude.{◌≡◌, IfOk};
+ghost use Rattle.std.specs.Prelude.{◌≡◌, IfNone, IfOk};
 ghost use Rattle.indus_tree.specs.View.{block_of, expr_of, exprs_of, shape_of, stmt_of};
-ghost use Rattle.indus_scopes.specs.Scopes.{own, stands, scope_of};
-ghost use Rattle.indus_rules.specs.Sites.{wants_of, head_want, tail_wants, index_wants, member_wants, push_want, shape_index_wants, shape_member_wants, expr_sites, all_sites, within, stmt_sites, block_sites};
+ghost use Rattle.indus_scopes.specs.Scopes.{own, stands};
+ghost use Rattle.indus_scopes.specs.Sights.{scope_of};
+ghost use Rattle.indus_rules.specs.Sites.{wants_of, head_want, tail_wants, index_wants, member_wants, push_want, shape_index_wants, shape_member_wants, expr_sites, all_sites, stmt_sites, block_sites};
 ghost use Rattle.indus_rules.specs.Rules.{first};
 
 use crate::expr_rules::{place_of_expr, rule_of_expr};
 use crate::rule::Rule;
 use crate::stmt_rules::{place_of_stmt, rule_of_stmt};
 use indus_scopes::kind::{Kind, as_number, join, kind_of, left_want, manner_of, right_want};
-use indus_scopes::scope::{Loop, Role, Scope, index_kind, read_kind, shape_item};
+use indus_scopes::loops::{enter, leave};
+use indus_scopes::scope::{Role, index_kind, read_kind, shape_item};
+use indus_scopes::sight::Scope;
 use indus_tree::{Expr, Shape, Stmt, Ty};
-use lex_text::Name;
 use std::alloc::{AllocError, Global};
 
 /// What is wanted of the expressions of a list.
@@ -158,35 +160,16 @@ fn check_all(scope: &Scope, wants: Wants, all: &[Expr]) -> Option<(u32, Rule)>
     None
 }
 
-fn inside<'a>(
-    alloc: Global,
-    scope: &Scope<'a>,
-    names: &'a [Name],
-    lists: &'a [Name],
-) -> Result<Scope<'a>, AllocError>
-    ensures { IfOk result (λ s. scope_of s ≡ within (scope_of scope.now) names.now lists.now) }
-{
-    let mut loops = Vec::new(alloc);
-    loops.push(Loop { names, lists })?;
-    for l in &scope.loops {
-        loops.push(*l)?;
-    }
-    Ok(Scope {
-        decls: scope.decls,
-        loops,
-        block: scope.block,
-    })
-}
-
 #[cycle(stmt)]
 pub fn check_stmt<'a>(
     alloc: Global,
-    scope: &Scope<'a>,
+    scope: &mut Scope<'a>,
     s: &'a Stmt,
 ) -> Result<Option<(u32, Rule)>, AllocError>
-    ensures { IfOk result (λ o. o ≡ first (stmt_sites (scope_of scope.now) (stmt_of s.now))) }
+    ensures found { IfOk result (λ o. o ≡ first (stmt_sites (scope_of scope.old) (stmt_of s.now))) }
+    ensures kept { IfOk result (λ o. IfNone o (scope_of scope.new ≡ scope_of scope.old)) }
 {
-    if let Some(rule) = rule_of_stmt(scope, s) {
+    if let Some(rule) = rule_of_stmt(alloc, scope, s)? {
         return Ok(Some((place_of_stmt(s), rule)));
     }
     match s {
@@ -207,8 +190,14 @@ pub fn check_stmt<'a>(
             },
         },
         Stmt::For(_, names, lists, a) => {
-            let inner = inside(alloc, scope, names, lists)?;
-            check_block(alloc, &inner, a)
+            enter(alloc, scope, names, lists)?;
+            match check_block(alloc, scope, a)? {
+                Some(fault) => Ok(Some(fault)),
+                None => {
+                    leave(alloc, scope);
+                    Ok(None)
+                }
+            }
         }
         Stmt::Reject(_) => Ok(None),
         Stmt::Report(_, _, values) => Ok(check_all(scope, Wants::Free, values)),
@@ -218,10 +207,11 @@ pub fn check_stmt<'a>(
 #[cycle(stmt)]
 pub fn check_block<'a>(
     alloc: Global,
-    scope: &Scope<'a>,
+    scope: &mut Scope<'a>,
     all: &'a [Stmt],
 ) -> Result<Option<(u32, Rule)>, AllocError>
-    ensures { IfOk result (λ o. o ≡ first (block_sites (scope_of scope.now) (block_of all.now))) }
+    ensures found { IfOk result (λ o. o ≡ first (block_sites (scope_of scope.old) (block_of all.now))) }
+    ensures kept { IfOk result (λ o. IfNone o (scope_of scope.new ≡ scope_of scope.old)) }
 {
     for s in all {
         match check_stmt(alloc, scope, s)? {

@@ -2,13 +2,15 @@
 
 ghost use Rattle.std.specs.Prelude.{◌≡◌};
 ghost use Rattle.indus_tree.specs.View.{expr_of};
-ghost use Rattle.indus_scopes.specs.Scopes.{own, scope_of};
+ghost use Rattle.indus_scopes.specs.Scopes.{own};
+ghost use Rattle.indus_scopes.specs.Sights.{scope_of};
 ghost use Rattle.indus_rules.specs.Sites.{at_expr};
 ghost use Rattle.indus_rules.specs.Rules.{is_init, number_width, too_wide, bad_bits, cites_missing, ill_used, hop_in_init, ill_sized, rule_at, expr_place};
 
 use crate::rule::Rule;
 use indus_scopes::kind::{Kind, kinds_differ, width_in, widths_differ};
-use indus_scopes::scope::{Block, Scope};
+use indus_scopes::scope::Block;
+use indus_scopes::sight::Scope;
 use indus_scopes::uses::{counts, indexed, is_hop, is_missing, may_hold, reads};
 use indus_tree::Expr;
 use lex_text::Literal;

@@ -13,7 +13,8 @@ use crate::rule::Rule;
 use indexmap::IndexSet;
 use indus_scopes::declared::Declared;
 use indus_scopes::kind::{Kind, kind_of};
-use indus_scopes::scope::{Block, Scope};
+use indus_scopes::scope::Block;
+use indus_scopes::sight::Scope;
 use indus_tree::{Decl, Expr, Property, Shape, Stmt};
 use std::alloc::{AllocError, Global};
 
@@ -33,14 +34,11 @@ fn check_start(alloc: Global, start: &Option<Expr>, s: &Shape) -> Option<(u32, R
     match start {
         None => None,
         Some(e) => {
-            let scope = Scope {
-                decls: Declared {
-                    decls: &[],
-                    names: &IndexSet::new(alloc),
-                },
-                loops: Vec::new(alloc),
-                block: Block::Init,
+            let none = Declared {
+                decls: &[],
+                names: &IndexSet::new(alloc),
             };
+            let scope = Scope::new(alloc, none, Block::Init);
             check_expr(&scope, start_want(s), e)
         }
     }
@@ -88,12 +86,8 @@ fn check_part<'a>(
 ) -> Result<Option<(u32, Rule)>, AllocError>
     ensures { IfOk result (λ o. o ≡ first (block_sites (record { decls = map decl_of decls.entry.decls.now; loops = []; block = block }) (block_of body.now))) }
 {
-    let scope = Scope {
-        decls,
-        loops: Vec::new(alloc),
-        block,
-    };
-    check_block(alloc, &scope, body)
+    let mut scope = Scope::new(alloc, decls, block);
+    check_block(alloc, &mut scope, body)
 }
 
 /// The first broken rule of a property, with its place.

@@ -1,17 +1,22 @@
 //! The first rule that is broken at a statement, but for its parts.
 
-ghost use Rattle.std.specs.Prelude.{◌≡◌, map, nat_lt};
+ghost use Rattle.std.specs.Prelude.{◌≡◌, IfOk, map, nat_lt};
 ghost use Rattle.indus_tree.specs.View.{exprs_of, stmt_of};
-ghost use Rattle.indus_scopes.specs.Scopes.{loop_of, scope_of};
+ghost use Rattle.indus_scopes.specs.Items.{among};
+ghost use Rattle.indus_scopes.specs.Scopes.{loop_of};
+ghost use Rattle.indus_scopes.specs.Sights.{scope_of};
 ghost use Rattle.indus_rules.specs.Sites.{at_stmt};
 ghost use Rattle.indus_tree.specs.Tree.{exprs_count};
-ghost use Rattle.indus_rules.specs.Rules.{is_check, any_missing, sets_missing, paired, same_count, all_count, ill_set, sets_fixed, answers_early, among, walked, pushes_walked, repeats, names_again, tells_much, rule_at, stmt_place};
+ghost use Rattle.indus_rules.specs.Rules.{is_check, any_missing, sets_missing, paired, same_count, all_count, ill_set, sets_fixed, answers_early, walked, pushes_walked, names_again, tells_much, rule_at, stmt_place};
 
 use crate::rule::Rule;
-use indus_scopes::scope::{Block, Loop, Scope, same};
+use indus_scopes::loops::repeats;
+use indus_scopes::scope::{Block, Loop, same};
+use indus_scopes::sight::Scope;
 use indus_scopes::uses::{counts, is_missing, may_index, reads, writable};
 use indus_tree::{Expr, Stmt};
 use lex_text::Name;
+use std::alloc::{AllocError, Global};
 
 fn is_check(b: Block) -> bool
     ensures { result ≡ is_check b }
@@ -138,23 +143,12 @@ fn pushes_walked(scope: &Scope, s: &Stmt) -> bool
     }
 }
 
-fn repeats(scope: &Scope, names: &[Name]) -> bool
-    ensures { result ≡ repeats (scope_of scope.now) names.now }
-{
-    match names {
-        [] => false,
-        [x, names @ ..] => {
-            !is_missing(&scope.role(x)) || among(names, x) || repeats(scope, names)
-        }
-    }
-}
-
-fn names_again(scope: &Scope, s: &Stmt) -> bool
-    ensures { result ≡ names_again (scope_of scope.now) (stmt_of s.now) }
+fn names_again(alloc: Global, scope: &Scope, s: &Stmt) -> Result<bool, AllocError>
+    ensures { IfOk result (λ b. b ≡ names_again (scope_of scope.now) (stmt_of s.now)) }
 {
     match s {
-        Stmt::For(_, names, _, _) => repeats(scope, names),
-        _ => false,
+        Stmt::For(_, names, _, _) => repeats(alloc, scope, names),
+        _ => Ok(false),
     }
 }
 
@@ -175,10 +169,10 @@ fn tells_much(s: &Stmt) -> bool
 }
 
 /// The first rule that is broken at a statement.
-pub fn rule_of_stmt(scope: &Scope, s: &Stmt) -> Option<Rule>
-    ensures { result ≡ rule_at (at_stmt (scope_of scope.now) (stmt_of s.now)) }
+pub fn rule_of_stmt(alloc: Global, scope: &Scope, s: &Stmt) -> Result<Option<Rule>, AllocError>
+    ensures { IfOk result (λ o. o ≡ rule_at (at_stmt (scope_of scope.now) (stmt_of s.now))) }
 {
-    if names_again(scope, s) {
+    Ok(if names_again(alloc, scope, s)? {
         Some(Rule::NameTwice)
     } else if sets_missing(scope, s) {
         Some(Rule::NoSuchName)
@@ -194,7 +188,7 @@ pub fn rule_of_stmt(scope: &Scope, s: &Stmt) -> Option<Rule>
         Some(Rule::BadSize)
     } else {
         None
-    }
+    })
 }
 
 /// The number of a statement's first token.

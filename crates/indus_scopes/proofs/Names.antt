@@ -61,7 +61,7 @@ prefix_texts : (q : List ℕ) (ks : List (String Global)) → prefix_len (λ k. 
 prefix_texts q [] = refl
 prefix_texts q (k ∷ ks) = ap (λ (m : ℕ). cond (not (bytes_eq q (string_bytes k))) (1 + m) 0) (prefix_texts q ks)
 
-length_texts : (ks : List (String Global)) → length ks ≡ length (texts ks)
+pub length_texts : (ks : List (String Global)) → length ks ≡ length (texts ks)
 length_texts [] = refl
 length_texts (k ∷ ks) = ap suc (length_texts ks)
 

@@ -1,5 +1,8 @@
--- What callers rest on: kinds, the table of names, what names stand for, and as what they may be used.
+-- What callers rest on: kinds, what names stand for, as what they may be used, and loops.
 pub mod Kinds
-pub mod NameTable
 pub mod Scopes
 pub mod Uses
+pub mod Sights
+pub mod Items
+-- What serves the proofs: the table of names.
+pub mod NameTable

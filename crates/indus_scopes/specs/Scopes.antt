@@ -1,5 +1,5 @@
 -- What a name stands for at a place, and what an expression is of its own. Read `Kinds` before it.
-use Rattle.std.specs.Prelude.{ℕ, List, [], ◌∷◌, ◌||◌, Option, Some, None, if◌then◌else◌, map, codes}
+use Rattle.std.specs.Prelude.{ℕ, List, [], ◌∷◌, ◌||◌, Option, Some, None, if◌then◌else◌, codes}
 use Rattle.lex_text.specs.Names.{same_text}
 use Rattle.rule_sites.specs.Sites.{or_else}
 use Rattle.indus_tree.specs.Tree.{Expr, num, flag, read, count, index, member, negation, inversion, binary, cast, Shape, one, list, dict, Decl}
@@ -11,7 +11,6 @@ use Rattle.indus_scopes.specs.Kinds.{kind_of, as_number, binary_kind, manner_of}
 use Rattle.indus_scopes.specs.declared.kind.Kind.{Kind}
 use Rattle.indus_scopes.specs.declared.kind.Kind.TheVariants.{Number, Truth, Unknown}
 use Rattle.indus_scopes.specs.declared.scope.Block.{Block}
-use Rattle.indus_scopes.specs.declared.scope.Scope as code
 use Rattle.indus_scopes.specs.declared.scope.Loop as code_loop
 use Rattle.indus_scopes.specs.declared.scope.Role as code_role
 use Rattle.indus_scopes.specs.declared.scope.Role.TheVariants.{Missing, Item, Builtin, Variable}
@@ -109,9 +108,6 @@ own s (cast p w a) = Number w
 
 abbrev pub loop_of : code_loop.Loop → Around
 loop_of l = record { names = l.names.now; lists = l.lists.now }
-
-abbrev pub scope_of : code.Scope → Sight
-scope_of s = record { decls = map decl_of s.decls.decls.now; loops = map loop_of s.loops.items; block = s.block }
 
 abbrev pub stands : code_role.Role → Stands
 stands Missing = missing

@@ -12,5 +12,7 @@
 
 pub mod declared;
 pub mod kind;
+pub mod loops;
 pub mod scope;
+pub mod sight;
 pub mod uses;

@@ -1,14 +1,18 @@
 //! What a name stands for at a place.
 
-ghost use Rattle.std.specs.Prelude.{◌≡◌, map};
+ghost use Rattle.std.specs.Prelude.{◌≡◌, [], map};
 ghost use Rattle.lex_text.specs.Names.{same_text};
 ghost use Rattle.indus_tree.specs.View.{decl_of, expr_of, shape_of};
-ghost use Rattle.indus_scopes.specs.Scopes.{item_in, item_of, builtin_of, role_of, stands, scope_of, loop_of, read_kind, index_kind, scalar_kind, element_kind, shape_item, list_item, own};
+ghost use Rattle.indus_scopes.specs.Scopes.{item_of, builtin_of, role_of, stands, read_kind, index_kind, scalar_kind, element_kind, shape_item, own};
+ghost use Rattle.indus_scopes.specs.Sights.{scope_of};
 
 use crate::declared::Declared;
 use crate::kind::{Kind, Manner, as_number, is_open, kind_of, manner_of};
+use crate::sight::Scope;
+use indexmap::IndexSet;
 use indus_tree::{Decl, DeclKind, Expr, Shape};
 use lex_text::Name;
+use std::alloc::Global;
 
 /// A block of a property.
 #[derive(Clone, Copy, Debug, PartialEq, Eq)]
@@ -23,14 +27,6 @@ pub enum Block {
 pub struct Loop<'a> {
     pub names: &'a [Name],
     pub lists: &'a [Name],
-}
-
-/// What is in sight at a place, innermost loop first.
-#[derive(Drop)]
-pub struct Scope<'a> {
-    pub decls: Declared<'a>,
-    pub loops: Vec<Loop<'a>>,
-    pub block: Block,
 }
 
 /// What a name stands for.
@@ -66,53 +62,6 @@ pub fn shape_item(s: &Shape) -> Kind
     }
 }
 
-fn list_item(decls: &Declared, list: &Name) -> Kind
-    ensures { result ≡ list_item (map decl_of decls.now.decls.now) list.now }
-{
-    match decls.find(list) {
-        Some(d) => shape_item(&d.shape),
-        None => Kind::Unknown,
-    }
-}
-
-/// An item of a loop.
-fn item_in(decls: &Declared, names: &[Name], lists: &[Name], name: &Name) -> Option<Kind>
-    ensures { result ≡ item_in (map decl_of decls.now.decls.now) names.now lists.now name.now }
-{
-    match names {
-        [] => None,
-        [x, names @ ..] => match lists {
-            [] => {
-                if same(x, name) {
-                    Some(Kind::Unknown)
-                } else {
-                    item_in(decls, names, lists, name)
-                }
-            }
-            [l, lists @ ..] => {
-                if same(x, name) {
-                    Some(list_item(decls, l))
-                } else {
-                    item_in(decls, names, lists, name)
-                }
-            }
-        },
-    }
-}
-
-/// An item of one of the loops.
-fn item_of(decls: &Declared, loops: &[Loop], name: &Name) -> Option<Kind>
-    ensures { result ≡ item_of (map decl_of decls.now.decls.now) (map loop_of loops.now) name.now }
-{
-    match loops {
-        [] => None,
-        [l, loops @ ..] => match item_in(decls, l.names, l.lists, name) {
-            Some(k) => Some(k),
-            None => item_of(decls, loops, name),
-        },
-    }
-}
-
 /// A name of the language's own.
 pub fn builtin_of(name: &Name) -> Option<Kind>
     ensures { result ≡ builtin_of name.now }
@@ -127,11 +76,34 @@ pub fn builtin_of(name: &Name) -> Option<Kind>
 }
 
 impl<'a> Scope<'a> {
+    /// What is in sight outside loops.
+    pub fn new(alloc: Global, decls: Declared<'a>, block: Block) -> Scope<'a>
+        ensures { scope_of result ≡ record { decls = map decl_of decls.entry.decls.now; loops = []; block = block } }
+    {
+        Scope {
+            decls,
+            loops: Vec::new(alloc),
+            block,
+            items: IndexSet::new(alloc),
+            kinds: Vec::new(alloc),
+        }
+    }
+
+    /// An item of a surrounding loop.
+    fn item(&self, name: &Name) -> Option<Kind>
+        ensures { result ≡ item_of (scope_of self.now).decls (scope_of self.now).loops name.now }
+    {
+        match self.items.get_index_of(name.as_str()) {
+            Some(i) => self.kinds.get(i).copied(),
+            None => None,
+        }
+    }
+
     /// What a name stands for.
     pub fn role(&self, name: &Name) -> Role<'a>
         ensures { stands result ≡ role_of (scope_of self.now) name.now }
     {
-        match item_of(&self.decls, &self.loops, name) {
+        match self.item(name) {
             Some(k) => Role::Item(k),
             None => match builtin_of(name) {
                 Some(k) => Role::Builtin(k),

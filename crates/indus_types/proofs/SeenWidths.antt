@@ -20,9 +20,10 @@ use Rattle.indus_tree.specs.Meaning.{seen_by, shortest, turn_items, first_turns,
 use Rattle.indus_tree.specs.Shapes.{HasWidth, AreShaped}
 use Rattle.indus_scopes.specs.Scopes.{Sight, role_of, role_from, read_kind, list_item, item_of, item_in as loop_item, builtin_of}
 use Rattle.indus_scopes.specs.Uses.{is_missing, reads}
-use Rattle.indus_rules.specs.Sites.{stmt_sites, sight, within}
+use Rattle.indus_rules.specs.Sites.{stmt_sites, sight}
+use Rattle.indus_scopes.specs.Items.{within, among, repeats}
 use Rattle.std.specs.Option.{is_some}
-use Rattle.indus_rules.specs.Rules.{Fine, among, repeats, same_count}
+use Rattle.indus_rules.specs.Rules.{Fine, same_count}
 use Rattle.indus_scopes.specs.declared.kind.Kind.{Kind}
 use Rattle.indus_scopes.specs.declared.kind.Kind.TheVariants.{Number, Truth, Unknown}
 use Rattle.indus_scopes.specs.declared.scope.Block.{Block}

@@ -2,7 +2,8 @@
 use Rattle.std.proofs.lemmas.Bool.{ltb-false}
 use Rattle.indus_tree.specs.Tree.{exprs_count, Stmt, Stmts, assign, cell, push, choice, loop, reject, report, done, next}
 use Rattle.indus_scopes.specs.Scopes.{Sight}
-use Rattle.indus_rules.specs.Sites.{stmt_sites, block_sites, within, sight}
+use Rattle.indus_rules.specs.Sites.{stmt_sites, block_sites, sight}
+use Rattle.indus_scopes.specs.Items.{within}
 use Rattle.indus_rules.specs.Rules.{Fine}
 use Rattle.indus_rules.specs.declared.rule.Rule.TheVariants.{BadSize}
 use Rattle.indus_scopes.specs.declared.scope.Block.TheVariants as block

@@ -13,9 +13,10 @@ use Rattle.indus_tree.specs.declared.tree.DeclKind.{DeclKind}
 use Rattle.indus_tree.specs.declared.tree.DeclKind.TheVariants.{Tele, Sensor, Header, Control}
 use Rattle.indus_scopes.specs.Scopes.{Sight, role_of, role_from, item_of, item_in, item_kind, shape_item, list_item, builtin_of}
 use Rattle.indus_scopes.specs.Uses.{is_missing, counts, is_list}
-use Rattle.indus_rules.specs.Sites.{decl_sites, stmt_sites, sight, within}
+use Rattle.indus_rules.specs.Sites.{decl_sites, stmt_sites, sight}
+use Rattle.indus_scopes.specs.Items.{within, repeats}
 use Rattle.std.specs.Option.{is_some}
-use Rattle.indus_rules.specs.Rules.{Fine, IsWellTyped, bad_bits, bad_width, bad_widths, bad_shape, any_missing, all_count, same_count, paired, repeats}
+use Rattle.indus_rules.specs.Rules.{Fine, IsWellTyped, bad_bits, bad_width, bad_widths, bad_shape, any_missing, all_count, same_count, paired}
 use Rattle.indus_rules.specs.declared.rule.Rule.TheVariants.{NameTwice, NoSuchName, KindDiffers, BadSize}
 use Rattle.indus_scopes.specs.declared.kind.Kind.{Kind}
 use Rattle.indus_scopes.specs.declared.scope.Block.{Block}

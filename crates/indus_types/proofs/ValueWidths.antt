@@ -15,7 +15,8 @@ use Rattle.indus_tree.specs.Keys.{at_key, widths_for, index_widths}
 use Rattle.indus_tree.specs.Value.{own_width, value_of, key_of}
 use Rattle.indus_scopes.specs.Scopes.{Sight, role_from, item_of, builtin_of, own}
 use Rattle.indus_scopes.specs.Uses.{is_missing, indexed}
-use Rattle.indus_rules.specs.Sites.{Wants, expr_sites, all_sites, head_want, tail_wants, stmt_sites, block_sites, decl_sites, start_sites, property_sites, sight, within}
+use Rattle.indus_rules.specs.Sites.{Wants, expr_sites, all_sites, head_want, tail_wants, stmt_sites, block_sites, decl_sites, start_sites, property_sites, sight}
+use Rattle.indus_scopes.specs.Items.{within}
 use Rattle.std.specs.Option.{is_some}
 use Rattle.indus_rules.specs.Rules.{Fine, IsWellTyped}
 use Rattle.indus_rules.specs.declared.rule.Rule.TheVariants.{NoSuchName, KindDiffers, BadSize}

@@ -1,6 +1,6 @@
 use Rattle.std.proofs.Common.{ap, sym, ◌∙◌, ℕ, Some}
 use Rattle.indus_tree.specs.View.{expr_of}
-use Rattle.indus_scopes.specs.Scopes.{scope_of}
+use Rattle.indus_scopes.specs.Sights.{scope_of}
 use Rattle.indus_rules.proofs.Steps.{head_rule}
 use Rattle.indus_rules.proofs.check.+expr.Goals as goal
 

@@ -1,6 +1,6 @@
 use Rattle.std.proofs.Common.{◌≡◌, drop}
 use Rattle.indus_tree.specs.View.{exprs_of}
-use Rattle.indus_scopes.specs.Scopes.{scope_of}
+use Rattle.indus_scopes.specs.Sights.{scope_of}
 use Rattle.indus_rules.specs.Sites.{all_sites, wants_of}
 use Rattle.indus_rules.specs.Rules.{first}
 use Rattle.indus_rules.proofs.check.+expr.Given as goal

@@ -1,5 +1,0 @@
-use Rattle.std.proofs.Common.{length}
-use Rattle.indus_scopes.proofs.scope.+item_in.Given as goal
-
-abbrev pub decreases-item_in : goal.decreases-item_in
-decreases-item_in l = length l.names.now
