@@ -8,7 +8,7 @@ use p4_tree::{Expr, Op, PTy, Stmt};
 use std::alloc::{AllocError, Global};
 use std::test::Fail;
 use wire_statements::{
-    Fields, Flow, Run, assign, cells_of, run_stmts, standard_path, value_of, values_of, width,
+    Fields, Flow, Run, assign, cells_of, run_stmts, standard_path, value_of, values_of,
 };
 
 fn byte(value: u128) -> Bits {
@@ -114,7 +114,7 @@ fn fields_are_read_and_written(rt: HostRuntime) -> Result<(), Fail> {
     fields.declare(alloc, &x, byte(9))?;
     let sum = binary(alloc, Op::Add, read(alloc, "x")?, number(1))?;
     let value = value_of(&sum, 0, &fields);
-    assert!(rt; (width(value), value.value) == (8, 10));
+    assert!(rt; (value.width(), value.value) == (8, 10));
     let mut list = Vec::new(alloc);
     list.push(sum)?;
     assert!(rt; values_of(alloc, &list, &fields)?.as_slice() == [byte(10)].as_slice());
