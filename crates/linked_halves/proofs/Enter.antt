@@ -7,11 +7,11 @@ use Rattle.bit_values.specs.Widths.{bit, holds}
 use Rattle.p4_tree.specs.Tree.{assign, next}
 use Rattle.p4_tree.specs.Standard.{standard_root, ingress_port, egress_spec, egress_port, parser_error}
 use Rattle.p4_tree.specs.Store.{Store, shown, zero_of, set_value, set_valid, zeroed, made}
-use Rattle.p4_tree.specs.Statements.{Go, Run, Ended, after, in_store, meaning_of, meaning_of_stmt}
+use Rattle.p4_tree.specs.Statements.{no_calls, Go, Run, Ended, after, in_store, meaning_of, meaning_of_stmt}
 use Rattle.p4_tree.specs.Parsing.{ParserEnd}
-use Rattle.p4_tree.specs.Parts.{Parts}
+use Rattle.p4_tree.specs.Parts.{Parts, whole}
 use Rattle.p4_tree.specs.Pass as pass
-use Rattle.p4_tree.specs.Pass.{Registers, Queued, error_number, store_behind, run_from, is_dropped, unless_dropped, value_kept, without_locals, to_egress, entered_from, parts_enter}
+use Rattle.p4_tree.specs.Pass.{Registers, Queued, error_number, store_behind, run_from, is_dropped, unless_dropped, to_egress, entered_from, parts_enter}
 use Rattle.indus_tree.specs.Tree.{Decl, Property}
 use Rattle.indus_tree.specs.State.{Contents, Held}
 use Rattle.indus_tree.specs.Start.{tele_start}
@@ -30,9 +30,11 @@ use Rattle.linked_halves.specs.Telemetry.{tele_bytes, telemetry_of, IsFitTele}
 use Rattle.linked_halves.specs.Networks.{network_digest, entered_of}
 use Rattle.linked_halves.specs.Relations.{is_report, bare, Alike, IsPort, Others, Monitor, KeptBy, HeldBy}
 use Rattle.linked_halves.proofs.Apart.{readable_free, free_apart, free_above}
-use Rattle.linked_halves.proofs.Own.{set_alike, all_ran}
+use Rattle.linked_halves.proofs.Own.{Ran, stays_then, set_alike, AreAlikeCalls, no_calls_alike, all_ran}
+use Rattle.linked_halves.proofs.ExitRuns.{then_runs, unless_port}
 use Rattle.linked_halves.proofs.Lower.{Stands, assignment, lowers}
 use Rattle.linked_halves.proofs.Fill.{is_in, one_of_is, start_fits, start_is_zero}
+use Rattle.linked_halves.proofs.QueuedStores.{egress_alike, egress_monitor}
 use Rattle.linked_halves.proofs.EnterParse.{Begun, Taken, begun_stays, taken_stays, plain_end, linked_end, edge_parsed, link_parsed}
 pub use Rattle.linked_halves.proofs.EnterParse.{monitor_stays}
 
@@ -70,23 +72,6 @@ behind_taken : (ds : List Decl) (port : ℕ) (t : Held) (y : ParserEnd) → Take
 behind_taken ds port t y h =
     let m = h.monitor in
     record { monitor = record { plain = m.plain; standard = m.standard; valid = m.valid; mark = m.mark; tele = λ x e. m.tele x e; fits = m.fits }; arrived = h.arrived; spec = h.spec }
-
--- the queued stores
-egress_alike : (x y : Store) → Alike (bare x) (bare y) → Alike (bare (to_egress x)) (bare (to_egress y))
-egress_alike x y h =
-    let kept : Alike (bare (without_locals x)) (bare (without_locals y)) = record { values = λ q i. same q i; headers = λ q o. h.headers q o; cells = λ n i. refl; digests = refl } in
-    let u = word 9 (cast 9 (x.values egress_spec).value) in
-    let v = word 9 (cast 9 (y.values egress_spec).value) in
-    let one = set_alike (bare (without_locals x)) (bare (without_locals y)) egress_port u v kept (ap (λ (w : Word). word 9 (cast 9 w.value)) (h.values egress_spec refl)) in
-    set_alike (bare (set_value (without_locals x) egress_port u)) (bare (set_value (without_locals y) egress_port v)) egress_spec (word 9 0) (word 9 0) one refl
-  where
-    same : (q : List (List ℕ)) → is_readable q ≡ true → value_kept y.values q ≡ value_kept x.values q
-    same [] i = refl
-    same (n ∷ []) i = refl
-    same (n ∷ m ∷ rest) i = h.values (n ∷ m ∷ rest) i
-
-egress_monitor : (ds : List Decl) (s : Store) (t : Held) → Monitor ds s t → Monitor ds (to_egress s) t
-egress_monitor ds s t h = record { plain = h.plain; standard = h.standard; valid = h.valid; mark = h.mark; tele = λ x e. h.tele x e; fits = h.fits }
 
 -- the store when the header is made and marked
 abbrev opened : Store → Store
@@ -132,17 +117,18 @@ module _ (f : Parts) (own : IsForwarding f) (p : Property) (small : IsSmall p) (
       }
 
   -- the header is made and marked, and then init runs
-  entry_runs : (port : ℕ) (b : Run) → Begun p.decls port b.store → meaning_of (entry_stmts p) b ≡ meaning_of (lowered_block p.init) (in_store b (opened b.store))
+  entry_runs : (port : ℕ) (b : Run) → Begun p.decls port b.store → meaning_of no_calls (entry_stmts p) b ≡ meaning_of no_calls (lowered_block p.init) (in_store b (opened b.store))
   entry_runs port b h =
       let made_run = in_store b (set_valid (zeroed b.store tele_header) tele_header true) in
-      ap (λ o. meaning_of (next (assign 0 mark_path (number 8 72)) (lowered_block p.init)) (in_store b (made o true b.store tele_header))) h.invalid
-      ∙ ap (λ e. after e.1 e.0 (meaning_of (lowered_block p.init))) (assignment made_run 0 mark_path (number 8 72) (word 8 0) (word 8 72) tt (ap zero_of h.mark) refl)
+      ap (λ o. meaning_of no_calls (next (assign 0 mark_path (number 8 72)) (lowered_block p.init)) (in_store b (made o true b.store tele_header))) h.invalid
+      ∙ ap (λ e. after e.1 e.0 (meaning_of no_calls (lowered_block p.init))) (assignment made_run 0 mark_path (number 8 72) (word 8 0) (word 8 72) refl tt (ap zero_of h.mark) refl)
 
   -- the entry statement's test
-  entry_test : (port : ℕ) (b : Run) → b.store.headers (standard_root ∷ []) ≡ None → b.store.values ingress_port ≡ word 9 port → port < 512 → meaning_of_stmt (entry_stmt p linked_ports) b ≡ (if is_in port linked_ports then (b, Go) else meaning_of (entry_stmts p) b)
+  entry_test : (port : ℕ) (b : Run) → b.store.headers (standard_root ∷ []) ≡ None → b.store.values ingress_port ≡ word 9 port → port < 512 → meaning_of_stmt no_calls (entry_stmt p linked_ports) b ≡ (if is_in port linked_ports then (b, Go) else meaning_of no_calls (entry_stmts p) b)
   entry_test port b s h lt =
-      ap (λ w. if holds (bit (not (holds w))) then meaning_of (entry_stmts p) b else (b, Go)) (one_of_is ingress_port linked_ports b.store port (ap₂ shown s h) lt low)
-      ∙ out (is_in port linked_ports) (meaning_of (entry_stmts p) b) (b, Go)
+      unless_port ingress_port linked_ports (entry_stmts p) b
+      ∙ ap (λ w. if holds (bit (not (holds w))) then meaning_of no_calls (entry_stmts p) b else (b, Go)) (one_of_is ingress_port linked_ports b.store port (ap₂ shown s h) lt low)
+      ∙ out (is_in port linked_ports) (meaning_of no_calls (entry_stmts p) b) (b, Go)
     where
       out : (t : Bool) (x y : Ended) → (if holds (bit (not (holds (bit t)))) then x else y) ≡ (if t then y else x)
       out true x y = refl
@@ -152,13 +138,13 @@ module _ (f : Parts) (own : IsForwarding f) (p : Property) (small : IsSmall p) (
   abbrev init_doing : Reads Contents → (tele sensors : Held) → Doing Held Held
   init_doing r t z = run_of (hop_for p.decls r) p.init (nothing_yet t z)
 
-  entry_edge : (port : ℕ) (r : Reads Contents) (z : Held) (a b : Run) → Alike a b → Begun p.decls port b.store → port < 512 → is_in port linked_ports ≡ false → Opened p.decls a b (meaning_of_stmt (entry_stmt p linked_ports) b) (init_doing r (tele_start p.decls) z)
+  entry_edge : (port : ℕ) (r : Reads Contents) (z : Held) (a b : Run) → Alike a b → Begun p.decls port b.store → port < 512 → is_in port linked_ports ≡ false → Opened p.decls a b (meaning_of_stmt no_calls (entry_stmt p linked_ports) b) (init_doing r (tele_start p.decls) z)
   entry_edge port r z a b h g lt out =
       let c = in_store b (opened b.store) in
       let d : Doing Held Held = nothing_yet (tele_start p.decls) z in
-      let e = meaning_of (lowered_block p.init) c in
+      let e = meaning_of no_calls (lowered_block p.init) c in
       let ran = lowers (hop_for p.decls r) small.decls false p.init c d small.init (opened_stands port b.store z g) in
-      let same : meaning_of_stmt (entry_stmt p linked_ports) b ≡ e = entry_test port b g.standard g.arrived lt ∙ (ap (λ t. if t then (b, Go) else meaning_of (entry_stmts p) b) out ∙ entry_runs port b g) in
+      let same : meaning_of_stmt no_calls (entry_stmt p linked_ports) b ≡ e = entry_test port b g.standard g.arrived lt ∙ (ap (λ t. if t then (b, Go) else meaning_of no_calls (entry_stmts p) b) out ∙ entry_runs port b g) in
       let done : Opened p.decls a b e (init_doing r (tele_start p.decls) z) =
       record {
         alike = others_alike a c e.0 (opened_alike a b h) ran.others;
@@ -171,9 +157,9 @@ module _ (f : Parts) (own : IsForwarding f) (p : Property) (small : IsSmall p) (
       } in
       subst (λ e. Opened p.decls a b e (init_doing r (tele_start p.decls) z)) (sym same) done
 
-  entry_link : (port : ℕ) (t z : Held) (a b : Run) → Alike a b → Taken p.decls port t b.store → port < 512 → is_in port linked_ports ≡ true → Opened p.decls a b (meaning_of_stmt (entry_stmt p linked_ports) b) (nothing_yet t z)
+  entry_link : (port : ℕ) (t z : Held) (a b : Run) → Alike a b → Taken p.decls port t b.store → port < 512 → is_in port linked_ports ≡ true → Opened p.decls a b (meaning_of_stmt no_calls (entry_stmt p linked_ports) b) (nothing_yet t z)
   entry_link port t z a b h g lt at =
-      let same : meaning_of_stmt (entry_stmt p linked_ports) b ≡ (b, Go) = entry_test port b g.monitor.standard g.arrived lt ∙ ap (λ t. if t then (b, Go) else meaning_of (entry_stmts p) b) at in
+      let same : meaning_of_stmt no_calls (entry_stmt p linked_ports) b ≡ (b, Go) = entry_test port b g.monitor.standard g.arrived lt ∙ ap (λ t. if t then (b, Go) else meaning_of no_calls (entry_stmts p) b) at in
       let done : Opened p.decls a b (b, Go) (nothing_yet t z) = record { alike = h; monitor = g.monitor; reports = refl; spec = g.spec; cells = refl; digests = refl; goes = refl } in
       subst (λ e. Opened p.decls a b e (nothing_yet t z)) (sym same) done
 
@@ -182,15 +168,15 @@ module _ (f : Parts) (own : IsForwarding f) (p : Property) (small : IsSmall p) (
   Agrees s first c k d plain linked = EnterAgrees net (law_of p) (telemetry_of p.decls) KeptBy (HeldBy p.decls) (IsFitTele p.decls) s first c k d (entered_of plain) (entered_of linked)
 
   -- both queue the packet, or both drop it
-  both_queued : (s : ℕ) (first : Bool) (t : Held) (x y : Store) (rest rest' : List ℕ) → Alike (bare x) (bare y) → Monitor p.decls y t → rest' ≡ rest → SameQueued (λ q q'. HeldBy p.decls s first q t q') (unless_dropped (is_dropped x) (record { store = to_egress x; rest = rest })) (unless_dropped (is_dropped y) (record { store = to_egress y; rest = rest' }))
+  both_queued : (s : ℕ) (first : Bool) (t : Held) (x y : Store) (rest rest' : List ℕ) → Alike (bare x) (bare y) → Monitor p.decls y t → rest' ≡ rest → SameQueued (λ q q'. HeldBy p.decls s first q t q') (unless_dropped (is_dropped x) (record { store = to_egress f x; rest = rest })) (unless_dropped (is_dropped y) (record { store = to_egress (linked_parts f p linked_ports) y; rest = rest' }))
   both_queued s first t x y rest rest' h m same =
       let drops : is_dropped y ≡ is_dropped x = ap (λ (w : Word). nat_eq w.value 511) (h.values egress_spec refl) in
-      let q : Queued = record { store = to_egress x; rest = rest } in
-      let q' : Queued = record { store = to_egress y; rest = rest' } in
+      let q : Queued = record { store = to_egress f x; rest = rest } in
+      let q' : Queued = record { store = to_egress (linked_parts f p linked_ports) y; rest = rest' } in
       let held : HeldBy p.decls s first q t q' =
       record {
-        alike = egress_alike x y h;
-        monitor = egress_monitor p.decls y t m;
+        alike = egress_alike f p linked_ports x y h;
+        monitor = egress_monitor f p linked_ports y t m;
         rest = same;
         going = record { width = refl; low = omega arith };
         spec = record { width = refl; low = omega arith };
@@ -199,18 +185,29 @@ module _ (f : Parts) (own : IsForwarding f) (p : Property) (small : IsSmall p) (
       λ b. elim b as (λ b. SameQueued (λ q q'. HeldBy p.decls s first q t q') (unless_dropped b q) (unless_dropped b q')) [ true ↦ tt | false ↦ held ] in
       subst (λ b. SameQueued (λ q q'. HeldBy p.decls s first q t q') (unless_dropped (is_dropped x) q) (unless_dropped b q')) (sym drops) (queued (is_dropped x))
 
-  -- behind the entry statement the program's own ingress runs
-  ingress_agrees : (s : ℕ) (first : Bool) (c : ℕ → Contents) (k : ℕ) (d : Doing Held Held) (u v : Run) (rest rest' : List ℕ) → v.cells rejects_register ≡ word 32 (k % 2 ^ 32) ∷ [] → filter is_report v.digests ≡ [] → rest' ≡ rest → Opened p.decls u v (meaning_of_stmt (entry_stmt p linked_ports) v) d → Agrees s first c k d (entered_from f rest u) (entered_from (linked_parts f p linked_ports) rest' v)
-  ingress_agrees s first c k d u v rest rest' count silent same h =
-      let e = meaning_of_stmt (entry_stmt p linked_ports) v in
-      let x = (meaning_of f.ingress u).0 in
-      let y = (meaning_of f.ingress e.0).0 in
-      let ran = all_ran f.ingress u e.0 own.ingress h.alike in
-      let whole : (meaning_of (linked_parts f p linked_ports).ingress v).0 ≡ y = ap (λ g. (after g e.0 (meaning_of f.ingress)).0) h.goes in
-      let reports : filter is_report y.digests ≡ [] = ran.stays.reports ∙ (ap (filter is_report) h.digests ∙ silent) in
-      let done : Agrees s first c k d (pass.entered u.store rest x) (pass.entered v.store rest' y) =
+  -- the run behind ingress's variables
+  abbrev set_up : Run → Run
+  set_up u = (meaning_of no_calls f.ingress.locals u).0
+
+  -- behind the variables and the entry statement the program's own ingress runs
+  ingress_agrees : (s : ℕ) (first : Bool) (c : ℕ → Contents) (k : ℕ) (d : Doing Held Held) (u v : Run) (rest rest' : List ℕ) → v.cells rejects_register ≡ word 32 (k % 2 ^ 32) ∷ [] → filter is_report v.digests ≡ [] → rest' ≡ rest → Ran v (meaning_of no_calls f.ingress.locals u) (meaning_of no_calls f.ingress.locals v) → Opened p.decls (set_up u) (set_up v) (meaning_of_stmt no_calls (entry_stmt p linked_ports) (set_up v)) d → Agrees s first c k d (entered_from f rest u) (entered_from (linked_parts f p linked_ports) rest' v)
+  ingress_agrees s first c k d u v rest rest' count silent same begun h =
+      let e = meaning_of_stmt no_calls (entry_stmt p linked_ports) (set_up v) in
+      let body = f.ingress.body in
+      let x = (meaning_of no_calls body (set_up u)).0 in
+      let y = (meaning_of no_calls body e.0).0 in
+      let ran = all_ran no_calls no_calls no_calls_alike body (set_up u) e.0 own.ingress.body h.alike in
+      let plain_is : (meaning_of no_calls (whole f.ingress) u).0 ≡ x =
+      ap (λ (r : Ended). r.0) (then_runs f.ingress.locals body u) ∙ ap (λ g. (after g (set_up u) (meaning_of no_calls body)).0) begun.goes in
+      let linked_is : (meaning_of no_calls (whole (linked_parts f p linked_ports).ingress) v).0 ≡ y =
+      ap (λ (r : Ended). r.0) (then_runs f.ingress.locals (next (entry_stmt p linked_ports) body) v)
+      ∙ ap (λ g. (after g (set_up v) (meaning_of no_calls (next (entry_stmt p linked_ports) body))).0) begun.goes_on
+      ∙ ap (λ g. (after g e.0 (meaning_of no_calls body)).0) h.goes in
+      let reports : filter is_report y.digests ≡ [] = ran.stays.reports ∙ (ap (filter is_report) h.digests ∙ (begun.stays.reports ∙ silent)) in
+      let rejects : y.cells rejects_register ≡ word 32 (k % 2 ^ 32) ∷ [] = ran.stays.cells rejects_register refl ∙ (ap (λ g. g rejects_register) h.cells ∙ (begun.stays.cells rejects_register refl ∙ count)) in
+      let done : Agrees s first c k d (pass.entered f u.store rest x) (pass.entered (linked_parts f p linked_ports) v.store rest' y) =
       record {
-        kept = record { own = λ n i. ran.alike.cells n i; rejects = ran.stays.cells rejects_register refl ∙ (ap (λ g. g rejects_register) h.cells ∙ count) };
+        kept = record { own = λ n i. ran.alike.cells n i; rejects = rejects };
         queued = both_queued s first d.tele x.store y.store rest rest' (bare_alike x y ran.alike) (monitor_stays p.decls d.tele e.0 y h.monitor ran.stays) same;
         digests =
             record {
@@ -218,7 +215,8 @@ module _ (f : Parts) (own : IsForwarding f) (p : Property) (small : IsSmall p) (
               others = filter-map (λ d. not (linkage.is_report d)) network_digest y.digests ∙ ap (map network_digest) ran.alike.digests;
             };
       } in
-      subst (λ y. Agrees s first c k d (pass.entered u.store rest x) (pass.entered v.store rest' y)) (sym whole) done
+      subst (λ y. Agrees s first c k d (entered_from f rest u) (pass.entered (linked_parts f p linked_ports) v.store rest' y)) (sym linked_is)
+      (subst (λ x. Agrees s first c k d (pass.entered f u.store rest x) (pass.entered (linked_parts f p linked_ports) v.store rest' y)) (sym plain_is) done)
 
   -- a frame by an edge port: init runs
   pub enter_edge : (s port k : ℕ) (a b : Registers) (c : ℕ → Contents) (t z : Held) (frame : List ℕ) (r : Reads Contents) → KeptBy s a z c k b → port < 512 → is_in port linked_ports ≡ false → t ≡ tele_start p.decls → r.first ≡ true → EnterAgrees net (law_of p) (telemetry_of p.decls) KeptBy (HeldBy p.decls) (IsFitTele p.decls) s true c k (entry_part (law_of p) r t z) (entered_of (parts_enter f a port frame)) (entered_of (parts_enter (linked_parts f p linked_ports) b port frame))
@@ -229,11 +227,13 @@ module _ (f : Parts) (own : IsForwarding f) (p : Property) (small : IsSmall p) (
       let h = edge_parsed f own p linked_ports low port frame lt out in
       let u = run_from (store_behind x) a in
       let v = run_from (store_behind y) b in
-      let ran = all_ran f.verify u v own.verify (behind_alike x y a b h.alike h.error kept.own) in
-      let u' = (meaning_of f.verify u).0 in
-      let v' = (meaning_of f.verify v).0 in
+      let ran = all_ran no_calls no_calls no_calls_alike f.verify u v own.verify (behind_alike x y a b h.alike h.error kept.own) in
+      let u' = (meaning_of no_calls f.verify u).0 in
+      let v' = (meaning_of no_calls f.verify v).0 in
       let g = begun_stays p.decls port v v' (behind_begun p.decls port y h.fact) ran.stays in
-      let done = ingress_agrees s true c k (init_doing r (tele_start p.decls) z) u' v' x.reading.rest y.reading.rest (ran.stays.cells rejects_register refl ∙ kept.rejects) ran.stays.reports h.rest (entry_edge port r z u' v' ran.alike g lt out) in
+      let vars = all_ran no_calls no_calls no_calls_alike f.ingress.locals u' v' own.ingress.locals ran.alike in
+      let g' = begun_stays p.decls port v' (set_up v') g vars.stays in
+      let done = ingress_agrees s true c k (init_doing r (tele_start p.decls) z) u' v' x.reading.rest y.reading.rest (ran.stays.cells rejects_register refl ∙ kept.rejects) ran.stays.reports h.rest vars (entry_edge port r z (set_up u') (set_up v') vars.alike g' lt out) in
       subst (λ b'. Agrees s true c k (if b' then init_doing r t z else nothing_yet t z) (parts_enter f a port frame) (parts_enter (linked_parts f p linked_ports) b port frame)) (sym first)
       (subst (λ t. Agrees s true c k (init_doing r t z) (parts_enter f a port frame) (parts_enter (linked_parts f p linked_ports) b port frame)) (sym start) done)
 
@@ -246,9 +246,11 @@ module _ (f : Parts) (own : IsForwarding f) (p : Property) (small : IsSmall p) (
       let h = link_parsed f own p linked_ports low port frame t lt at fits in
       let u = run_from (store_behind x) a in
       let v = run_from (store_behind y) b in
-      let ran = all_ran f.verify u v own.verify (behind_alike x y a b h.alike h.error kept.own) in
-      let u' = (meaning_of f.verify u).0 in
-      let v' = (meaning_of f.verify v).0 in
+      let ran = all_ran no_calls no_calls no_calls_alike f.verify u v own.verify (behind_alike x y a b h.alike h.error kept.own) in
+      let u' = (meaning_of no_calls f.verify u).0 in
+      let v' = (meaning_of no_calls f.verify v).0 in
       let g = taken_stays p.decls port t v v' (behind_taken p.decls port t y h.fact) ran.stays in
-      let done = ingress_agrees s false c k (nothing_yet t z) u' v' x.reading.rest y.reading.rest (ran.stays.cells rejects_register refl ∙ kept.rejects) ran.stays.reports h.rest (entry_link port t z u' v' ran.alike g lt at) in
+      let vars = all_ran no_calls no_calls no_calls_alike f.ingress.locals u' v' own.ingress.locals ran.alike in
+      let g' = taken_stays p.decls port t v' (set_up v') g vars.stays in
+      let done = ingress_agrees s false c k (nothing_yet t z) u' v' x.reading.rest y.reading.rest (ran.stays.cells rejects_register refl ∙ kept.rejects) ran.stays.reports h.rest vars (entry_link port t z (set_up u') (set_up v') vars.alike g' lt at) in
       subst (λ b'. Agrees s false c k (if b' then init_doing r t z else nothing_yet t z) (parts_enter f a port frame) (parts_enter (linked_parts f p linked_ports) b port (tele_bytes p.decls t ++ frame))) (sym first) done

@@ -15,24 +15,26 @@ use Rattle.p4_tree.specs.Tree.{to, ParserState}
 use Rattle.p4_tree.specs.Standard.{metadata_root, standard_root, ingress_port, egress_spec, egress_port, packet_length, checksum_error, parser_error}
 use Rattle.p4_tree.specs.Store.{Store, blank, shown, set_value, set_valid}
 use Rattle.p4_tree.specs.Statements.{Run}
-use Rattle.p4_tree.specs.Parsing.{Field, Header, PacketTooShort, Reading, goes_on, stops, width_sum, with_valid, fields_taken, extracted, unless_stopped, chosen, ParserEnd, leads, led, turned, first_fit, in_state, one_turn, on_turned, turns_of, parse_of}
+use Rattle.p4_tree.specs.Parsing.{Field, Header, PacketTooShort, Reading, goes_on, stops, width_sum, with_valid, fields_taken, extracted, unless_stopped, chosen, ParserEnd, leads, led, turned, first_fit, body_parsed, on_turned, turns_of, parse_of}
 use Rattle.p4_tree.specs.Parts.{Parts}
+use Rattle.p4_tree.specs.Bytes.{words_bits}
 use Rattle.p4_tree.specs.Pass.{zero_fields, no_headers, with_standard, store_before}
 use Rattle.indus_tree.specs.Tree.{Decl, Property}
 use Rattle.indus_tree.specs.Names.{is_declared}
 use Rattle.linked_halves.specs.Monitor.{tele_header, mark_path, tele_path}
-use Rattle.linked_halves.specs.ParserStates.{link_cases}
+use Rattle.linked_halves.specs.ParserStates.{link_cases, first_state, taken_state}
 use Rattle.linked_halves.specs.Regions.{is_mine, is_readable, is_writable, is_own_header}
 use Rattle.linked_halves.specs.Forwarding.{IsForwarding}
 use Rattle.linked_halves.specs.LinkedParts.{tele_fields, telemetry, own_name, renamed_state, linked_states, linked_parts}
 use Rattle.indus_tree.specs.State.{Held}
-use Rattle.linked_halves.specs.Telemetry.{tele_words, words_bits, tele_bytes, IsFitTele}
+use Rattle.linked_halves.specs.Telemetry.{tele_words, tele_bytes, IsFitTele}
 use Rattle.linked_halves.specs.Relations.{bare, Alike, Stays, IsPort, Monitor}
-use Rattle.linked_halves.proofs.Apart.{text_decides, not_both, apart, readable_free, free_apart, field_writable, field_spec, metadata_writable, metadata_spec}
+use Rattle.linked_halves.proofs.Apart.{apart, apart_names, readable_free, free_apart, field_writable, field_spec, metadata_writable, metadata_spec}
 use Rattle.linked_halves.proofs.Own.{stays_same, stays_then, set_alike, set_stays, keeps_other, valid_ran}
 use Rattle.linked_halves.proofs.Bits.{length-words, reading_at, words_taken, bits_of_bytes}
 use Rattle.linked_halves.proofs.Fill.{tele_fill, fill_headers, fill_other, free_other, fill_got, zero_tele, zero_is, tele_for, tele_whole, is_in, case_is}
-use Rattle.linked_halves.proofs.Parse.{runs_both}
+use Rattle.linked_halves.proofs.Parse.{runs_both, passed_over}
+use Rattle.p4_tree.proofs.Turns.{one_turn_more}
 
 -- the linked store of a frame that came by an edge port, before the telemetry header is made
 pub record Begun (ds : List Decl) (port : ℕ) (s : Store) : Type 0 where
@@ -226,7 +228,7 @@ module _ (f : Parts) (own : IsForwarding f) (p : Property) (linked_ports : List 
       }
 
   -- the first state leads on by the port of arrival
-  first_turn : (port : ℕ) (y : Reading) → Begun p.decls port y.store → port < 512 → one_turn linked_headers states (codes "start") y ≡ leads (if is_in port linked_ports then codes "hydra_taken" else codes "hydra_start") y
+  first_turn : (port : ℕ) (y : Reading) → Begun p.decls port y.store → port < 512 → turned (goes_on y) (first_state linked_ports).next ≡ leads (if is_in port linked_ports then codes "hydra_taken" else codes "hydra_start") y
   first_turn port y h lt =
       ap (λ w. led (chosen (first_fit (link_cases linked_ports) (w ∷ []) y.store)) y) (ap₂ shown h.standard h.arrived)
       ∙ ap (λ o. led (chosen o) y) (case_is linked_ports y.store port lt low)
@@ -235,7 +237,7 @@ module _ (f : Parts) (own : IsForwarding f) (p : Property) (linked_ports : List 
   taken_store t s = set_valid (tele_fill p.decls t (set_value s mark_path (word 8 72))) tele_header true
 
   -- the second takes the telemetry
-  second_turn : (t : Held) (s : Store) (rest : List ℕ) → IsFitTele p.decls t → one_turn linked_headers states (codes "hydra_taken") (reading_at s (words_bits (tele_words p.decls t) ++ rest)) ≡ leads (codes "hydra_start") (reading_at (taken_store t s) rest)
+  second_turn : (t : Held) (s : Store) (rest : List ℕ) → IsFitTele p.decls t → turned (body_parsed linked_headers taken_state.body (reading_at s (words_bits (tele_words p.decls t) ++ rest))) taken_state.next ≡ leads (codes "hydra_start") (reading_at (taken_store t s) rest)
   second_turn t s rest fits =
       let bits = words_bits (tele_words p.decls t) in
       let y = reading_at s (bits ++ rest) in
@@ -249,28 +251,13 @@ module _ (f : Parts) (own : IsForwarding f) (p : Property) (linked_ports : List 
       ∙ ap (λ v. goes_on (with_valid tele_header v)) (words_taken tele_header fields (tele_words p.decls t) s rest (tele_for p.decls t fits)) in
       ap (λ r. turned (unless_stopped r (λ v. goes_on v)) (to 0 (codes "hydra_start"))) got
 
-  -- the program's own states do not lead to the monitor's two
-  skips : (n : List ℕ) (y : Reading) → is_mine n ≡ false → in_state linked_headers states (own_name n) y ≡ in_state linked_headers (map renamed_state f.states) (own_name n) y
-  skips n y i = go (same_text n (codes "start")) refl
+  -- no own state leads to the second
+  not_taken : (n : List ℕ) → is_mine n ≡ false → same_text taken_state.name (own_name n) ≡ false
+  not_taken n i = go (same_text n (codes "start")) refl
     where
-      other : (m : List ℕ) → same_text (codes "start") m ≡ false → same_text (codes "hydra_taken") m ≡ false → in_state linked_headers states m y ≡ in_state linked_headers (map renamed_state f.states) m y
-      other m a b = rw (a, b)
-
-      not_start : (b : Bool) → same_text (codes "start") n ≡ b → same_text n (codes "start") ≡ false → same_text (codes "start") n ≡ false
-      not_start true e o = not_both ((text_decides n (codes "start")).1 (sym ((text_decides (codes "start") n).0 e))) o
-      not_start false e o = e
-
-      not_taken : (b : Bool) → same_text (codes "hydra_taken") n ≡ b → same_text (codes "hydra_taken") n ≡ false
-      not_taken true e = let is : true ≡ is_mine n = ap is_mine ((text_decides (codes "hydra_taken") n).0 e) in not_both (sym is) i
-      not_taken false e = e
-
-      go : (b : Bool) → same_text n (codes "start") ≡ b → in_state linked_headers states (own_name n) y ≡ in_state linked_headers (map renamed_state f.states) (own_name n) y
-      go true e =
-          let same : own_name n ≡ codes "hydra_start" = ap (λ b. cond b (codes "hydra_start") n) e in
-          subst (λ m. in_state linked_headers states m y ≡ in_state linked_headers (map renamed_state f.states) m y) (sym same) (other (codes "hydra_start") refl refl)
-      go false e =
-          let same : own_name n ≡ n = ap (λ b. cond b (codes "hydra_start") n) e in
-          subst (λ m. in_state linked_headers states m y ≡ in_state linked_headers (map renamed_state f.states) m y) (sym same) (other n (not_start (same_text (codes "start") n) refl e) (not_taken (same_text (codes "hydra_taken") n) refl))
+      go : (b : Bool) → same_text n (codes "start") ≡ b → same_text (codes "hydra_taken") (own_name n) ≡ false
+      go true e = ap (λ b. same_text (codes "hydra_taken") (cond b (codes "hydra_start") n)) e
+      go false e = ap (λ b. same_text (codes "hydra_taken") (cond b (codes "hydra_start") n)) e ∙ apart_names is_mine (codes "hydra_taken") n refl i
 
   -- how the two parsers end on the bits of a frame of a length
   abbrev pub plain_end : (port : ℕ) → List ℕ → ParserEnd
@@ -288,15 +275,18 @@ module _ (f : Parts) (own : IsForwarding f) (p : Property) (linked_ports : List 
       let x = reading_at (plain_before port (length frame)) (bits_of frame) in
       let y = reading_at (linked_before port (length frame)) (bits_of frame) in
       let turns = suc (suc (length f.states)) in
+      let own_states = map renamed_state f.states in
       let b = before_begun port (length frame) lt in
-      let same = runs_both p.decls f.headers own.headers f.states own.states states skips turns (codes "start") x y refl (before_alike port (length frame) (length frame)) refl in
-      let linked_is : linked_end port frame ≡ turns_of turns linked_headers states (codes "hydra_start") y =
-      ap (λ r. on_turned r (turns_of (length states) linked_headers states)) (first_turn port y b lt)
-      ∙ ap (λ i. turns_of (length states) linked_headers states (if i then codes "hydra_taken" else codes "hydra_start") y) out
-      ∙ ap (λ k. turns_of k linked_headers states (codes "hydra_start") y) more in
-      let done : Behind (Begun p.decls port) (turns_of turns f.headers f.states (codes "start") x) (turns_of turns linked_headers states (codes "hydra_start") y) =
-      record { alike = same.took.alike; fact = begun_stays p.decls port (bare y.store) (bare (turns_of turns linked_headers states (codes "hydra_start") y).reading.store) b same.took.stays; rest = same.took.rest; error = same.error } in
-      subst (λ v. Behind (Begun p.decls port) (plain_end port frame) v) (sym linked_is) (subst (λ u. Behind (Begun p.decls port) u (turns_of turns linked_headers states (codes "hydra_start") y)) (own.settles (codes "start") x) done)
+      let same = runs_both p.decls f.headers own.headers turns f.states (codes "start") x y own.states refl (before_alike port (length frame) (length frame)) refl in
+      let linked_is : linked_end port frame ≡ turns_of turns linked_headers own_states (codes "hydra_start") y =
+      ap (λ r. on_turned r (turns_of (length states) linked_headers (taken_state ∷ own_states))) (first_turn port y b lt)
+      ∙ ap (λ i. turns_of (length states) linked_headers (taken_state ∷ own_states) (if i then codes "hydra_taken" else codes "hydra_start") y) out
+      ∙ ap (λ k. turns_of k linked_headers (taken_state ∷ own_states) (codes "hydra_start") y) more
+      ∙ passed_over p.decls f.headers own.headers taken_state not_taken turns f.states (codes "start") y own.states refl in
+      let done : Behind (Begun p.decls port) (turns_of turns f.headers f.states (codes "start") x) (turns_of turns linked_headers own_states (codes "hydra_start") y) =
+      record { alike = same.took.alike; fact = begun_stays p.decls port (bare y.store) (bare (turns_of turns linked_headers own_states (codes "hydra_start") y).reading.store) b same.took.stays; rest = same.took.rest; error = same.error } in
+      subst (λ v. Behind (Begun p.decls port) (plain_end port frame) v) (sym linked_is)
+      (subst (λ u. Behind (Begun p.decls port) u (turns_of turns linked_headers own_states (codes "hydra_start") y)) (one_turn_more f.headers (suc (length f.states)) f.states (codes "start") x (omega arith)) done)
 
   -- what the telemetry's bytes make of the store, and that it is alike still
   taken_begun : (port : ℕ) (t : Held) (s : Store) → Begun p.decls port s → IsFitTele p.decls t → Taken p.decls port t (taken_store t s)
@@ -339,13 +329,14 @@ module _ (f : Parts) (own : IsForwarding f) (p : Property) (linked_ports : List 
       let turns = suc (length f.states) in
       let b = before_begun port n lt in
       let split : bits_of (tele_bytes p.decls t ++ frame) ≡ bits ++ bits_of frame = bits_of-append (tele_bytes p.decls t) frame ∙ ap (λ l. l ++ bits_of frame) (bits_of_bytes bits (tele_whole p.decls t fits)) in
-      let same = runs_both p.decls f.headers own.headers f.states own.states states skips turns (codes "start") x z refl (taken_alike t x.store s (before_alike port (length frame) n)) refl in
-      let linked_is : linked_end port (tele_bytes p.decls t ++ frame) ≡ turns_of turns linked_headers states (codes "hydra_start") z =
+      let own_states = map renamed_state f.states in
+      let same = runs_both p.decls f.headers own.headers turns f.states (codes "start") x z own.states refl (taken_alike t x.store s (before_alike port (length frame) n)) refl in
+      let linked_is : linked_end port (tele_bytes p.decls t ++ frame) ≡ turns_of turns linked_headers own_states (codes "hydra_start") z =
       ap (λ l. turns_of (suc (length states)) linked_headers states (codes "start") (reading_at s l)) split
-      ∙ ap (λ r. on_turned r (turns_of (length states) linked_headers states)) (first_turn port y b lt)
-      ∙ ap (λ i. turns_of (length states) linked_headers states (if i then codes "hydra_taken" else codes "hydra_start") y) at
-      ∙ ap (λ k. turns_of k linked_headers states (codes "hydra_taken") y) more
-      ∙ ap (λ r. on_turned r (turns_of turns linked_headers states)) (second_turn t s (bits_of frame) fits) in
-      let done : Behind (Taken p.decls port t) (plain_end port frame) (turns_of turns linked_headers states (codes "hydra_start") z) =
-      record { alike = same.took.alike; fact = taken_stays p.decls port t (bare z.store) (bare (turns_of turns linked_headers states (codes "hydra_start") z).reading.store) (taken_begun port t s b fits) same.took.stays; rest = same.took.rest; error = same.error } in
+      ∙ ap (λ r. on_turned r (turns_of (length states) linked_headers (taken_state ∷ own_states))) (first_turn port y b lt)
+      ∙ ap (λ i. turns_of (length states) linked_headers (taken_state ∷ own_states) (if i then codes "hydra_taken" else codes "hydra_start") y) at
+      ∙ ap (λ k. turns_of k linked_headers (taken_state ∷ own_states) (codes "hydra_taken") y) more
+      ∙ ap (λ r. on_turned r (turns_of turns linked_headers own_states)) (second_turn t s (bits_of frame) fits) in
+      let done : Behind (Taken p.decls port t) (plain_end port frame) (turns_of turns linked_headers own_states (codes "hydra_start") z) =
+      record { alike = same.took.alike; fact = taken_stays p.decls port t (bare z.store) (bare (turns_of turns linked_headers own_states (codes "hydra_start") z).reading.store) (taken_begun port t s b fits) same.took.stays; rest = same.took.rest; error = same.error } in
       subst (λ v. Behind (Taken p.decls port t) (plain_end port frame) v) (sym linked_is) done

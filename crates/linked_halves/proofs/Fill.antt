@@ -11,8 +11,9 @@ use Rattle.lex_text.specs.Names.{same_text, same_path}
 use Rattle.p4_tree.specs.Tree.{path, binary}
 use Rattle.p4_tree.specs.Store.{Store, read, set_value}
 use Rattle.p4_tree.specs.Value.{value_of}
-use Rattle.p4_tree.specs.Parsing.{first_fit, bytes_of}
+use Rattle.p4_tree.specs.Parsing.{first_fit}
 use Rattle.p4_tree.specs.Pass.{zero_fields}
+use Rattle.p4_tree.specs.Bytes.{words_bits, bytes_of}
 use Rattle.p4_tree.specs.declared.statement.Op.TheVariants.{Equal}
 use Rattle.indus_tree.specs.Tree.{Decl}
 use Rattle.indus_tree.specs.State.{Held, lookup}
@@ -24,7 +25,7 @@ use Rattle.linked_halves.specs.Monitor.{number, tele_header, tele_path, mark_pat
 use Rattle.linked_halves.specs.ParserStates.{link_cases}
 use Rattle.linked_halves.specs.Regions.{is_free}
 use Rattle.linked_halves.specs.LinkedParts.{tele_field, tele_fields}
-use Rattle.linked_halves.specs.Telemetry.{tele_word, tele_words, words_bits, tele_bytes, IsByteCell, IsFitTele}
+use Rattle.linked_halves.specs.Telemetry.{tele_word, tele_words, tele_bytes, IsByteCell, IsFitTele}
 use Rattle.linked_halves.proofs.Apart.{text_decides, apart, not_both}
 use Rattle.linked_halves.proofs.Bits.{AreFor, fill, HasWords, IsWhole, whole_byte}
 

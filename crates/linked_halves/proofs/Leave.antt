@@ -7,13 +7,14 @@ use Rattle.std.specs.Prelude.{if◌then◌else◌, nat_eq}
 use Rattle.std.specs.List.{filter, AllByRecursion}
 use Rattle.std.proofs.Math.Nat.{mod-eq_of_lt}
 use Rattle.bit_values.specs.Bits.{Word, word, cast}
-use Rattle.p4_tree.specs.Tree.{done, next}
+use Rattle.p4_tree.specs.Tree.{Stmts, done, next, and_then}
 use Rattle.p4_tree.specs.Standard.{egress_spec, egress_port}
 use Rattle.p4_tree.specs.Statements as p4
-use Rattle.p4_tree.specs.Statements.{Run, Ended, after, meaning_of_stmt, meaning_of}
-use Rattle.p4_tree.specs.Parsing.{fields_bits, if_valid, deparse_of, bytes_of}
-use Rattle.p4_tree.specs.Parts.{Parts}
+use Rattle.p4_tree.specs.Statements.{no_calls, Run, Ended, after, meaning_of_stmt, meaning_of}
+use Rattle.p4_tree.specs.Parsing.{fields_bits, if_valid, deparse_of}
+use Rattle.p4_tree.specs.Parts.{Parts, whole}
 use Rattle.p4_tree.specs.Pass as pass
+use Rattle.p4_tree.specs.Bytes.{words_bits, bytes_of}
 use Rattle.p4_tree.specs.Pass.{Registers, Queued, run_from, is_dropped, unless_dropped, left_behind, parts_leave}
 use Rattle.indus_tree.specs.Tree.{Property}
 use Rattle.indus_tree.specs.State.{Contents, Held}
@@ -27,13 +28,13 @@ use Rattle.linkage.specs.Linkage as law
 use Rattle.linkage.specs.HalvesLaws.{carried, SameDigests, SameGoing, DropAgrees, GoAgrees, LeaveAgrees}
 use Rattle.linked_halves.specs.Monitor.{tele_header, rejected_name, rejects_register, lowered_block, end_stmts, check_stmts, exit_stmts, exit_stmt}
 use Rattle.linked_halves.specs.Regions.{is_mine}
-use Rattle.linked_halves.specs.Forwarding.{IsForwarding}
+use Rattle.linked_halves.specs.Forwarding.{AreOwnStmts, IsForwarding}
 use Rattle.linked_halves.specs.LinkedParts.{tele_fields, linked_parts}
-use Rattle.linked_halves.specs.Telemetry.{tele_words, words_bits, tele_bytes, telemetry_of, IsFitTele}
+use Rattle.linked_halves.specs.Telemetry.{tele_words, tele_bytes, telemetry_of, IsFitTele}
 use Rattle.linked_halves.specs.Networks.{network_digest, going_of, leaving_of}
 use Rattle.linked_halves.specs.Relations.{is_report, bare, Alike, IsPort, Others, Monitor, KeptBy, HeldBy}
 use Rattle.linked_halves.proofs.Apart.{readable_free, apart_names, free_apart}
-use Rattle.linked_halves.proofs.Own.{Ran, all_ran}
+use Rattle.linked_halves.proofs.Own.{Ran, no_calls_alike, all_ran}
 use Rattle.linked_halves.proofs.Lower.{others_then, others_set, Lowered}
 use Rattle.linked_halves.proofs.Bits.{words_written, bytes_of-append}
 use Rattle.linked_halves.proofs.Fill.{tele_for, tele_has, tele_whole, is_in}
@@ -41,6 +42,15 @@ use Rattle.linked_halves.proofs.Parse.{deparsed_same}
 use Rattle.linked_halves.proofs.EnterParse.{monitor_stays}
 use Rattle.linked_halves.proofs.ExitRuns.{last_run, run_unless, raised, counted, closed, flagged, unflagged, updated, telemetry_part, exit_test, check_test, telemetry_runs, exit_runs, flag_stands, check_runs, end_runs}
 pub use Rattle.linked_halves.proofs.ExitRuns.{then_runs}
+
+-- own statements behind own statements
+own_then : (x y : Stmts) → AreOwnStmts x → AreOwnStmts y → AreOwnStmts (and_then x y)
+own_then done y h k = k
+own_then (next s ss) y h k = (h.0, own_then ss y h.1 k)
+
+then_then : (x y z : Stmts) → and_then x (and_then y z) ≡ and_then (and_then x y) z
+then_then done y z = refl
+then_then (next s ss) y z = ap (next s) (then_then ss y z)
 
 -- a program's digests that are reports, and the others, as the network takes them
 reports_told : (ds : List p4.Digest) → filter law.is_report (map network_digest ds) ≡ map network_digest (filter is_report ds)
@@ -98,14 +108,14 @@ module _ (f : Parts) (own : IsForwarding f) (p : Property) (small : IsSmall p) (
 
   -- behind compute checksum, which sees the store alone and is the same in both programs
   abbrev computed : Run → Run
-  computed r = (meaning_of f.compute (bare r.store)).0
+  computed r = (meaning_of no_calls f.compute (bare r.store)).0
 
   -- the frame that leaves where egress ended in this run
   abbrev frame_of : Parts → List ℕ → Run → List ℕ
   frame_of parts rest r = bytes_from parts rest (computed r)
 
-  compute_ran : (a b : Run) → Alike a b → Ran (bare b.store) (meaning_of f.compute (bare a.store)) (meaning_of f.compute (bare b.store))
-  compute_ran a b h = all_ran f.compute (bare a.store) (bare b.store) own.compute (record { values = λ q i. h.values q i; headers = λ q i. h.headers q i; cells = λ x i. refl; digests = refl })
+  compute_ran : (a b : Run) → Alike a b → Ran (bare b.store) (meaning_of no_calls f.compute (bare a.store)) (meaning_of no_calls f.compute (bare b.store))
+  compute_ran a b h = all_ran no_calls no_calls no_calls_alike f.compute (bare a.store) (bare b.store) own.compute (record { values = λ q i. h.values q i; headers = λ q i. h.headers q i; cells = λ x i. refl; digests = refl })
 
   frame_with : (a b : Run) (t : Held) (rest : List ℕ) → Alike a b → Monitor p.decls b.store t → frame_of (linked_parts f p linked_ports) rest b ≡ tele_bytes p.decls t ++ frame_of f rest a
   frame_with a b t rest h m =
@@ -121,16 +131,16 @@ module _ (f : Parts) (own : IsForwarding f) (p : Property) (small : IsSmall p) (
   module _ (net : Wiring) (s k : ℕ) (first : Bool) (c : ℕ → Contents) (wired : (port : ℕ) → is_in port linked_ports ≡ not (at_edge net s port)) (a b : Registers) (t z : Held) (q q' : Queued) (kept : KeptBy s a z c k b) (held : HeldBy p.decls s first q t q') where
     -- behind egress: in the forwarding program, in the linked one the own part alone, and all of it
     abbrev plain_run : Run
-    plain_run = (meaning_of f.egress (run_from q.store a)).0
+    plain_run = (meaning_of no_calls (whole f.egress) (run_from q.store a)).0
 
     abbrev own_run : Run
-    own_run = (meaning_of f.egress (run_from q'.store b)).0
+    own_run = (meaning_of no_calls (whole f.egress) (run_from q'.store b)).0
 
     abbrev whole_run : Run
-    whole_run = (meaning_of (linked_parts f p linked_ports).egress (run_from q'.store b)).0
+    whole_run = (meaning_of no_calls (whole (linked_parts f p linked_ports).egress) (run_from q'.store b)).0
 
-    ran : Ran (run_from q'.store b) (meaning_of f.egress (run_from q.store a)) (meaning_of f.egress (run_from q'.store b))
-    ran = all_ran f.egress (run_from q.store a) (run_from q'.store b) own.egress (record { values = λ x i. held.alike.values x i; headers = λ x o. held.alike.headers x o; cells = kept.own; digests = refl })
+    ran : Ran (run_from q'.store b) (meaning_of no_calls (whole f.egress) (run_from q.store a)) (meaning_of no_calls (whole f.egress) (run_from q'.store b))
+    ran = all_ran no_calls no_calls no_calls_alike (whole f.egress) (run_from q.store a) (run_from q'.store b) (own_then f.egress.locals f.egress.body own.egress.locals own.egress.body) (record { values = λ x i. held.alike.values x i; headers = λ x o. held.alike.headers x o; cells = kept.own; digests = refl })
 
     monitor : Monitor p.decls own_run.store t
     monitor = monitor_stays p.decls t (run_from q'.store b) own_run held.monitor ran.stays
@@ -150,13 +160,14 @@ module _ (f : Parts) (own : IsForwarding f) (p : Property) (small : IsSmall p) (
     own_rejects : own_run.cells rejects_register ≡ word 32 (k % 2 ^ 32) ∷ []
     own_rejects = ran.stays.cells rejects_register refl ∙ kept.rejects
 
-    whole_is : whole_run ≡ (if is_dropped own_run.store then own_run else (meaning_of (exit_stmts p linked_ports) own_run).0)
+    whole_is : whole_run ≡ (if is_dropped own_run.store then own_run else (meaning_of no_calls (exit_stmts p linked_ports) own_run).0)
     whole_is =
         let tail = next (exit_stmt p linked_ports) done in
-        ap (λ (e : Ended). e.0) (then_runs f.egress tail (run_from q'.store b) ∙ ap (λ g. after g own_run (meaning_of tail)) ran.goes_on)
-        ∙ last_run (meaning_of_stmt (exit_stmt p linked_ports) own_run)
+        ap (λ ss. (meaning_of no_calls ss (run_from q'.store b)).0) (then_then f.egress.locals f.egress.body tail)
+        ∙ ap (λ (e : Ended). e.0) (then_runs (whole f.egress) tail (run_from q'.store b) ∙ ap (λ g. after g own_run (meaning_of no_calls tail)) ran.goes_on)
+        ∙ last_run (meaning_of_stmt no_calls (exit_stmt p linked_ports) own_run)
         ∙ ap (λ (e : Ended). e.0) (exit_test p small linked_ports low own_run monitor.standard (ran.stays.spec held.spec))
-        ∙ run_unless (is_dropped own_run.store) own_run (meaning_of (exit_stmts p linked_ports) own_run)
+        ∙ run_unless (is_dropped own_run.store) own_run (meaning_of no_calls (exit_stmts p linked_ports) own_run)
 
     -- what is sent where egress ended so
     abbrev plain_leaving : Leaving Registers
@@ -181,7 +192,7 @@ module _ (f : Parts) (own : IsForwarding f) (p : Property) (small : IsSmall p) (
     drops : is_dropped plain_run.store ≡ true → Drops whole_run
     drops e =
         let dropped : is_dropped own_run.store ≡ true = same_drop ∙ e in
-        let same : whole_run ≡ own_run = whole_is ∙ ap (λ d. if d then own_run else (meaning_of (exit_stmts p linked_ports) own_run).0) dropped in
+        let same : whole_run ≡ own_run = whole_is ∙ ap (λ d. if d then own_run else (meaning_of no_calls (exit_stmts p linked_ports) own_run).0) dropped in
         let all : Drops own_run =
         record {
           kept = record { own = λ x i. ran.alike.cells x i; rejects = own_rejects };
@@ -213,29 +224,29 @@ module _ (f : Parts) (own : IsForwarding f) (p : Property) (small : IsSmall p) (
       abbrev told : Run
       told = updated p own_run
 
-      told_by : (last : Bool) → Lowered p.decls false own_run (meaning_of (lowered_block p.tele) own_run) (telemetry_part p (reads last) t z)
+      told_by : (last : Bool) → Lowered p.decls false own_run (meaning_of no_calls (lowered_block p.tele) own_run) (telemetry_part p (reads last) t z)
       told_by last = telemetry_runs p small linked_ports low (reads last) own_run t z monitor
 
       told_port : told.store.values egress_port ≡ own_run.store.values egress_port
       told_port = (told_by true).others.values egress_port refl
 
-      whole_told : whole_run ≡ (if is_in going.port linked_ports then told else (meaning_of (check_stmts p) told).0)
+      whole_told : whole_run ≡ (if is_in going.port linked_ports then told else (meaning_of no_calls (check_stmts p) told).0)
       whole_told =
           let n = (own_run.store.values egress_port).value in
           let word_is : told.store.values egress_port ≡ word 9 n = told_port ∙ ap (λ w. word w n) own_port.width in
           let same : n ≡ going.port = sym (mod-eq_of_lt own_port.low) ∙ ap (λ (w : Word). cast 9 w.value) same_port in
           whole_is
-          ∙ ap (λ d. if d then own_run else (meaning_of (exit_stmts p linked_ports) own_run).0) (same_drop ∙ undropped)
+          ∙ ap (λ d. if d then own_run else (meaning_of no_calls (exit_stmts p linked_ports) own_run).0) (same_drop ∙ undropped)
           ∙ exit_runs p small linked_ports low (reads true) own_run t z monitor
           ∙ ap (λ (e : Ended). e.0) (check_test p small linked_ports low told n (told_by true).stands.monitor.standard word_is own_port.low)
-          ∙ run_unless (is_in n linked_ports) told (meaning_of (check_stmts p) told)
-          ∙ ap (λ n. if is_in n linked_ports then told else (meaning_of (check_stmts p) told).0) same
+          ∙ run_unless (is_in n linked_ports) told (meaning_of no_calls (check_stmts p) told)
+          ∙ ap (λ n. if is_in n linked_ports then told else (meaning_of no_calls (check_stmts p) told).0) same
 
       -- onto a link
       goes_link : is_in going.port linked_ports ≡ true → Agrees false (part false) whole_run
       goes_link at =
           let h = told_by false in
-          let same : whole_run ≡ told = whole_told ∙ ap (λ d. if d then told else (meaning_of (check_stmts p) told).0) at in
+          let same : whole_run ≡ told = whole_told ∙ ap (λ d. if d then told else (meaning_of no_calls (check_stmts p) told).0) at in
           let alike = alike_others plain_run own_run told ran.alike h.others in
           let frame = ap (λ l. frame_of (linked_parts f p linked_ports) l told) held.rest ∙ frame_with plain_run told (part false).tele q.rest alike h.stands.monitor in
           let all : Agrees false (part false) told =
@@ -252,9 +263,9 @@ module _ (f : Parts) (own : IsForwarding f) (p : Property) (small : IsSmall p) (
       verdict = run_of (hop_for p.decls (reads true)) p.check (unflagged (telemetry_part p (reads true) t z))
 
       abbrev checked : Run
-      checked = (meaning_of (lowered_block p.check) (flagged told)).0
+      checked = (meaning_of no_calls (lowered_block p.check) (flagged told)).0
 
-      checked_by : Lowered p.decls true (flagged told) (meaning_of (lowered_block p.check) (flagged told)) verdict
+      checked_by : Lowered p.decls true (flagged told) (meaning_of no_calls (lowered_block p.check) (flagged told)) verdict
       checked_by = check_runs p small linked_ports low (reads true) (flagged told) (unflagged (telemetry_part p (reads true) t z)) (flag_stands p small linked_ports low told (telemetry_part p (reads true) t z) (told_by true).stands)
 
       checked_others : Others own_run checked
@@ -275,8 +286,8 @@ module _ (f : Parts) (own : IsForwarding f) (p : Property) (small : IsSmall p) (
       whole_checked : is_in going.port linked_ports ≡ false → whole_run ≡ (if verdict.rejected then counted (closed checked) (k % 2 ^ 32) else closed checked)
       whole_checked at =
           whole_told
-          ∙ ap (λ d. if d then told else (meaning_of (check_stmts p) told).0) at
-          ∙ ap (λ (e : Ended). e.0) (then_runs (lowered_block p.check) end_stmts (flagged told) ∙ ap (λ g. after g checked (meaning_of end_stmts)) checked_by.goes)
+          ∙ ap (λ d. if d then told else (meaning_of no_calls (check_stmts p) told).0) at
+          ∙ ap (λ (e : Ended). e.0) (then_runs (lowered_block p.check) end_stmts (flagged told) ∙ ap (λ g. after g checked (meaning_of no_calls end_stmts)) checked_by.goes)
           ∙ end_runs p small linked_ports low checked (k % 2 ^ 32) verdict checked_by.stands checked_rejects
 
       closed_alike : Alike plain_run (closed checked)

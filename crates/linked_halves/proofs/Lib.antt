@@ -5,7 +5,8 @@ pub mod Bits
 pub mod Fill
 pub mod Parse
 pub mod EnterParse
-pub mod Enter
 pub mod ExitRuns
+pub mod QueuedStores
+pub mod Enter
 pub mod Leave
 pub mod Theorem

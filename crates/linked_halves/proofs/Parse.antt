@@ -1,4 +1,5 @@
 -- Own parser states do the same behind the monitor's states, and the deparser writes the same of own headers.
+use Rattle.std.specs.Option.{option_map}
 use Rattle.std.proofs.Common.{◌≡◌, codes, ℕ, zero, suc, List, [], ◌∷◌, ◌++◌, map, length, take, drop, Bool, true, false, not, cond, ◌&&◌, ◌||◌, Option, Some, None, Result, Ok, Err, refl, sym, ap, ap₂, ◌∙◌, subst}
 use Rattle.std.specs.Prelude.{nat_eq, nat_lt, bit_and}
 use Rattle.std.specs.List.{AllByRecursion}
@@ -10,7 +11,7 @@ use Rattle.p4_tree.specs.Tree.{Expr, path, Arg, one, Stmt, assign, call, Keyset,
 use Rattle.p4_tree.specs.Store.{Store}
 use Rattle.p4_tree.specs.Value.{value_of}
 use Rattle.p4_tree.specs.Statements.{Run}
-use Rattle.p4_tree.specs.Parsing.{Field, Header, ParserError, NoError, PacketTooShort, Reading, width_sum, field_taken, fields_taken, with_valid, Parsed, goes_on, stops, extracted, extracted_at, unless_stopped, call_parsed, stmt_parsed, body_parsed, fits, fits_each, fits_all, first_fit, chosen, state_after, ParserEnd, parser_end, Turned, ends, leads, led, turned, in_state, one_turn, on_turned, turns_of, fields_bits, if_valid, header_bits, deparse_of}
+use Rattle.p4_tree.specs.Parsing.{Field, Header, ParserError, NoError, PacketTooShort, Reading, width_sum, field_taken, fields_taken, with_valid, Parsed, goes_on, stops, extracted, extracted_at, unless_stopped, call_parsed, stmt_parsed, body_parsed, fits, fits_each, fits_all, first_fit, chosen, state_after, ParserEnd, parser_end, Turned, ends, leads, led, turned, ends_parser, found_state, passed_state, on_turned, turns_of, fields_bits, if_valid, header_bits, deparse_of}
 use Rattle.indus_tree.specs.Tree.{Decl}
 use Rattle.linked_halves.specs.Monitor.{tele_header}
 use Rattle.linked_halves.specs.Regions.{is_mine, is_own_header}
@@ -18,7 +19,7 @@ use Rattle.linked_halves.specs.Forwarding.{IsOwnExpr, IsOwnExtract, IsOwnParse, 
 use Rattle.linked_halves.specs.LinkedParts.{telemetry, own_name, renamed_case, renamed_transition, renamed_state}
 use Rattle.linked_halves.specs.Relations.{bare, Alike, Stays}
 use Rattle.linked_halves.proofs.Apart.{text_decides, apart, apart_names, own_free, field_writable, field_readable, field_spec}
-use Rattle.linked_halves.proofs.Own.{stays_same, stays_then, set_alike, set_stays, keeps_other, keeps_cast, write_ran, valid_ran, value_alike}
+use Rattle.linked_halves.proofs.Own.{stays_same, stays_then, set_alike, set_stays, keeps_other, assigned_ran, valid_ran, value_alike}
 
 -- the linked parser's y has the own part of the parser's x, and since the store b nothing of the monitor's changed
 pub record Took (b : Store) (x y : Reading) : Type 0 where
@@ -106,8 +107,7 @@ module _ (ds : List Decl) (hs : List Header) (headers : AllByRecursion (λ h. is
   stmt_both (assign q p v) x y o s e =
       let width = ap (λ (w : Word). w.width) (s.values p o.0) in
       let same = value_alike (bare x.store) (bare y.store) v (x.store.values p).width s o.2 in
-      let ran = write_ran (bare x.store) (bare y.store) p _ _ o.0 o.1 (keeps_cast (bare y.store) p (value_of v (y.store.values p).width y.store)) s
-      (ap (λ n. cast_word (sound_width n) (value_of v n y.store)) width ∙ ap (cast_word (sound_width (x.store.values p).width)) same) in
+      let ran = assigned_ran (bare x.store) (bare y.store) p _ _ o.0 o.1 s (ap (λ n. value_of v n y.store) width ∙ same) in
       record { alike = ran.alike; stays = ran.stays; rest = e }
   stmt_both (call q callee args) x y o s e = call_both args x y o s e
   stmt_both _ x y o s e = took_same x y s e
@@ -224,43 +224,103 @@ module _ (ds : List Decl) (hs : List Header) (headers : AllByRecursion (λ h. is
   turned_both b (goes_on x) (stops y e) t o h = absurd h
   turned_both b (stops x e) (goes_on y) t o h = absurd h
 
-  turned_if : (b : Store) (s t : Bool) (x x' y y' : Turned) → t ≡ s → BothTurned b x x' → BothTurned b y y' → BothTurned b (cond s x y) (cond t x' y')
-  turned_if b true true x x' y y' e h k = h
-  turned_if b false false x x' y y' e h k = k
-  turned_if b true false x x' y y' e h k = absurd (cc)
-  turned_if b false true x x' y y' e h k = absurd (cc)
+  -- both find a state of their own and the same states behind it, or none
+  abbrev BothTaken : Option (ParserState × List ParserState) → Option (ParserState × List ParserState) → Type 0
+  BothTaken None None = Unit {0}
+  BothTaken (Some t) (Some u) = IsOwnState t.0 × AllByRecursion IsOwnState t.1 × (u.0 ≡ renamed_state t.0) × (u.1 ≡ map renamed_state t.1)
+  BothTaken None (Some u) = ⊥
+  BothTaken (Some t) None = ⊥
 
-  state_both : (sts : List ParserState) (n : List ℕ) (x y : Reading) → AllByRecursion IsOwnState sts → is_mine n ≡ false → Alike (bare x.store) (bare y.store) → y.rest ≡ x.rest → BothTurned y.store (in_state hs sts n x) (in_state (telemetry ds ∷ hs) (map renamed_state sts) (own_name n) y)
-  state_both [] n x y o i s e = record { took = took_same x y s e; error = refl }
-  state_both (st ∷ sts) n x y o i s e =
-      turned_if y.store (same_text st.name n) (same_text (own_name st.name) (own_name n)) _ _ _ _ (name_same st.name n o.0.name i)
-      (turned_both y.store (body_parsed hs st.body x) (body_parsed (telemetry ds ∷ hs) st.body y) st.next o.0.next (body_both st.body x y o.0.body s e))
-      (state_both sts n x y o.1 i s e)
+  taken_behind : (st : ParserState) (t u : Option (ParserState × List ParserState)) → IsOwnState st → BothTaken t u → BothTaken (option_map (λ v. (v.0, st ∷ v.1)) t) (option_map (λ v. (v.0, renamed_state st ∷ v.1)) u)
+  taken_behind st None None o h = tt
+  taken_behind st (Some t) (Some u) o h = (h.0, (o, h.1), h.2, ap (λ l. renamed_state st ∷ l) h.3)
+  taken_behind st None (Some u) o h = absurd h
+  taken_behind st (Some t) None o h = absurd h
 
-  -- `before` has the own states behind others, to which no own state leads
-  module _ (own : List ParserState) (states : AllByRecursion IsOwnState own) (before : List ParserState) (skips : (n : List ℕ) (y : Reading) → is_mine n ≡ false → in_state (telemetry ds ∷ hs) before (own_name n) y ≡ in_state (telemetry ds ∷ hs) (map renamed_state own) (own_name n) y) where
-    ends_same : (n : List ℕ) → is_mine n ≡ false → (same_text (own_name n) (codes "accept") || same_text (own_name n) (codes "reject")) ≡ (same_text n (codes "accept") || same_text n (codes "reject"))
-    ends_same n i = ap₂ (λ a b. a || b) (name_same n (codes "accept") i refl) (name_same n (codes "reject") i refl)
+  taken_if : (s t : Bool) (x x' y y' : Option (ParserState × List ParserState)) → t ≡ s → BothTaken x x' → BothTaken y y' → BothTaken (cond s x y) (cond t x' y')
+  taken_if true true x x' y y' e h k = h
+  taken_if false false x x' y y' e h k = k
+  taken_if true false x x' y y' e h k = absurd (cc)
+  taken_if false true x x' y y' e h k = absurd (cc)
 
-    one_turn_both : (n : List ℕ) (x y : Reading) → is_mine n ≡ false → Alike (bare x.store) (bare y.store) → y.rest ≡ x.rest → BothTurned y.store (one_turn hs own n x) (one_turn (telemetry ds ∷ hs) before (own_name n) y)
-    one_turn_both n x y i s e =
-        turned_if y.store _ _ (ends (parser_end x NoError)) (ends (parser_end y NoError)) (in_state hs own n x) (in_state (telemetry ds ∷ hs) before (own_name n) y) (ends_same n i)
-        (record { took = took_same x y s e; error = refl })
-        (subst (λ r. BothTurned y.store (in_state hs own n x) r) (sym (skips n y i)) (state_both own n x y states i s e))
+  state_both : (sts : List ParserState) (n : List ℕ) → AllByRecursion IsOwnState sts → is_mine n ≡ false → BothTaken (found_state sts n) (found_state (map renamed_state sts) (own_name n))
+  state_both [] n o i = tt
+  state_both (st ∷ sts) n o i =
+      taken_if (same_text st.name n) (same_text (own_name st.name) (own_name n)) _ _ _ _ (name_same st.name n o.0.name i)
+      (o.0, o.1, refl, refl) (taken_behind st (found_state sts n) (found_state (map renamed_state sts) (own_name n)) o.0 (state_both sts n o.1 i))
 
-    -- any number of turns from an own state
-    pub runs_both : (k : ℕ) (n : List ℕ) (x y : Reading) → is_mine n ≡ false → Alike (bare x.store) (bare y.store) → y.rest ≡ x.rest → SameEnd y.store (turns_of k hs own n x) (turns_of k (telemetry ds ∷ hs) before (own_name n) y)
-    runs_both zero n x y i s e = record { took = took_same x y s e; error = refl }
-    runs_both (suc k) n x y i s e = go (one_turn hs own n x) (one_turn (telemetry ds ∷ hs) before (own_name n) y) (one_turn_both n x y i s e) (λ m u v j a q. runs_both k m u v j a q)
+  ends_same : (n : List ℕ) → is_mine n ≡ false → ends_parser (own_name n) ≡ ends_parser n
+  ends_same n i = ap₂ (λ a b. a || b) (name_same n (codes "accept") i refl) (name_same n (codes "reject") i refl)
+
+  end_if : (b : Store) (s t : Bool) (x x' y y' : ParserEnd) → t ≡ s → SameEnd b x x' → SameEnd b y y' → SameEnd b (cond s x y) (cond t x' y')
+  end_if b true true x x' y y' e h k = h
+  end_if b false false x x' y y' e h k = k
+  end_if b true false x x' y y' e h k = absurd (cc)
+  end_if b false true x x' y y' e h k = absurd (cc)
+
+  -- so many turns, from any own state among any own states
+  abbrev RunBoth : ℕ → Type 0
+  RunBoth k = (l : List ParserState) (m : List ℕ) (u v : Reading) → AllByRecursion IsOwnState l → is_mine m ≡ false → Alike (bare u.store) (bare v.store) → v.rest ≡ u.rest → SameEnd v.store (turns_of k hs l m u) (turns_of k (telemetry ds ∷ hs) (map renamed_state l) (own_name m) v)
+
+  -- any number of turns from an own state, among own states
+  pub runs_both : (k : ℕ) (sts : List ParserState) (n : List ℕ) (x y : Reading) → AllByRecursion IsOwnState sts → is_mine n ≡ false → Alike (bare x.store) (bare y.store) → y.rest ≡ x.rest → SameEnd y.store (turns_of k hs sts n x) (turns_of k (telemetry ds ∷ hs) (map renamed_state sts) (own_name n) y)
+  runs_both zero sts n x y o i s e = record { took = took_same x y s e; error = refl }
+  runs_both (suc k) sts n x y o i s e =
+      end_if y.store (ends_parser n) (ends_parser (own_name n)) _ _ _ _ (ends_same n i) (record { took = took_same x y s e; error = refl })
+      (pass (found_state sts n) (found_state (map renamed_state sts) (own_name n)) (state_both sts n o i) (λ l m u v h j a q. runs_both k l m u v h j a q))
+    where
+      go : RunBoth k → (sts : List ParserState) → AllByRecursion IsOwnState sts → (r q : Turned) → BothTurned y.store r q → SameEnd y.store (on_turned r (turns_of k hs sts)) (on_turned q (turns_of k (telemetry ds ∷ hs) (map renamed_state sts)))
+      go more sts o (ends u) (ends v) h = h
+      go more sts o (leads m u) (leads m' v) h =
+          let following = more sts m u v o h.2 h.0.alike h.0.rest in
+          let all : SameEnd y.store (turns_of k hs sts m u) (turns_of k (telemetry ds ∷ hs) (map renamed_state sts) (own_name m) v) = record { took = took_from y.store v.store _ _ h.0.stays following.took; error = following.error } in
+          subst (λ z. SameEnd y.store (turns_of k hs sts m u) (turns_of k (telemetry ds ∷ hs) (map renamed_state sts) z v)) (sym h.1) all
+      go more sts o (ends u) (leads m v) h = absurd h
+      go more sts o (leads m u) (ends v) h = absurd h
+
+      pass : (t u : Option (ParserState × List ParserState)) → BothTaken t u → RunBoth k → SameEnd y.store (passed_state hs t x (turns_of k hs)) (passed_state (telemetry ds ∷ hs) u y (turns_of k (telemetry ds ∷ hs)))
+      pass None None h more = record { took = took_same x y s e; error = refl }
+      pass (Some t) (Some u) h more =
+          let both = turned_both y.store (body_parsed hs t.0.body x) (body_parsed (telemetry ds ∷ hs) t.0.body y) t.0.next h.0.next (body_both t.0.body x y h.0.body s e) in
+          let all = go more t.1 h.1 (turned (body_parsed hs t.0.body x) t.0.next) (turned (body_parsed (telemetry ds ∷ hs) t.0.body y) (renamed_transition t.0.next)) both in
+          subst (λ (v : ParserState). SameEnd y.store (passed_state hs (Some t) x (turns_of k hs)) (passed_state (telemetry ds ∷ hs) (Some (v, u.1)) y (turns_of k (telemetry ds ∷ hs)))) (sym h.2)
+          (subst (λ (l : List ParserState). SameEnd y.store (passed_state hs (Some t) x (turns_of k hs)) (passed_state (telemetry ds ∷ hs) (Some (renamed_state t.0, l)) y (turns_of k (telemetry ds ∷ hs)))) (sym h.3) all)
+      pass None (Some u) h more = absurd h
+      pass (Some t) None h more = absurd h
+
+  same_alike : (b : Store) → Alike (bare b) (bare b)
+  same_alike b = record { values = λ p i. refl; headers = λ p i. refl; cells = λ x i. refl; digests = refl }
+
+  -- a state to which no own state leads, in front of own states, is never passed
+  module _ (first : ParserState) (other : (n : List ℕ) → is_mine n ≡ false → same_text first.name (own_name n) ≡ false) where
+    abbrev Passes : ℕ → Type 0
+    Passes k = (sts : List ParserState) (n : List ℕ) (y : Reading) → AllByRecursion IsOwnState sts → is_mine n ≡ false → turns_of k (telemetry ds ∷ hs) (first ∷ map renamed_state sts) (own_name n) y ≡ turns_of k (telemetry ds ∷ hs) (map renamed_state sts) (own_name n) y
+
+    led_on : (k : ℕ) (sts : List ParserState) (r : Result (List ℕ) ParserError) (y : Reading) → AllByRecursion IsOwnState sts → IsOwnResult r → Passes k → on_turned (led (renamed_result r) y) (turns_of k (telemetry ds ∷ hs) (first ∷ map renamed_state sts)) ≡ on_turned (led (renamed_result r) y) (turns_of k (telemetry ds ∷ hs) (map renamed_state sts))
+    led_on k sts (Ok n) y o i more = more sts n y o i
+    led_on k sts (Err e) y o i more = refl
+
+    turned_on : (k : ℕ) (sts : List ParserState) (r : Parsed) (t : Transition) → AllByRecursion IsOwnState sts → IsOwnTransition t → Passes k → on_turned (turned r (renamed_transition t)) (turns_of k (telemetry ds ∷ hs) (first ∷ map renamed_state sts)) ≡ on_turned (turned r (renamed_transition t)) (turns_of k (telemetry ds ∷ hs) (map renamed_state sts))
+    turned_on k sts (goes_on y) t o i more =
+        let P : Result (List ℕ) ParserError → Type 0 = λ r. on_turned (led r y) (turns_of k (telemetry ds ∷ hs) (first ∷ map renamed_state sts)) ≡ on_turned (led r y) (turns_of k (telemetry ds ∷ hs) (map renamed_state sts)) in
+        subst P (sym (after_same t y.store y.store i (same_alike y.store))) (led_on k sts (state_after t y.store) y o (after_own t y.store i) more)
+    turned_on k sts (stops y e) t o i more = refl
+
+    pub passed_over : (k : ℕ) → Passes k
+    passed_over zero sts n y o i = refl
+    passed_over (suc k) sts n y o i =
+        ap (cond (ends_parser (own_name n)) (parser_end y NoError))
+        (ap (λ b. passed_state (telemetry ds ∷ hs) (cond b (Some (first, map renamed_state sts)) (option_map (λ t. (t.0, first ∷ t.1)) (found_state (map renamed_state sts) (own_name n)))) y (turns_of k (telemetry ds ∷ hs))) (other n i)
+        ∙ pass (found_state sts n) (found_state (map renamed_state sts) (own_name n)) (state_both sts n o i) (λ l m v h j. passed_over k l m v h j))
       where
-        go : (r q : Turned) → BothTurned y.store r q → ((m : List ℕ) (u v : Reading) → is_mine m ≡ false → Alike (bare u.store) (bare v.store) → v.rest ≡ u.rest → SameEnd v.store (turns_of k hs own m u) (turns_of k (telemetry ds ∷ hs) before (own_name m) v)) → SameEnd y.store (on_turned r (turns_of k hs own)) (on_turned q (turns_of k (telemetry ds ∷ hs) before))
-        go (ends u) (ends v) h more = h
-        go (leads m u) (leads m' v) h more =
-            let following = more m u v h.2 h.0.alike h.0.rest in
-            let all : SameEnd y.store (turns_of k hs own m u) (turns_of k (telemetry ds ∷ hs) before (own_name m) v) = record { took = took_from y.store v.store _ _ h.0.stays following.took; error = following.error } in
-            subst (λ z. SameEnd y.store (turns_of k hs own m u) (turns_of k (telemetry ds ∷ hs) before z v)) (sym h.1) all
-        go (ends u) (leads m v) h more = absurd h
-        go (leads m u) (ends v) h more = absurd h
+        pass : (t u : Option (ParserState × List ParserState)) → BothTaken t u → Passes k → passed_state (telemetry ds ∷ hs) (option_map (λ t. (t.0, first ∷ t.1)) u) y (turns_of k (telemetry ds ∷ hs)) ≡ passed_state (telemetry ds ∷ hs) u y (turns_of k (telemetry ds ∷ hs))
+        pass None None h more = refl
+        pass (Some t) (Some u) h more =
+            let all = turned_on k t.1 (body_parsed (telemetry ds ∷ hs) t.0.body y) t.0.next h.1 h.0.next more in
+            let P : ParserState → List ParserState → Type 0 = λ v l. on_turned (turned (body_parsed (telemetry ds ∷ hs) v.body y) v.next) (turns_of k (telemetry ds ∷ hs) (first ∷ l)) ≡ on_turned (turned (body_parsed (telemetry ds ∷ hs) v.body y) v.next) (turns_of k (telemetry ds ∷ hs) l) in
+            subst (λ v. P v u.1) (sym h.2) (subst (λ l. P (renamed_state t.0) l) (sym h.3) all)
+        pass None (Some u) h more = absurd h
+        pass (Some t) None h more = absurd h
 
   -- the deparser
   fields_same : (p : List (List ℕ)) (fs : List Field) (a b : Run) → is_own_header p ≡ true → Alike a b → fields_bits p fs b.store ≡ fields_bits p fs a.store

@@ -1,11 +1,10 @@
--- Which forwarding programs are linked: they use no name of the monitor's, `return` and `exit` are taken out of
--- them before, and no state of their parser reaches itself. Read `Regions` before.
-use Rattle.std.specs.Prelude.{◌≡◌, ℕ, suc, List, [], ◌∷◌, length, true, false, Option, Some, None, nat_eq}
+-- Which forwarding programs are linked: they use no name of the monitor's, and `return` and `exit` are taken out of
+-- them before. Read `Regions` before.
+use Rattle.std.specs.Prelude.{◌≡◌, ℕ, List, [], ◌∷◌, Bool, true, false, Option, Some, None, nat_eq}
 use Rattle.std.specs.List.{AllByRecursion}
-use Rattle.p4_tree.specs.Tree.{Expr, num, flag, path, valid, negation, binary, cast, Arg, one, Stmt, Stmts, MaybeStmt, nothing, block, var, assign, choice, return_, exit_, call, done, next, without, otherwise, Keyset, any, only, masked, Case, Transition, nowhere, to, select, ParserState}
-use Rattle.p4_tree.specs.Statements.{Act, makes, drops, reads, writes, tells, idle, act_of}
-use Rattle.p4_tree.specs.Parsing.{Reading, turns_of}
-use Rattle.p4_tree.specs.Parts.{Parts}
+use Rattle.p4_tree.specs.Tree.{Expr, num, flag, path, valid, applied, error_name, negation, inversion, opposite, binary, conditional, slice, cast, Arg, one, Stmt, Stmts, MaybeStmt, nothing, block, var, assign, choice, return_, exit_, call, done, next, without, otherwise, Keyset, any, only, masked, Case, Transition, nowhere, to, select, ParserState}
+use Rattle.p4_tree.specs.Statements.{Act, makes, drops, reads, writes, tells, sums, runs, applies, idle, act_of, application}
+use Rattle.p4_tree.specs.Parts.{Parts, Body}
 use Rattle.linkage.specs.Linkage.{report_receiver}
 use Rattle.linked_halves.specs.Regions.{is_mine, is_free, is_readable, is_writable, is_own_header}
 
@@ -15,22 +14,40 @@ IsOwnExpr (num p n) = Unit {0}
 IsOwnExpr (flag p b) = Unit {0}
 IsOwnExpr (path p names) = is_readable names ≡ true
 IsOwnExpr (valid p header) = is_free header ≡ true
+IsOwnExpr (applied p t b) = Unit {0}
+IsOwnExpr (error_name p x) = Unit {0}
 IsOwnExpr (negation p a) = IsOwnExpr a
+IsOwnExpr (inversion p a) = IsOwnExpr a
+IsOwnExpr (opposite p a) = IsOwnExpr a
 IsOwnExpr (binary p op a b) = IsOwnExpr a × IsOwnExpr b
+IsOwnExpr (conditional p t a b) = IsOwnExpr t × IsOwnExpr a × IsOwnExpr b
+IsOwnExpr (slice p a high low) = IsOwnExpr a
 IsOwnExpr (cast p ty a) = IsOwnExpr a
 
 abbrev pub IsOwnStart : Option Expr → Type 0
 IsOwnStart None = Unit {0}
 IsOwnStart (Some e) = IsOwnExpr e
 
--- a call makes own headers valid or invalid, uses own registers, or tells digests that are no reports
+-- a call makes own headers valid or invalid, uses own registers, tells digests that are no reports, sums own fields,
+-- or names an own action or table
 abbrev pub IsOwnAct : Act → Type 0
 IsOwnAct (makes h b) = is_own_header h ≡ true
 IsOwnAct drops = Unit {0}
 IsOwnAct (reads x t i) = (is_mine x ≡ false) × (is_readable t ≡ true) × (is_writable t ≡ true) × IsOwnExpr i
 IsOwnAct (writes x i v) = (is_mine x ≡ false) × IsOwnExpr i × IsOwnExpr v
 IsOwnAct (tells n es) = (nat_eq n report_receiver ≡ false) × AllByRecursion IsOwnExpr es
+IsOwnAct (sums verifies c es field) = IsOwnExpr c × AllByRecursion IsOwnExpr es × (is_readable field ≡ true) × (is_writable field ≡ true)
+IsOwnAct (runs x es) = (is_mine x ≡ false) × AllByRecursion IsOwnExpr es
+IsOwnAct (applies x) = is_mine x ≡ false
 IsOwnAct idle = Unit {0}
+
+-- a test applies an own table, or reads own paths
+abbrev pub IsOwnApplication : Option (List ℕ × Bool) → Type 0
+IsOwnApplication None = Unit {0}
+IsOwnApplication (Some t) = is_mine t.0 ≡ false
+
+abbrev pub IsOwnTest : Expr → Type 0
+IsOwnTest e = IsOwnApplication (application e) × IsOwnExpr e
 
 abbrev mutual
   -- a statement reads and writes own paths, and goes on
@@ -39,7 +56,7 @@ abbrev mutual
   IsOwnStmt (block p ss) = AreOwnStmts ss
   IsOwnStmt (var p ty x e) = (is_mine x ≡ false) × IsOwnStart e
   IsOwnStmt (assign p target e) = (is_readable target ≡ true) × (is_writable target ≡ true) × IsOwnExpr e
-  IsOwnStmt (choice p e a b) = IsOwnExpr e × IsOwnStmt a × IsOwnElse b
+  IsOwnStmt (choice p e a b) = IsOwnTest e × IsOwnStmt a × IsOwnElse b
   IsOwnStmt (return_ p) = ⊥
   IsOwnStmt (exit_ p) = ⊥
   IsOwnStmt (call p callee args) = IsOwnAct (act_of callee args)
@@ -81,15 +98,18 @@ pub record IsOwnState (s : ParserState) : Type 0 where
   pub body : AllByRecursion IsOwnParse s.body
   pub next : IsOwnTransition s.next
 
+-- a control's variables and its body are own
+pub record IsOwnBody (b : Body) : Type 0 where
+  pub locals : AreOwnStmts b.locals
+  pub body : AreOwnStmts b.body
+
 pub record IsForwarding (f : Parts) : Type 0 where
   pub registers : AllByRecursion (λ c. is_mine c.name ≡ false) f.registers
   pub headers : AllByRecursion (λ h. is_own_header h.path ≡ true) f.headers
   pub metadata : AllByRecursion (λ m. is_mine m.name ≡ false) f.metadata
   pub states : AllByRecursion IsOwnState f.states
   pub verify : AreOwnStmts f.verify
-  pub ingress : AreOwnStmts f.ingress
-  pub egress : AreOwnStmts f.egress
+  pub ingress : IsOwnBody f.ingress
+  pub egress : IsOwnBody f.egress
   pub compute : AreOwnStmts f.compute
   pub emits : AllByRecursion (λ p. is_own_header p ≡ true) f.emits
-  -- one turn more than the parser takes changes nothing, since no state reaches itself
-  pub settles : (x : List ℕ) (s : Reading) → turns_of (suc (suc (length f.states))) f.headers f.states x s ≡ turns_of (suc (length f.states)) f.headers f.states x s

@@ -51,8 +51,8 @@ linked_parts f p linked_ports =
       metadata = f.metadata;
       states = linked_states linked_ports f.states;
       verify = f.verify;
-      ingress = next (entry_stmt p linked_ports) f.ingress;
-      egress = and_then f.egress (next (exit_stmt p linked_ports) done);
+      ingress = record f.ingress { body = next (entry_stmt p linked_ports) f.ingress.body };
+      egress = record f.egress { body = and_then f.egress.body (next (exit_stmt p linked_ports) done) };
       compute = f.compute;
       emits = tele_header ∷ f.emits;
     }

@@ -1,6 +1,6 @@
 -- Which names are the monitor's: those that begin with `hydra_`. What the forwarding program's own code may
 -- read and write is told by regions of paths.
-use Rattle.std.specs.Prelude.{codes, ℕ, List, [], ◌∷◌, Bool, true, false, ◌&&◌, nat_eq, not, if◌then◌else◌}
+use Rattle.std.specs.Prelude.{codes, ℕ, List, [], ◌∷◌, Bool, true, false, ◌&&◌, ◌||◌, nat_eq, not, if◌then◌else◌}
 use Rattle.lex_text.specs.Names.{same_text, same_path}
 use Rattle.p4_tree.specs.Standard.{headers_root, standard_root, packet_length}
 
@@ -24,11 +24,11 @@ is_free (x ∷ y ∷ rest) = not (is_mine x) && not (is_mine y)
 abbrev pub is_readable : List (List ℕ) → Bool
 is_readable p = is_free p && not (same_path packet_length p)
 
--- own code may write it: of the standard metadata `egress_spec` alone
+-- own code may write it: of the standard metadata `egress_spec`, and the error of a checksum
 abbrev pub is_writable : List (List ℕ) → Bool
 is_writable [] = false
 is_writable (x ∷ []) = not (is_mine x)
-is_writable (x ∷ y ∷ rest) = is_free (x ∷ y ∷ []) && (if same_text standard_root x then same_text (codes "egress_spec") y else true)
+is_writable (x ∷ y ∷ rest) = is_free (x ∷ y ∷ []) && (if same_text standard_root x then same_text (codes "egress_spec") y || same_text (codes "checksum_error") y else true)
 
 -- a header of the forwarding program
 abbrev pub is_own_header : List (List ℕ) → Bool

@@ -1,8 +1,7 @@
 -- The values of the variables that travel with a packet, as words and as bytes.
 use Rattle.std.specs.Prelude.{◌≡◌, ℕ, suc, ◌<◌, List, [], ◌∷◌, ◌++◌, length, map, true}
 use Rattle.bit_values.specs.Bits.{Word, word}
-use Rattle.bit_values.specs.BitLists.{number_bits}
-use Rattle.p4_tree.specs.Parsing.{bytes_of}
+use Rattle.p4_tree.specs.Bytes.{words_bits, bytes_of}
 use Rattle.indus_tree.specs.Tree.{Decl}
 use Rattle.indus_tree.specs.State.{Held}
 use Rattle.indus_tree.specs.Names.{is_declared}
@@ -16,11 +15,6 @@ tele_word t x = scalar (t x) 8
 -- the words of the telemetry: the mark, hexadecimal 48, and the variables in order of declaration
 abbrev pub tele_words : List Decl → Held → List Word
 tele_words ds t = word 8 72 ∷ map (λ d. tele_word t d.name) ds
-
--- the bits of words, in order
-abbrev pub words_bits : List Word → List ℕ
-words_bits [] = []
-words_bits (w ∷ ws) = number_bits w.width w.value ++ words_bits ws
 
 -- the bytes that stand before a frame on a link
 abbrev pub tele_bytes : List Decl → Held → List ℕ
