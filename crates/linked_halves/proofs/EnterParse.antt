@@ -17,7 +17,7 @@ use Rattle.p4_tree.specs.Store.{Store, blank, shown, set_value, set_valid}
 use Rattle.p4_tree.specs.Statements.{Run}
 use Rattle.p4_tree.specs.Parsing.{Field, Header, PacketTooShort, Reading, goes_on, stops, width_sum, with_valid, fields_taken, extracted, unless_stopped, chosen, ParserEnd, leads, led, turned, first_fit, body_parsed, on_turned, turns_of, parse_of}
 use Rattle.p4_tree.specs.Parts.{Parts}
-use Rattle.p4_tree.specs.Bytes.{words_bits}
+use Rattle.bit_writer.specs.Bytes.{words_bits}
 use Rattle.p4_tree.specs.Pass.{zero_fields, no_headers, with_standard, store_before}
 use Rattle.indus_tree.specs.Tree.{Decl, Property}
 use Rattle.indus_tree.specs.Names.{is_declared}

@@ -13,7 +13,7 @@ use Rattle.p4_tree.specs.Store.{Store, read, set_value}
 use Rattle.p4_tree.specs.Value.{value_of}
 use Rattle.p4_tree.specs.Parsing.{first_fit}
 use Rattle.p4_tree.specs.Pass.{zero_fields}
-use Rattle.p4_tree.specs.Bytes.{words_bits, bytes_of}
+use Rattle.bit_writer.specs.Bytes.{words_bits, bytes_of}
 use Rattle.p4_tree.specs.declared.statement.Op.TheVariants.{Equal}
 use Rattle.indus_tree.specs.Tree.{Decl}
 use Rattle.indus_tree.specs.State.{Held, lookup}

@@ -14,7 +14,7 @@ use Rattle.p4_tree.specs.Statements.{no_calls, Run, Ended, after, meaning_of_stm
 use Rattle.p4_tree.specs.Parsing.{fields_bits, if_valid, deparse_of}
 use Rattle.p4_tree.specs.Parts.{Parts, whole}
 use Rattle.p4_tree.specs.Pass as pass
-use Rattle.p4_tree.specs.Bytes.{words_bits, bytes_of}
+use Rattle.bit_writer.specs.Bytes.{words_bits, bytes_of}
 use Rattle.p4_tree.specs.Pass.{Registers, Queued, run_from, is_dropped, unless_dropped, left_behind, parts_leave}
 use Rattle.indus_tree.specs.Tree.{Property}
 use Rattle.indus_tree.specs.State.{Contents, Held}

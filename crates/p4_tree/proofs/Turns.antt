@@ -39,4 +39,3 @@ pub one_turn_more : (hs : List Header) (n : ℕ) → Enough hs n
 one_turn_more hs zero sts x s h = absurd (omega arith)
 one_turn_more hs (suc n) sts x s h =
     ap (cond (ends_parser x) (parser_end s NoError)) (passed_more hs n (length sts) (found_state sts x) s (found_less sts x) h (λ l y r k. one_turn_more hs n l y r k))
-

@@ -4,7 +4,7 @@ use Rattle.std.specs.Prelude.{ℕ, ◌+◌, ◌*◌, ◌-◌, ◌/◌, ◌%◌, 
 use Rattle.p4_tree.specs.Tree.{Expr}
 use Rattle.p4_tree.specs.Store.{Store}
 use Rattle.p4_tree.specs.Value.{value_of}
-use Rattle.p4_tree.specs.Bytes.{words_bits, bytes_of}
+use Rattle.bit_writer.specs.Bytes.{words_bits, bytes_of}
 
 -- the one's complement sum of two numbers of 16 bits: what goes over is added at the lowest bit
 abbrev pub ones_sum : ℕ → ℕ → ℕ

@@ -1,7 +1,7 @@
 -- Which entry a table chooses for its keys: the one of the longest prefix, or in a table with a ternary key that of the
 -- greatest priority. Read `Value` before it.
 use Rattle.std.specs.Prelude.{◌≡◌, ℕ, ◌-◌, ◌/◌, ◌^◌, ◌≤◌, List, [], ◌∷◌, Bool, true, false, ◌&&◌, max, Option, Some, None, if◌then◌else◌, nat_eq, nat_lt, bit_and}
-use Rattle.std.specs.List.{Member}
+use Rattle.std.specs.List.{AllByRecursion, Contains}
 use Rattle.bit_values.specs.Bits.{Word}
 
 -- what an entry asks of a key: a number, the first bits of one, or the bits of one under a mask
@@ -42,9 +42,14 @@ rank_of has_ternary e = if has_ternary then e.priority else prefix_of e.keys
 
 -- the entry is chosen: it is one of the entries, it fits, and none that fits has a higher rank
 pub record IsChosen (has_ternary : Bool) (entries : List Entry) (keys : List Word) (e : Entry) : Type 0 where
-  pub listed : Member e entries
+  pub listed : Contains entries e
   pub fits : fits_keys e.keys keys ≡ true
-  pub highest : (f : Entry) → Member f entries → fits_keys f.keys keys ≡ true → rank_of has_ternary f ≤ rank_of has_ternary e
+  pub highest : AllByRecursion (λ f. fits_keys f.keys keys ≡ true → rank_of has_ternary f ≤ rank_of has_ternary e) entries
+
+-- what a table chooses: an entry that is chosen, or none where no entry fits
+abbrev pub IsChoice : (has_ternary : Bool) (entries : List Entry) (keys : List Word) → Option Entry → Type 0
+IsChoice t entries keys None = AllByRecursion (λ f. fits_keys f.keys keys ≡ false) entries
+IsChoice t entries keys (Some e) = IsChosen t entries keys e
 
 -- the higher of two entries, and the first of two with one rank
 abbrev pub higher : (has_ternary : Bool) → Entry → Option Entry → Entry

@@ -2,8 +2,6 @@
 pub mod Machine
 -- What serves the proof.
 pub mod Places
-pub mod Pieces
-pub mod Written
 pub mod Rests
 pub mod Halves
 pub mod Rows

@@ -1,9 +1,9 @@
 use Rattle.std.proofs.Common.{◌++◌, ap, sym, ◌∙◌, append_assoc, ◌-◌}
 use Rattle.bit_values.specs.BitLists.{number_bits}
 use Rattle.bit_values.specs.Bytes.{bits_of}
-use Rattle.wire_machine.specs.Written.{bits_in}
-use Rattle.wire_machine.proofs.WriteLemmas.{rest_of_byte}
-use Rattle.wire_machine.proofs.writer.BitWriter.put_from.Goals as goal
+use Rattle.bit_writer.specs.Written.{bits_in}
+use Rattle.bit_writer.proofs.WriterLemmas.{rest_of_byte}
+use Rattle.bit_writer.proofs.writer.BitWriter.put_from.Goals as goal
 
 pub returns : goal.returns
 returns c =

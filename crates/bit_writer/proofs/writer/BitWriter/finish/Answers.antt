@@ -1,7 +1,7 @@
 use Rattle.std.proofs.Common.{◌≤◌, length, arith}
-use Rattle.wire_machine.specs.Pieces.{part_bits}
-use Rattle.wire_machine.proofs.WriteLemmas.{bytes_of-part, part_length}
-use Rattle.wire_machine.proofs.writer.BitWriter.finish.Goals as goal
+use Rattle.bit_writer.specs.Pieces.{part_bits}
+use Rattle.bit_writer.proofs.WriterLemmas.{bytes_of-part, part_length}
+use Rattle.bit_writer.proofs.writer.BitWriter.finish.Goals as goal
 
 pub returns : goal.returns
 returns c =

@@ -1,4 +1,4 @@
--- The bits of words, and the bytes of bits: what fields are written as. Read `Value` before it.
+-- The bits of words, and the bytes of bits.
 use Rattle.std.specs.Prelude.{ℕ, List, [], ◌∷◌, ◌++◌}
 use Rattle.bit_values.specs.Bits.{Word}
 use Rattle.bit_values.specs.BitLists.{number_bits, number_of}

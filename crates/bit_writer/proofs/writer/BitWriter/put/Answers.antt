@@ -1,9 +1,9 @@
 use Rattle.std.proofs.Common.{◌≡◌, ◌-◌, ◌++◌, ap, sym, ◌∙◌, arith, append-nil}
 use Rattle.bit_values.specs.BitLists.{number_bits}
 use Rattle.bit_values.specs.Bits.{Word}
-use Rattle.wire_machine.specs.Written.{bits_in}
-use Rattle.wire_machine.proofs.WriteLemmas.{bits_more}
-use Rattle.wire_machine.proofs.writer.BitWriter.put.Goals as goal
+use Rattle.bit_writer.specs.Written.{bits_in}
+use Rattle.bit_writer.proofs.WriterLemmas.{bits_more}
+use Rattle.bit_writer.proofs.writer.BitWriter.put.Goals as goal
 
 pub returns : goal.returns
 returns c =

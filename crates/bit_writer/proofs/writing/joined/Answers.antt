@@ -2,8 +2,8 @@ use Rattle.std.proofs.Common.{◌≡◌, ◌+◌, ◌++◌, ◌<◌, ◌^◌, ap
 use Rattle.bit_values.specs.Bits.{concat}
 use Rattle.bit_values.specs.BitLists.{number_bits}
 use Rattle.bit_values.proofs.BitListsLemmas.{number_bits-concat}
-use Rattle.wire_machine.specs.Pieces.{part_bits}
-use Rattle.wire_machine.proofs.write.joined.Goals as goal
+use Rattle.bit_writer.specs.Pieces.{part_bits}
+use Rattle.bit_writer.proofs.writing.joined.Goals as goal
 
 pub returns-in-Some-clause-bits : goal.returns-in-Some-clause-bits
 returns-in-Some-clause-bits c =

@@ -1,10 +1,10 @@
 use Rattle.std.proofs.Common.{◌≡◌, ◌++◌, [], ap, sym, refl, ◌∙◌, arith}
 use Rattle.bit_values.specs.BitLists.{number_bits}
 use Rattle.bit_values.specs.Bytes.{bits_of}
-use Rattle.p4_tree.specs.Parsing.{bytes_of}
-use Rattle.wire_machine.specs.Pieces.{part_bits}
-use Rattle.wire_machine.proofs.WriteLemmas.{bytes_of-more, bits_of-more}
-use Rattle.wire_machine.proofs.writer.BitWriter.push.Goals as goal
+use Rattle.bit_writer.specs.Bytes.{bytes_of}
+use Rattle.bit_writer.specs.Pieces.{part_bits}
+use Rattle.bit_writer.proofs.WriterLemmas.{bytes_of-more, bits_of-more}
+use Rattle.bit_writer.proofs.writer.BitWriter.push.Goals as goal
 
 pub invariant_of-self-then-width-eq8-clause-whole : goal.invariant_of-self-then-width-eq8-clause-whole
 invariant_of-self-then-width-eq8-clause-whole c =

@@ -1,8 +1,8 @@
 -- The bits that a deparser has written.
 use Rattle.std.specs.Prelude.{ℕ, List, ◌++◌}
 use Rattle.bit_values.specs.Bytes.{bits_of}
-use Rattle.wire_machine.specs.Pieces.{part_bits}
-use Rattle.wire_machine.specs.declared.writer.BitWriter.{BitWriter}
+use Rattle.bit_writer.specs.Pieces.{part_bits}
+use Rattle.bit_writer.specs.declared.writer.BitWriter.{BitWriter}
 
 -- the bits, first to last
 abbrev pub bits_in : BitWriter → List ℕ

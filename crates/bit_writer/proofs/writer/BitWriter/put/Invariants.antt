@@ -1,7 +1,7 @@
 use Rattle.std.proofs.Common.{◌≡◌, ◌-◌, ◌++◌}
 use Rattle.bit_values.specs.BitLists.{number_bits}
-use Rattle.wire_machine.specs.Written.{bits_in}
-use Rattle.wire_machine.proofs.writer.BitWriter.put.Given as goal
+use Rattle.bit_writer.specs.Written.{bits_in}
+use Rattle.bit_writer.proofs.writer.BitWriter.put.Given as goal
 
 abbrev pub invariant-loop-i : goal.invariant-loop-i
 invariant-loop-i l = bits_in l.self ++ number_bits (l.width - l.i) l.value ≡ bits_in l.initial.self ++ number_bits l.width l.value

@@ -9,8 +9,8 @@ use Rattle.bit_values.specs.BitLists.{number_bits, number_of}
 use Rattle.bit_values.specs.Bytes.{bits_of}
 use Rattle.bit_values.proofs.BitListsLemmas.{number_back, length-number_bits}
 use Rattle.bit_values.proofs.BytesLemmas.{bits_of-append}
-use Rattle.p4_tree.specs.Parsing.{bytes_of}
-use Rattle.wire_machine.specs.Pieces.{part_width, part_bits}
+use Rattle.bit_writer.specs.Bytes.{bytes_of}
+use Rattle.bit_writer.specs.Pieces.{part_width, part_bits}
 
 -- fewer than eight bits are no byte
 bytes_of-few : (bs : List ℕ) → length bs ≤ 7 → bytes_of bs ≡ []
