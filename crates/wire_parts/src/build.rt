@@ -2,15 +2,15 @@
 
 ghost use Rattle.std.specs.Prelude.{◌≡◌, ◌++◌, ◌∷◌, [], IfOk, OnOk, Some, map};
 ghost use Rattle.std.specs.Option.{option_map};
-ghost use Rattle.p4_tree.specs.Tree.{stmts_from};
+ghost use Rattle.p4_tree.specs.Tree.{stmts_from, var};
 ghost use Rattle.p4_tree.specs.Standard.{headers_root};
-ghost use Rattle.p4_tree.specs.View.{top_of, stmt_of, stmts_of, control_of, parser_of, state_of, arg_of, local_of, program_of};
+ghost use Rattle.p4_tree.specs.View.{top_of, expr_of, stmt_of, stmts_of, control_of, parser_of, state_of, arg_of, local_of, program_of};
 ghost use Rattle.p4_tree.specs.Parts.{field_of, header_of, registers_of, body_of, states_of, emitted, emits_of, parser_type, control_in, parser_in, parts_of, stmt_under};
 ghost use Rattle.wire_parts.specs.Headers.{field_in, header_in};
 ghost use Rattle.wire_parts.specs.Lent.{lent, roots_in};
 ghost use Rattle.wire_parts.specs.Paths.{path_in};
 ghost use Rattle.wire_parts.specs.PartsIn.{cells_decl, parts_in};
-ghost use Rattle.wire_parts.specs.Locals.{cells_of, setting};
+ghost use Rattle.wire_parts.specs.Locals.{cells_of, settings};
 
 use crate::find::{control_named, header_fields, named_in, parser_named, struct_fields};
 use crate::header::{Field, Header};
@@ -84,6 +84,8 @@ fn push_registers(alloc: Global, tops: &[Top], registers: &mut Vec<Cells>) -> Re
                 registers.push(cells_of(alloc, r)?)?;
                 push_registers(alloc, tops, registers)
             }
+            Top::Const(_, _, _, _) => push_registers(alloc, tops, registers),
+            Top::Typedef(_, _, _) => push_registers(alloc, tops, registers),
             Top::Header(_, _, _) => push_registers(alloc, tops, registers),
             Top::Struct(_, _, _) => push_registers(alloc, tops, registers),
             Top::Pars(_, _) => push_registers(alloc, tops, registers),
@@ -93,33 +95,43 @@ fn push_registers(alloc: Global, tops: &[Top], registers: &mut Vec<Cells>) -> Re
 }
 
 /// The statement that sets a control's variable.
-fn setting_under(alloc: Global, r: &Roots<'_>, local: &Local) -> Result<Stmt, AllocError>
-    ensures { IfOk result (λ s. stmt_of s ≡ stmt_under (roots_in r.now) (setting (local_of local.now))) }
+fn setting_under(
+    alloc: Global,
+    r: &Roots<'_>,
+    at: u32,
+    ty: &PTy,
+    name: &Name,
+    start: &Option<Expr>,
+) -> Result<Stmt, AllocError>
+    ensures { IfOk result (λ s. stmt_of s ≡ stmt_under (roots_in r.now) (var at ty.now name.now (option_map expr_of start.now))) }
 {
-    match local {
-        Local::Var(at, ty, name, start) => {
-            let ty = ty.copy(alloc)?;
-            let name = name.copy(alloc)?;
-            let start = start_under(alloc, r, start)?;
-            Ok(Stmt::Var(*at, ty, name, start))
-        }
-    }
+    let ty = ty.copy(alloc)?;
+    let name = name.copy(alloc)?;
+    let start = start_under(alloc, r, start)?;
+    Ok(Stmt::Var(at, ty, name, start))
 }
 
+/// The statements that set a control's variables go behind those that are there.
 fn push_settings(
     alloc: Global,
     r: &Roots<'_>,
     list: &[Local],
     body: &mut Vec<Stmt>,
 ) -> Result<(), AllocError>
-    ensures { OnOk result (map stmt_of body.new.items ≡ map stmt_of body.old.items ++ map (stmt_under (roots_in r.now)) (map setting (map local_of list.now))) }
+    ensures { OnOk result (map stmt_of body.new.items ≡ map stmt_of body.old.items ++ map (stmt_under (roots_in r.now)) (settings (map local_of list.now))) }
 {
     match list {
         [] => Ok(()),
-        [local, list @ ..] => {
-            body.push(setting_under(alloc, r, local)?)?;
-            push_settings(alloc, r, list, body)
-        }
+        [local, list @ ..] => match local {
+            Local::Var(at, ty, name, start) => {
+                body.push(setting_under(alloc, r, *at, ty, name, start)?)?;
+                push_settings(alloc, r, list, body)
+            }
+            Local::Act(_, _) => push_settings(alloc, r, list, body),
+            Local::Tab(_, _) => push_settings(alloc, r, list, body),
+            Local::Reg(_, _) => push_settings(alloc, r, list, body),
+            Local::Const(_, _, _, _) => push_settings(alloc, r, list, body),
+        },
     }
 }
 
@@ -210,7 +222,10 @@ fn push_emitted(alloc: Global, args: &[Arg], emits: &mut Vec<Vec<Name>>) -> Resu
                     [_second, _others @ ..] => Ok(()),
                 },
                 Expr::Num(_, _) | Expr::Flag(_, _) | Expr::Valid(_, _) => Ok(()),
-                Expr::Not(_, _) | Expr::Bin(_, _, _, _) | Expr::Cast(_, _, _) => Ok(()),
+                Expr::Applied(_, _, _) | Expr::ErrorName(_, _) => Ok(()),
+                Expr::Not(_, _) | Expr::Invert(_, _) | Expr::Negate(_, _) => Ok(()),
+                Expr::Bin(_, _, _, _) | Expr::Choice(_, _, _, _) => Ok(()),
+                Expr::Slice(_, _, _, _) | Expr::Cast(_, _, _) => Ok(()),
             },
         },
     }

@@ -24,6 +24,8 @@ pub fn parser_named<'a>(tops: &'a [Top], name: &str) -> Option<&'a Parser>
                     parser_named(tops, name)
                 }
             }
+            Top::Const(_, _, _, _) => parser_named(tops, name),
+            Top::Typedef(_, _, _) => parser_named(tops, name),
             Top::Header(_, _, _) => parser_named(tops, name),
             Top::Struct(_, _, _) => parser_named(tops, name),
             Top::Reg(_, _) => parser_named(tops, name),
@@ -46,6 +48,8 @@ pub fn control_named<'a>(tops: &'a [Top], name: &str) -> Option<&'a Control>
                     control_named(tops, name)
                 }
             }
+            Top::Const(_, _, _, _) => control_named(tops, name),
+            Top::Typedef(_, _, _) => control_named(tops, name),
             Top::Header(_, _, _) => control_named(tops, name),
             Top::Struct(_, _, _) => control_named(tops, name),
             Top::Reg(_, _) => control_named(tops, name),
@@ -68,6 +72,8 @@ pub fn struct_fields<'a>(tops: &'a [Top], name: &str) -> &'a [(PTy, Name)]
                     struct_fields(tops, name)
                 }
             }
+            Top::Const(_, _, _, _) => struct_fields(tops, name),
+            Top::Typedef(_, _, _) => struct_fields(tops, name),
             Top::Header(_, _, _) => struct_fields(tops, name),
             Top::Reg(_, _) => struct_fields(tops, name),
             Top::Pars(_, _) => struct_fields(tops, name),
@@ -90,6 +96,8 @@ pub fn header_fields<'a>(tops: &'a [Top], name: &str) -> &'a [(PTy, Name)]
                     header_fields(tops, name)
                 }
             }
+            Top::Const(_, _, _, _) => header_fields(tops, name),
+            Top::Typedef(_, _, _) => header_fields(tops, name),
             Top::Struct(_, _, _) => header_fields(tops, name),
             Top::Reg(_, _) => header_fields(tops, name),
             Top::Pars(_, _) => header_fields(tops, name),

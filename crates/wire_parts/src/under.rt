@@ -11,6 +11,7 @@ use p4_tree::{Arg, Expr, Stmt};
 use std::alloc::{AllocError, Global};
 
 /// An expression.
+#[cycle(under_expr)]
 pub fn expr_under(alloc: Global, r: &Roots<'_>, e: &Expr) -> Result<Expr, AllocError>
     ensures { IfOk result (λ t. expr_of t ≡ expr_under (roots_in r.now) (expr_of e.now)) }
 {
@@ -19,21 +20,40 @@ pub fn expr_under(alloc: Global, r: &Roots<'_>, e: &Expr) -> Result<Expr, AllocE
         Expr::Flag(at, b) => Ok(Expr::Flag(*at, *b)),
         Expr::Path(at, path) => Ok(Expr::Path(*at, path_under(alloc, r, path)?)),
         Expr::Valid(at, path) => Ok(Expr::Valid(*at, path_under(alloc, r, path)?)),
-        Expr::Not(at, a) => {
-            let a = expr_under(alloc, r, a)?;
-            Ok(Expr::Not(*at, Box::new(alloc, a)?))
-        }
+        Expr::Applied(at, table, hit) => Ok(Expr::Applied(*at, table.copy(alloc)?, *hit)),
+        Expr::ErrorName(at, name) => Ok(Expr::ErrorName(*at, name.copy(alloc)?)),
+        Expr::Not(at, a) => Ok(Expr::Not(*at, boxed_under(alloc, r, a)?)),
+        Expr::Invert(at, a) => Ok(Expr::Invert(*at, boxed_under(alloc, r, a)?)),
+        Expr::Negate(at, a) => Ok(Expr::Negate(*at, boxed_under(alloc, r, a)?)),
         Expr::Bin(at, op, a, b) => {
-            let a = Box::new(alloc, expr_under(alloc, r, a)?)?;
-            let b = Box::new(alloc, expr_under(alloc, r, b)?)?;
+            let a = boxed_under(alloc, r, a)?;
+            let b = boxed_under(alloc, r, b)?;
             Ok(Expr::Bin(*at, *op, a, b))
+        }
+        Expr::Choice(at, test, a, b) => {
+            let test = boxed_under(alloc, r, test)?;
+            let a = boxed_under(alloc, r, a)?;
+            let b = boxed_under(alloc, r, b)?;
+            Ok(Expr::Choice(*at, test, a, b))
+        }
+        Expr::Slice(at, a, high, low) => {
+            let a = boxed_under(alloc, r, a)?;
+            Ok(Expr::Slice(*at, a, *high, *low))
         }
         Expr::Cast(at, ty, a) => {
             let ty = ty.copy(alloc)?;
-            let a = expr_under(alloc, r, a)?;
-            Ok(Expr::Cast(*at, ty, Box::new(alloc, a)?))
+            let a = boxed_under(alloc, r, a)?;
+            Ok(Expr::Cast(*at, ty, a))
         }
     }
+}
+
+#[cycle(under_expr)]
+fn boxed_under(alloc: Global, r: &Roots<'_>, e: &Box<Expr>) -> Result<Box<Expr>, AllocError>
+    ensures { IfOk result (λ b. expr_of b.value ≡ expr_under (roots_in r.now) (expr_of e.now.value)) }
+{
+    let e = expr_under(alloc, r, e)?;
+    Ok(Box::new(alloc, e)?)
 }
 
 /// Expressions.
