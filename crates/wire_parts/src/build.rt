@@ -2,23 +2,23 @@
 
 ghost use Rattle.std.specs.Prelude.{◌≡◌, ◌++◌, ◌∷◌, [], IfOk, OnOk, Some, map};
 ghost use Rattle.std.specs.Option.{option_map};
-ghost use Rattle.p4_tree.specs.Tree.{stmts_from, var};
+ghost use Rattle.p4_tree.specs.Tree.{var};
 ghost use Rattle.p4_tree.specs.Standard.{headers_root};
 ghost use Rattle.p4_tree.specs.View.{top_of, expr_of, stmt_of, stmts_of, control_of, parser_of, state_of, arg_of, local_of, program_of};
-ghost use Rattle.p4_tree.specs.Parts.{field_of, header_of, registers_of, body_of, states_of, emitted, emits_of, parser_type, control_in, parser_in, parts_of, stmt_under};
+ghost use Rattle.p4_tree.specs.Parts.{field_of, header_of, registers_of, body_of, states_of, emitted, emits_of, parser_type, control_in, parser_in, parts_of, settings_of, stmt_under, stmts_under};
 ghost use Rattle.wire_parts.specs.Headers.{field_in, header_in};
 ghost use Rattle.wire_parts.specs.Lent.{lent, roots_in};
 ghost use Rattle.wire_parts.specs.Paths.{path_in};
-ghost use Rattle.wire_parts.specs.PartsIn.{cells_decl, parts_in};
+ghost use Rattle.wire_parts.specs.PartsIn.{body_in, cells_decl, parts_in};
 ghost use Rattle.wire_parts.specs.Locals.{cells_of, settings};
 
 use crate::find::{control_named, header_fields, named_in, parser_named, struct_fields};
 use crate::header::{Field, Header};
 use crate::names::{copy_path, path_of_two};
-use crate::parts::{Cells, Parts};
+use crate::parts::{Body, Cells, Parts};
 use crate::roots::{Roots, param_type, roots_of, type_name};
 use crate::states::states_under;
-use crate::under::{start_under, stmt_under};
+use crate::under::{start_under, stmts_under};
 use crate::widths::width_of;
 use bit_values::sound_width;
 use lex_text::Name;
@@ -135,21 +135,13 @@ fn push_settings(
     }
 }
 
-fn push_body(
-    alloc: Global,
-    r: &Roots<'_>,
-    list: &[Stmt],
-    body: &mut Vec<Stmt>,
-) -> Result<(), AllocError>
-    ensures { OnOk result (map stmt_of body.new.items ≡ map stmt_of body.old.items ++ map (stmt_under (roots_in r.now)) (map stmt_of list.now)) }
+/// The statements that set a control's variables.
+fn settings_under(alloc: Global, r: &Roots<'_>, list: &[Local]) -> Result<Vec<Stmt>, AllocError>
+    ensures { IfOk result (λ v. stmts_of v.items ≡ stmts_under (roots_in r.now) (settings_of (map local_of list.now))) }
 {
-    match list {
-        [] => Ok(()),
-        [s, list @ ..] => {
-            body.push(stmt_under(alloc, r, s)?)?;
-            push_body(alloc, r, list, body)
-        }
-    }
+    let mut body = Vec::new(alloc);
+    push_settings(alloc, r, list, &mut body)?;
+    Ok(body)
 }
 
 /// A control's variables and body, where the three parameters stand at these places.
@@ -159,14 +151,13 @@ fn body_in(
     metadata: u8,
     standard: u8,
     control: &Control,
-) -> Result<Vec<Stmt>, AllocError>
-    ensures { IfOk result (λ v. stmts_of v.items ≡ body_of headers metadata standard (Some (control_of control.now))) }
+) -> Result<Body, AllocError>
+    ensures { IfOk result (λ b. body_in b ≡ body_of headers metadata standard (Some (control_of control.now))) }
 {
-    let mut body = Vec::new(alloc);
     let roots = roots_of(&control.params, headers, metadata, standard);
-    push_settings(alloc, &roots, &control.locals, &mut body)?;
-    push_body(alloc, &roots, &control.apply, &mut body)?;
-    Ok(body)
+    let locals = settings_under(alloc, &roots, &control.locals)?;
+    let body = stmts_under(alloc, &roots, &control.apply)?;
+    Ok(Body { locals, body })
 }
 
 /// The body of a control that may be there.
@@ -176,11 +167,14 @@ fn body_of(
     metadata: u8,
     standard: u8,
     control: Option<&Control>,
-) -> Result<Vec<Stmt>, AllocError>
-    ensures { IfOk result (λ v. stmts_of v.items ≡ body_of headers metadata standard (option_map control_of (lent control.entry))) }
+) -> Result<Body, AllocError>
+    ensures { IfOk result (λ b. body_in b ≡ body_of headers metadata standard (option_map control_of (lent control.entry))) }
 {
     match control {
-        None => Ok(Vec::new(alloc)),
+        None => Ok(Body {
+            locals: Vec::new(alloc),
+            body: Vec::new(alloc),
+        }),
         Some(c) => body_in(alloc, headers, metadata, standard, c),
     }
 }
@@ -265,11 +259,11 @@ fn parser_in(p: &Program) -> Option<&Parser>
 
 /// The headers that the deparser of a program emits.
 fn emits_in(alloc: Global, p: &Program) -> Result<Vec<Vec<Name>>, AllocError>
-    ensures { IfOk result (λ v. map path_in v.items ≡ emits_of (body_of 1 9 9 (control_in (program_of p.now) 5))) }
+    ensures { IfOk result (λ v. map path_in v.items ≡ emits_of (body_of 1 9 9 (control_in (program_of p.now) 5)).body) }
 {
     let deparser = body_of(alloc, 1, 9, 9, control_in(p, 5))?;
     let mut emits = Vec::new(alloc);
-    push_emits(alloc, &deparser, &mut emits)?;
+    push_emits(alloc, &deparser.body, &mut emits)?;
     Ok(emits)
 }
 

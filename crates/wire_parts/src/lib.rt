@@ -24,5 +24,5 @@ pub use names::{
     copy_path, field_path, has_two, last_name, parent, path_of_one, path_of_two, same_path,
     same_text,
 };
-pub use parts::{Cells, Parts};
+pub use parts::{Body, Cells, Parts};
 pub use widths::width_of;

@@ -12,6 +12,13 @@ pub struct Cells {
     pub count: u128,
 }
 
+/// What a control runs: the statements that set its variables, and then its body.
+#[derive(Drop)]
+pub struct Body {
+    pub locals: Vec<Stmt>,
+    pub body: Vec<Stmt>,
+}
+
 /// The parts of a program. Paths begin with fixed roots.
 #[derive(Drop)]
 pub struct Parts {
@@ -19,9 +26,9 @@ pub struct Parts {
     pub headers: Vec<Header>,
     pub metadata: Vec<Field>,
     pub states: Vec<ParserState>,
-    pub verify: Vec<Stmt>,
-    pub ingress: Vec<Stmt>,
-    pub egress: Vec<Stmt>,
-    pub compute: Vec<Stmt>,
+    pub verify: Body,
+    pub ingress: Body,
+    pub egress: Body,
+    pub compute: Body,
     pub emits: Vec<Vec<Name>>,
 }
