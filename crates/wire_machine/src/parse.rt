@@ -155,8 +155,10 @@ fn parse_call(
                     [_second, _others @ ..] => Ok(Step::On(at)),
                 },
                 Expr::Num(_, _) | Expr::Flag(_, _) | Expr::Valid(_, _) => Ok(Step::On(at)),
-                Expr::Not(_, _) => Ok(Step::On(at)),
-                Expr::Bin(_, _, _, _) | Expr::Cast(_, _, _) => Ok(Step::On(at)),
+                Expr::Applied(_, _, _) | Expr::ErrorName(_, _) => Ok(Step::On(at)),
+                Expr::Not(_, _) | Expr::Invert(_, _) | Expr::Negate(_, _) => Ok(Step::On(at)),
+                Expr::Bin(_, _, _, _) | Expr::Choice(_, _, _, _) => Ok(Step::On(at)),
+                Expr::Slice(_, _, _, _) | Expr::Cast(_, _, _) => Ok(Step::On(at)),
             },
         },
     }

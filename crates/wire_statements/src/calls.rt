@@ -108,7 +108,10 @@ fn read_register(alloc: Global, name: &str, args: &[Arg], r: &mut Run) -> Result
                     },
                 },
                 Expr::Num(_, _) | Expr::Flag(_, _) | Expr::Valid(_, _) => Ok(()),
-                Expr::Not(_, _) | Expr::Bin(_, _, _, _) | Expr::Cast(_, _, _) => Ok(()),
+                Expr::Applied(_, _, _) | Expr::ErrorName(_, _) => Ok(()),
+                Expr::Not(_, _) | Expr::Invert(_, _) | Expr::Negate(_, _) => Ok(()),
+                Expr::Bin(_, _, _, _) | Expr::Choice(_, _, _, _) => Ok(()),
+                Expr::Slice(_, _, _, _) | Expr::Cast(_, _, _) => Ok(()),
             },
         },
     }
@@ -165,7 +168,10 @@ fn tell(alloc: Global, args: &[Arg], r: &mut Run) -> Result<(), AllocError>
                     },
                 },
                 Expr::Path(_, _) | Expr::Flag(_, _) | Expr::Valid(_, _) => Ok(()),
-                Expr::Not(_, _) | Expr::Bin(_, _, _, _) | Expr::Cast(_, _, _) => Ok(()),
+                Expr::Applied(_, _, _) | Expr::ErrorName(_, _) => Ok(()),
+                Expr::Not(_, _) | Expr::Invert(_, _) | Expr::Negate(_, _) => Ok(()),
+                Expr::Bin(_, _, _, _) | Expr::Choice(_, _, _, _) => Ok(()),
+                Expr::Slice(_, _, _, _) | Expr::Cast(_, _, _) => Ok(()),
             },
         },
     }

@@ -1,10 +1,11 @@
 //! The value of an expression.
 
-ghost use Rattle.std.specs.Prelude.{◌≡◌, IfOk, map};
+ghost use Rattle.std.specs.Prelude.{◌≡◌, ◌≤◌, ◌+◌, ◌-◌, IfOk, map};
 ghost use Rattle.std.specs.Option.{option_map};
-ghost use Rattle.bit_values.specs.Widths.{holds};
+ghost use Rattle.bit_values.specs.Bits.{word};
+ghost use Rattle.bit_values.specs.Widths.{holds, sound_width, cast_word};
 ghost use Rattle.p4_tree.specs.View.{expr_of};
-ghost use Rattle.p4_tree.specs.Value.{own_width, value_of};
+ghost use Rattle.p4_tree.specs.Value.{own_width, value_of, error_of, negated};
 ghost use Rattle.p4_tree.specs.Statements.{start_of};
 ghost use Rattle.wire_statements.specs.Fields.{store_of};
 
@@ -12,7 +13,7 @@ use crate::fields::Fields;
 use bit_values::{Bits, either_width, holds, sound_width, truth};
 use p4_tree::{Expr, PTy};
 use std::alloc::{AllocError, Global};
-use wire_parts::width_of;
+use wire_parts::{same_text, width_of};
 
 /// The width that an expression has of its own, or 0.
 fn own_width(e: &Expr, s: &Fields) -> u8
@@ -23,16 +24,70 @@ fn own_width(e: &Expr, s: &Fields) -> u8
         Expr::Flag(_, _) => 1,
         Expr::Path(_, names) => s.read(names).width(),
         Expr::Valid(_, _) => 1,
+        Expr::Applied(_, _, _) => 1,
+        Expr::ErrorName(_, _) => 2,
         Expr::Not(_, _) => 1,
+        Expr::Invert(_, a) => own_width(a, s),
+        Expr::Negate(_, a) => own_width(a, s),
         Expr::Bin(_, op, a, b) => {
             let v = own_width(a, s);
             op.operator().own_width(v, own_width(b, s))
         }
+        Expr::Choice(_, _, a, b) => {
+            let v = own_width(a, s);
+            either_width(v, own_width(b, s))
+        }
+        Expr::Slice(_, _, high, low) => slice_width(*high, *low),
         Expr::Cast(_, ty, _) => width_of(ty),
     }
 }
 
+/// The width itself where a number can have it, else 128.
+fn sound_count(bits: u16) -> u8
+    ensures value { result ≡ sound_width bits }
+    ensures wide { 1 ≤ result }
+    ensures narrow { result ≤ 128 }
+{
+    if bits == 0 || bits > 128 {
+        128
+    } else {
+        bits as u8
+    }
+}
+
+/// The bits from one down to another.
+fn slice_width(high: u8, low: u8) -> u8
+    ensures value { result ≡ sound_width (high + 1 - low) }
+    ensures wide { 1 ≤ result }
+    ensures narrow { result ≤ 128 }
+{
+    sound_count((high as u16 + 1).saturating_sub(low as u16))
+}
+
+/// The number that gives 0 with this one.
+fn negated(x: Bits) -> Bits
+    ensures { result ≡ negated x }
+{
+    Bits::default().cast(x.width()).sub(x)
+}
+
+/// The number of a parser's error.
+fn error_word(name: &str) -> Bits
+    ensures { result ≡ word 2 (error_of name.now) }
+{
+    if same_text(name, "NoError") {
+        Bits::new(2, 0)
+    } else if same_text(name, "PacketTooShort") {
+        Bits::new(2, 1)
+    } else if same_text(name, "NoMatch") {
+        Bits::new(2, 2)
+    } else {
+        Bits::new(2, 3)
+    }
+}
+
 /// The value of an expression, where its place gives `width` bits, or 0 where it gives none.
+#[cycle(value)]
 pub fn value_of(e: &Expr, width: u8, s: &Fields) -> Bits
     ensures { result ≡ value_of (expr_of e.now) width (store_of s.now) }
 {
@@ -43,18 +98,41 @@ pub fn value_of(e: &Expr, width: u8, s: &Fields) -> Bits
         Expr::Flag(_, b) => truth(*b),
         Expr::Path(_, names) => s.read(names),
         Expr::Valid(_, header) => truth(s.header(header).unwrap_or(false)),
+        Expr::Applied(_, _, _) => truth(false),
+        Expr::ErrorName(_, name) => error_word(name.as_str()),
         Expr::Not(_, a) => truth(!holds(value_of(a, 1, s))),
+        Expr::Invert(_, a) => in_place(a, either_width(own_width(a, s), width), s).invert(),
+        Expr::Negate(_, a) => negated(in_place(a, either_width(own_width(a, s), width), s)),
         Expr::Bin(_, op, a, b) => {
             let v = own_width(a, s);
             let u = own_width(b, s);
-            let left = op.operator().left_width(v, u, width);
-            let right = op.operator().right_width(v, u, width);
-            let x = value_of(a, left, s).cast(sound_width(left));
-            let y = value_of(b, right, s).cast(sound_width(right));
+            let x = in_place(a, op.operator().left_width(v, u, width), s);
+            let y = in_place(b, op.operator().right_width(v, u, width), s);
             op.operator().apply(x, y)
+        }
+        Expr::Choice(_, test, a, b) => {
+            let own = either_width(own_width(a, s), own_width(b, s));
+            if holds(value_of(test, 1, s)) {
+                in_place(a, either_width(own, width), s)
+            } else {
+                in_place(b, either_width(own, width), s)
+            }
+        }
+        Expr::Slice(_, a, high, low) => {
+            value_of(a, 0, s)
+                .shr(*low as u128)
+                .cast(slice_width(*high, *low))
         }
         Expr::Cast(_, ty, a) => value_of(a, 0, s).cast(sound_width(width_of(ty))),
     }
+}
+
+/// The value of an operand in the width of its place.
+#[cycle(value)]
+fn in_place(e: &Expr, place: u8, s: &Fields) -> Bits
+    ensures { result ≡ cast_word (sound_width place) (value_of (expr_of e.now) place (store_of s.now)) }
+{
+    value_of(e, place, s).cast(sound_width(place))
 }
 
 /// Whether an expression's value is true.
