@@ -31,7 +31,8 @@ use Rattle.linked_halves.specs.Networks.{network_digest, entered_of}
 use Rattle.linked_halves.specs.Relations.{is_report, bare, Alike, IsPort, Others, Monitor, KeptBy, HeldBy}
 use Rattle.linked_halves.proofs.Apart.{readable_free, free_apart, free_above}
 use Rattle.linked_halves.proofs.Own.{Ran, stays_then, set_alike, AreAlikeCalls, no_calls_alike, all_ran}
-use Rattle.linked_halves.proofs.ExitRuns.{then_runs, unless_port}
+use Rattle.linked_halves.proofs.ExitRuns.{unless_port}
+use Rattle.p4_tree.proofs.Sequences.{then_runs}
 use Rattle.linked_halves.proofs.Lower.{Stands, assignment, lowers}
 use Rattle.linked_halves.proofs.Fill.{is_in, one_of_is, start_fits, start_is_zero}
 use Rattle.linked_halves.proofs.QueuedStores.{egress_alike, egress_monitor}
@@ -198,9 +199,9 @@ module _ (f : Parts) (own : IsForwarding f) (p : Property) (small : IsSmall p) (
       let y = (meaning_of no_calls body e.0).0 in
       let ran = all_ran no_calls no_calls no_calls_alike body (set_up u) e.0 own.ingress.body h.alike in
       let plain_is : (meaning_of no_calls (whole f.ingress) u).0 ≡ x =
-      ap (λ (r : Ended). r.0) (then_runs f.ingress.locals body u) ∙ ap (λ g. (after g (set_up u) (meaning_of no_calls body)).0) begun.goes in
+      ap (λ (r : Ended). r.0) (then_runs no_calls f.ingress.locals body u) ∙ ap (λ g. (after g (set_up u) (meaning_of no_calls body)).0) begun.goes in
       let linked_is : (meaning_of no_calls (whole (linked_parts f p linked_ports).ingress) v).0 ≡ y =
-      ap (λ (r : Ended). r.0) (then_runs f.ingress.locals (next (entry_stmt p linked_ports) body) v)
+      ap (λ (r : Ended). r.0) (then_runs no_calls f.ingress.locals (next (entry_stmt p linked_ports) body) v)
       ∙ ap (λ g. (after g (set_up v) (meaning_of no_calls (next (entry_stmt p linked_ports) body))).0) begun.goes_on
       ∙ ap (λ g. (after g e.0 (meaning_of no_calls body)).0) h.goes in
       let reports : filter is_report y.digests ≡ [] = ran.stays.reports ∙ (ap (filter is_report) h.digests ∙ (begun.stays.reports ∙ silent)) in

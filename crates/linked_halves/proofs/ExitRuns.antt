@@ -11,6 +11,7 @@ use Rattle.p4_tree.specs.declared.statement.Op.TheVariants as p4
 use Rattle.p4_tree.specs.Standard.{standard_root, egress_spec, egress_port}
 use Rattle.p4_tree.specs.Store.{shown, set_value, set_valid, made}
 use Rattle.p4_tree.specs.Value.{value_of}
+use Rattle.p4_tree.proofs.Sequences.{then_runs}
 use Rattle.p4_tree.specs.Statements.{no_calls, Flow, Go, Return, Exit, Run, Ended, after, in_store, cell_at, cell_set, put_cells, meaning_of_stmt, meaning_of}
 use Rattle.p4_tree.specs.Pass.{is_dropped}
 use Rattle.indus_tree.specs.Tree.{Property}
@@ -23,17 +24,6 @@ use Rattle.linked_halves.specs.Monitor.{number, tele_header, rejected_name, coun
 use Rattle.linked_halves.specs.Relations.{IsPort, Monitor}
 use Rattle.linked_halves.proofs.Lower.{Stands, open_by, written_open, Lowered, lowers}
 use Rattle.linked_halves.proofs.Fill.{is_in, one_of_is}
-
--- statements behind others
-after_after : (fl : Flow) (r : Run) (g : Run → Ended) (k : Run → Ended) → after fl r (λ q. after (g q).1 (g q).0 k) ≡ after (after fl r g).1 (after fl r g).0 k
-after_after Go r g k = refl
-after_after Return r g k = refl
-after_after Exit r g k = refl
-
-pub then_runs : (x y : Stmts) (r : Run) → meaning_of no_calls (and_then x y) r ≡ after (meaning_of no_calls x r).1 (meaning_of no_calls x r).0 (meaning_of no_calls y)
-then_runs done y r = refl
-then_runs (next s ss) y r =
-    ap (λ (g : Run → Ended). after (meaning_of_stmt no_calls s r).1 (meaning_of_stmt no_calls s r).0 g) (λ i q. then_runs ss y q i) ∙ after_after (meaning_of_stmt no_calls s r).1 (meaning_of_stmt no_calls s r).0 (meaning_of no_calls ss) (meaning_of no_calls y)
 
 -- nothing follows the last statement
 pub last_run : (e : Ended) → (after e.1 e.0 (meaning_of no_calls done)).0 ≡ e.0
@@ -152,7 +142,7 @@ module _ (p : Property) (small : IsSmall p) (linked_ports : List ℕ) (low : All
   pub exit_runs : (r : Reads Contents) (b : Run) (t z : Held) → Monitor p.decls b.store t → (meaning_of no_calls (exit_stmts p linked_ports) b).0 ≡ (meaning_of_stmt no_calls (check_stmt p linked_ports) (updated p b)).0
   exit_runs r b t z m =
       let tail = next (check_stmt p linked_ports) done in
-      ap (λ (e : Ended). e.0) (then_runs (lowered_block p.tele) tail b ∙ ap (λ g. after g (updated p b) (meaning_of no_calls tail)) (telemetry_runs r b t z m).goes)
+      ap (λ (e : Ended). e.0) (then_runs no_calls (lowered_block p.tele) tail b ∙ ap (λ g. after g (updated p b) (meaning_of no_calls tail)) (telemetry_runs r b t z m).goes)
       ∙ last_run (meaning_of_stmt no_calls (check_stmt p linked_ports) (updated p b))
 
   -- with the flag, the store stands for the state in front of the checker

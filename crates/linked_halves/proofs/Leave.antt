@@ -41,7 +41,7 @@ use Rattle.linked_halves.proofs.Fill.{tele_for, tele_has, tele_whole, is_in}
 use Rattle.linked_halves.proofs.Parse.{deparsed_same}
 use Rattle.linked_halves.proofs.EnterParse.{monitor_stays}
 use Rattle.linked_halves.proofs.ExitRuns.{last_run, run_unless, raised, counted, closed, flagged, unflagged, updated, telemetry_part, exit_test, check_test, telemetry_runs, exit_runs, flag_stands, check_runs, end_runs}
-pub use Rattle.linked_halves.proofs.ExitRuns.{then_runs}
+pub use Rattle.p4_tree.proofs.Sequences.{then_runs}
 
 -- own statements behind own statements
 own_then : (x y : Stmts) → AreOwnStmts x → AreOwnStmts y → AreOwnStmts (and_then x y)
@@ -164,7 +164,7 @@ module _ (f : Parts) (own : IsForwarding f) (p : Property) (small : IsSmall p) (
     whole_is =
         let tail = next (exit_stmt p linked_ports) done in
         ap (λ ss. (meaning_of no_calls ss (run_from q'.store b)).0) (then_then f.egress.locals f.egress.body tail)
-        ∙ ap (λ (e : Ended). e.0) (then_runs (whole f.egress) tail (run_from q'.store b) ∙ ap (λ g. after g own_run (meaning_of no_calls tail)) ran.goes_on)
+        ∙ ap (λ (e : Ended). e.0) (then_runs no_calls (whole f.egress) tail (run_from q'.store b) ∙ ap (λ g. after g own_run (meaning_of no_calls tail)) ran.goes_on)
         ∙ last_run (meaning_of_stmt no_calls (exit_stmt p linked_ports) own_run)
         ∙ ap (λ (e : Ended). e.0) (exit_test p small linked_ports low own_run monitor.standard (ran.stays.spec held.spec))
         ∙ run_unless (is_dropped own_run.store) own_run (meaning_of no_calls (exit_stmts p linked_ports) own_run)
@@ -287,7 +287,7 @@ module _ (f : Parts) (own : IsForwarding f) (p : Property) (small : IsSmall p) (
       whole_checked at =
           whole_told
           ∙ ap (λ d. if d then told else (meaning_of no_calls (check_stmts p) told).0) at
-          ∙ ap (λ (e : Ended). e.0) (then_runs (lowered_block p.check) end_stmts (flagged told) ∙ ap (λ g. after g checked (meaning_of no_calls end_stmts)) checked_by.goes)
+          ∙ ap (λ (e : Ended). e.0) (then_runs no_calls (lowered_block p.check) end_stmts (flagged told) ∙ ap (λ g. after g checked (meaning_of no_calls end_stmts)) checked_by.goes)
           ∙ end_runs p small linked_ports low checked (k % 2 ^ 32) verdict checked_by.stands checked_rejects
 
       closed_alike : Alike plain_run (closed checked)

@@ -1,4 +1,5 @@
 pub mod ParseLemmas
+pub mod LeftLemmas
 pub mod SwitchLemmas
 pub mod HalvesLemmas
 pub mod PassLemmas

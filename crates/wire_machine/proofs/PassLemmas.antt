@@ -4,7 +4,8 @@ use Rattle.bit_values.specs.Bits.{cast}
 use Rattle.p4_tree.specs.Standard.{egress_port}
 use Rattle.p4_tree.specs.Store.{Store}
 use Rattle.p4_tree.specs.Statements.{Digest}
-use Rattle.p4_tree.specs.Parsing.{bytes_of, deparse_of}
+use Rattle.bit_writer.specs.Bytes.{bytes_of}
+use Rattle.p4_tree.specs.Parsing.{deparse_of}
 use Rattle.p4_tree.specs.Parts.{Parts}
 use Rattle.p4_tree.specs.Pass.{Registers, Queued, Going, is_dropped, to_egress, unless_dropped, store_behind, parts_enter, parts_leave}
 use Rattle.wire_machine.specs.Machine.{goes_to}
@@ -20,10 +21,10 @@ module _ (p : Parts) (cells : Registers) where
     unfolding parts_enter
     entered_digests front l e = e ∙ ap (λ (t : Store). front ++ (ingress_run p t cells).digests) store
 
-    pub entered_queued : (t : Store) (rest : List ℕ) (o : Option Queued) → t ≡ (ingress_run p s cells).store → rest ≡ (parser_ends p port frame).reading.rest → o ≡ unless_dropped (is_dropped t) (record { store = to_egress t; rest = rest }) → o ≡ (parts_enter p cells port frame).queued
+    pub entered_queued : (t : Store) (rest : List ℕ) (o : Option Queued) → t ≡ (ingress_run p s cells).store → rest ≡ (parser_ends p port frame).reading.rest → o ≡ unless_dropped (is_dropped t) (record { store = to_egress p t; rest = rest }) → o ≡ (parts_enter p cells port frame).queued
     unfolding parts_enter
     entered_queued t rest o after left e =
-        e ∙ ap₂ (λ (t : Store) (l : List ℕ). let q : Queued = record { store = to_egress t; rest = l } in unless_dropped (is_dropped t) q) (after ∙ ap (λ (t : Store). (ingress_run p t cells).store) store) left
+        e ∙ ap₂ (λ (t : Store) (l : List ℕ). let q : Queued = record { store = to_egress p t; rest = l } in unless_dropped (is_dropped t) q) (after ∙ ap (λ (t : Store). (ingress_run p t cells).store) store) left
 
   module _ (q : Queued) (s : Store) (store : s ≡ q.store) where
     pub left_cells : (l : Registers) → l ≡ (egress_run p s cells).cells → l ≡ (parts_leave p cells q).registers

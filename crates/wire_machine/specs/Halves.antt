@@ -1,10 +1,10 @@
 -- The two halves of a pass, step by step.
 use Rattle.std.specs.Prelude.{ℕ, List, [], length}
 use Rattle.bit_values.specs.Bytes.{bits_of}
-use Rattle.p4_tree.specs.Statements.{Run, meaning_of}
+use Rattle.p4_tree.specs.Statements.{Run, no_calls, meaning_of}
 use Rattle.p4_tree.specs.Store.{Store}
 use Rattle.p4_tree.specs.Parsing.{ParserEnd, parse_of}
-use Rattle.p4_tree.specs.Parts.{Parts}
+use Rattle.p4_tree.specs.Parts.{Parts, whole}
 use Rattle.p4_tree.specs.Pass.{Registers, store_before, run_from}
 
 -- how the parser ends on a frame
@@ -13,12 +13,12 @@ parser_ends p port frame = parse_of p.headers p.states (record { store = store_b
 
 -- the run at the end of ingress, from the store behind the parser
 abbrev pub ingress_run : Parts → Store → Registers → Run
-ingress_run p s cells = (meaning_of p.ingress (meaning_of p.verify (run_from s cells)).0).0
+ingress_run p s cells = (meaning_of no_calls (whole p.ingress) (meaning_of no_calls p.verify (run_from s cells)).0).0
 
 -- the run at the end of egress
 abbrev pub egress_run : Parts → Store → Registers → Run
-egress_run p s cells = (meaning_of p.egress (run_from s cells)).0
+egress_run p s cells = (meaning_of no_calls (whole p.egress) (run_from s cells)).0
 
 -- the store behind compute checksum
 abbrev pub computed : Parts → Store → Store
-computed p s = (meaning_of p.compute (run_from s (λ x. []))).0.store
+computed p s = (meaning_of no_calls p.compute (run_from s (λ x. []))).0.store

@@ -1,9 +1,10 @@
 -- Where a parser is in a frame, and how its steps end.
-use Rattle.std.specs.Prelude.{ℕ, List, drop, ◌≤◌, Option, Some, None, Result, Ok, Err}
+use Rattle.std.specs.Prelude.{◌≡◌, ℕ, suc, List, drop, ◌≤◌, Option, Some, None, Result, Ok, Err}
 use Rattle.std.proofs.Common.{Bor}
 use Rattle.bit_values.specs.Bytes.{bits_of}
+use Rattle.p4_tree.specs.Tree.{ParserState}
 use Rattle.p4_tree.specs.Parsing as parsing
-use Rattle.p4_tree.specs.Parsing.{Reading, Parsed, goes_on, stops, ParserEnd, parser_end, Turned, ends, leads}
+use Rattle.p4_tree.specs.Parsing.{Header, on_turned, turns_of, Reading, Parsed, goes_on, stops, ParserEnd, parser_end, Turned, ends, leads}
 use Rattle.wire_statements.specs.Fields.{store_of}
 use Rattle.wire_statements.specs.declared.fields.Fields.{Fields}
 use Rattle.wire_machine.specs.declared.parse.ParserError as code_error
@@ -54,3 +55,7 @@ turned_of (turn.Next at x) f frame = leads x.now (reading_of f frame at)
 abbrev pub TurnsWithin : code_turn.Turn → ℕ → Type 0
 TurnsWithin (turn.End at e) n = at ≤ n
 TurnsWithin (turn.Next at x) n = at ≤ n
+
+-- how one turn ends, and which states are left: whatever number of turns follow, these are the turns from there on
+abbrev pub IsTurn : List Header → List ParserState → (name : List ℕ) → Reading → Turned → (left : List ParserState) → Type 0
+IsTurn hs sts x s t left = (n : ℕ) → turns_of (suc n) hs sts x s ≡ on_turned t (turns_of n hs left)

@@ -119,11 +119,11 @@ pub fn store_before(alloc: Global, p: &Parts, port: u16, length: u64) -> Result<
 const NO_PORT: u128 = 0;
 
 /// The store that waits for egress.
-pub fn to_egress(alloc: Global, s: &mut Fields) -> Result<(), AllocError>
-    ensures { OnOk result (store_of s.new ≡ to_egress (store_of s.old)) }
+pub fn to_egress(alloc: Global, p: &Parts, s: &mut Fields) -> Result<(), AllocError>
+    ensures { OnOk result (store_of s.new ≡ to_egress (parts_in p.now) (store_of s.old)) }
 {
     let spec = standard_value(alloc, "egress_spec", s)?;
-    s.forget_variables();
+    s.keep_declared(p);
     set_number(alloc, "egress_port", 9, number(spec), s)?;
     set_number(alloc, "egress_spec", 9, NO_PORT, s)?;
     Ok(())

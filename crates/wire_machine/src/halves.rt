@@ -3,7 +3,8 @@
 ghost use Rattle.std.specs.Prelude.{◌≡◌, ◌≤◌, ◌*◌, ◌++◌, length, drop, IfOk, OnOk, map};
 ghost use Rattle.bit_values.specs.Bits.{cast};
 ghost use Rattle.bit_values.specs.Bytes.{bits_of};
-ghost use Rattle.p4_tree.specs.Statements.{meaning_of};
+ghost use Rattle.p4_tree.specs.Statements.{no_calls, meaning_of};
+ghost use Rattle.p4_tree.specs.Parts.{whole};
 ghost use Rattle.p4_tree.specs.Pass.{is_dropped, store_behind, run_from, error_number};
 ghost use Rattle.wire_parts.specs.PartsIn.{parts_in};
 ghost use Rattle.wire_statements.specs.Fields.{store_of};
@@ -19,7 +20,7 @@ use lex_text::Name;
 use std::alloc::{AllocError, Global};
 use std::mem;
 use wire_parts::Parts;
-use wire_statements::{Digest, Fields, Run, run_stmts};
+use wire_statements::{Digest, Fields, Run, run_body};
 
 fn error_number(e: ParserError) -> u128
     ensures value { result ≡ error_number (error_of e) }
@@ -74,17 +75,17 @@ fn append(told: &mut Vec<Digest>, digests: Vec<Digest>) -> Result<(), AllocError
 }
 
 fn run_ingress(alloc: Global, p: &Parts, r: &mut Run) -> Result<(), AllocError>
-    ensures { OnOk result (run_of r.new ≡ (meaning_of (parts_in p.now).ingress (meaning_of (parts_in p.now).verify (run_of r.old)).0).0) }
+    ensures { OnOk result (run_of r.new ≡ (meaning_of no_calls (whole (parts_in p.now).ingress) (meaning_of no_calls (parts_in p.now).verify (run_of r.old)).0).0) }
 {
-    let _ = run_stmts(alloc, &p.verify, r)?;
-    let _ = run_stmts(alloc, &p.ingress, r)?;
+    let _ = run_body(alloc, &p.verify, r)?;
+    let _ = run_body(alloc, &p.ingress, r)?;
     Ok(())
 }
 
 fn run_egress(alloc: Global, p: &Parts, r: &mut Run) -> Result<(), AllocError>
-    ensures { OnOk result (run_of r.new ≡ (meaning_of (parts_in p.now).egress (run_of r.old)).0) }
+    ensures { OnOk result (run_of r.new ≡ (meaning_of no_calls (whole (parts_in p.now).egress) (run_of r.old)).0) }
 {
-    let _ = run_stmts(alloc, &p.egress, r)?;
+    let _ = run_body(alloc, &p.egress, r)?;
     Ok(())
 }
 
@@ -147,7 +148,7 @@ pub fn computed(alloc: Global, p: &Parts, fields: Fields) -> Result<Fields, Allo
         registers: Vec::new(alloc),
         digests: Vec::new(alloc),
     };
-    let _ = run_stmts(alloc, &p.compute, &mut r)?;
+    let _ = run_body(alloc, &p.compute, &mut r)?;
     Ok(r.fields)
 }
 

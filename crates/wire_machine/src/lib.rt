@@ -21,7 +21,6 @@ mod select;
 mod states;
 mod switch;
 mod write;
-mod writer;
 
 pub use passed::Passed;
 pub use queued::Queued;

@@ -3,6 +3,7 @@
 ghost use Rattle.std.specs.Prelude.{◌≡◌, ◌≤◌, ◌*◌, length, drop, IfOk};
 ghost use Rattle.bit_values.specs.Bytes.{bits_of};
 ghost use Rattle.p4_tree.specs.Pass.{is_dropped, to_egress, unless_dropped};
+ghost use Rattle.wire_parts.specs.PartsIn.{parts_in};
 ghost use Rattle.wire_statements.specs.Fields.{store_of};
 ghost use Rattle.wire_machine.specs.Rests.{rest_in};
 ghost use Rattle.wire_machine.specs.Machine.{queued_of};
@@ -12,6 +13,7 @@ use crate::begin::to_egress;
 use crate::halves::is_dropped;
 use crate::rest::Rest;
 use std::alloc::{AllocError, Global};
+use wire_parts::Parts;
 use wire_statements::Fields;
 
 /// A packet that waits for egress: its store, and the bits that the parser did not consume.
@@ -49,18 +51,19 @@ fn rest_from(alloc: Global, frame: &[u8], at: usize) -> Result<Rest, AllocError>
 /// What waits for egress after ingress; `None` where the packet is dropped.
 pub fn queue(
     alloc: Global,
+    p: &Parts,
     mut fields: Fields,
     frame: &[u8],
     at: usize,
 ) -> Result<Option<Queued>, AllocError>
     requires { at ≤ 8 * length frame.now }
-    ensures { IfOk result (λ q. option_map queued_of q ≡ unless_dropped (is_dropped (store_of fields)) (record { store = to_egress (store_of fields); rest = drop at (bits_of frame.now) })) }
+    ensures { IfOk result (λ q. option_map queued_of q ≡ unless_dropped (is_dropped (store_of fields)) (record { store = to_egress (parts_in p.now) (store_of fields); rest = drop at (bits_of frame.now) })) }
 {
     let drops = is_dropped(alloc, &fields)?;
     if drops {
         return Ok(None);
     }
-    to_egress(alloc, &mut fields)?;
+    to_egress(alloc, p, &mut fields)?;
     let rest = rest_from(alloc, frame, at)?;
     Ok(Some(Queued { fields, rest }))
 }

@@ -2,9 +2,10 @@
 
 ghost use Rattle.std.specs.Prelude.{◌≡◌, ◌≤◌, ◌*◌, length, IfOk, map};
 ghost use Rattle.p4_tree.specs.View.{state_of};
-ghost use Rattle.p4_tree.specs.Parsing.{in_state, one_turn, turns_of, parser_end};
+ghost use Rattle.p4_tree.specs.Parsing.{body_parsed, found_state, turned, turns_of, parser_end};
 ghost use Rattle.wire_parts.specs.Headers.{header_in};
-ghost use Rattle.wire_machine.specs.Places.{error_of, reading_of, turned_of, TurnsWithin};
+ghost use Rattle.wire_machine.specs.Left.{states_in, found_in};
+ghost use Rattle.wire_machine.specs.Places.{error_of, reading_of, turned_of, TurnsWithin, IsTurn};
 
 use crate::parse::{ParserError, Step, parse_body};
 use crate::select::{Led, state_after};
@@ -20,42 +21,46 @@ pub enum Turn<'a> {
     Next(usize, &'a Name),
 }
 
-fn in_state<'a>(
+/// Takes the first state of a name from the states that were not passed yet.
+fn take_state<'a>(left: &mut Vec<&'a ParserState>, name: &Name) -> Option<&'a ParserState>
+    ensures { found_in result left.new.items ≡ found_state (states_in left.old.items) name.now }
+{
+    for i in 0..left.len() {
+        if same_text(left[i].name.as_str(), name.as_str()) {
+            return Some(left.remove(i));
+        }
+    }
+    None
+}
+
+/// A state is passed.
+fn pass_state<'a>(
     alloc: Global,
     headers: &[Header],
-    states: &'a [ParserState],
-    name: &Name,
+    st: &'a ParserState,
     frame: &[u8],
     at: usize,
     s: &mut Fields,
 ) -> Result<Turn<'a>, AllocError>
     requires short { length frame.now ≤ 65791 }
     requires within { at ≤ 8 * length frame.now }
-    ensures turned { IfOk result (λ t. turned_of t s.new frame.now ≡ in_state (map header_in headers.now) (map state_of states.now) name.now (reading_of s.old frame.now at)) }
+    ensures turned { IfOk result (λ t. turned_of t s.new frame.now ≡ turned (body_parsed (map header_in headers.now) (state_of st.now).body (reading_of s.old frame.now at)) (state_of st.now).next) }
     ensures within { IfOk result (λ t. TurnsWithin t (8 * length frame.now)) }
 {
-    match states {
-        [] => Ok(Turn::End(at, ParserError::NoError)),
-        [st, states @ ..] => {
-            if same_text(st.name.as_str(), name.as_str()) {
-                match parse_body(alloc, headers, &st.body, frame, at, s)? {
-                    Step::Stop(at, e) => Ok(Turn::End(at, e)),
-                    Step::On(at) => match state_after(alloc, &st.next, s)? {
-                        Led::To(next) => Ok(Turn::Next(at, next)),
-                        Led::Halt(e) => Ok(Turn::End(at, e)),
-                    },
-                }
-            } else {
-                in_state(alloc, headers, states, name, frame, at, s)
-            }
-        }
+    match parse_body(alloc, headers, &st.body, frame, at, s)? {
+        Step::Stop(at, e) => Ok(Turn::End(at, e)),
+        Step::On(at) => match state_after(alloc, &st.next, s)? {
+            Led::To(next) => Ok(Turn::Next(at, next)),
+            Led::Halt(e) => Ok(Turn::End(at, e)),
+        },
     }
 }
 
+/// One turn: the state of a name is passed, and taken from those that are left.
 fn one_turn<'a>(
     alloc: Global,
     headers: &[Header],
-    states: &'a [ParserState],
+    left: &mut Vec<&'a ParserState>,
     name: &Name,
     frame: &[u8],
     at: usize,
@@ -63,14 +68,30 @@ fn one_turn<'a>(
 ) -> Result<Turn<'a>, AllocError>
     requires short { length frame.now ≤ 65791 }
     requires within { at ≤ 8 * length frame.now }
-    ensures turned { IfOk result (λ t. turned_of t s.new frame.now ≡ one_turn (map header_in headers.now) (map state_of states.now) name.now (reading_of s.old frame.now at)) }
+    ensures turned { IfOk result (λ t. IsTurn (map header_in headers.now) (states_in left.old.items) name.now (reading_of s.old frame.now at) (turned_of t s.new frame.now) (states_in left.new.items)) }
     ensures within { IfOk result (λ t. TurnsWithin t (8 * length frame.now)) }
 {
     if same_text(name.as_str(), "accept") || same_text(name.as_str(), "reject") {
-        Ok(Turn::End(at, ParserError::NoError))
-    } else {
-        in_state(alloc, headers, states, name, frame, at, s)
+        return Ok(Turn::End(at, ParserError::NoError));
     }
+    match take_state(left, name) {
+        None => Ok(Turn::End(at, ParserError::NoError)),
+        Some(st) => pass_state(alloc, headers, st, frame, at, s),
+    }
+}
+
+/// The states, none of which was passed yet.
+fn all_left<'a>(
+    alloc: Global,
+    states: &'a [ParserState],
+) -> Result<Vec<&'a ParserState>, AllocError>
+    ensures { IfOk result (λ v. states_in v.items ≡ map state_of states.now) }
+{
+    let mut left = Vec::new(alloc);
+    for st in states {
+        left.push(st)?;
+    }
+    Ok(left)
 }
 
 /// The parser from a state on, at most so many turns: how far it came, and its error.
@@ -87,10 +108,11 @@ pub fn run_states(
     ensures within { IfOk result (λ r. r.0 ≤ 8 * length frame.now) }
     ensures ends { IfOk result (λ r. parser_end (reading_of s.new frame.now r.0) (error_of r.1) ≡ turns_of turns (map header_in headers.now) (map state_of states.now) start.now (reading_of s.old frame.now 0)) }
 {
+    let mut left = all_left(alloc, states)?;
     let mut at = 0;
     let mut name = start;
     for i in 0..turns {
-        match one_turn(alloc, headers, states, name, frame, at, s)? {
+        match one_turn(alloc, headers, &mut left, name, frame, at, s)? {
             Turn::End(end, e) => return Ok((end, e)),
             Turn::Next(end, next) => {
                 at = end;

@@ -84,7 +84,7 @@ impl Switch {
     {
         let (fields, at) = parse(alloc, &self.parts, port, frame)?;
         let fields = ingress(alloc, &self.parts, fields, &mut self.registers, told)?;
-        let queued = queue(alloc, fields, frame, at)?;
+        let queued = queue(alloc, &self.parts, fields, frame, at)?;
         Ok(queued)
     }
 

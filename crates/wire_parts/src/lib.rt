@@ -9,6 +9,7 @@
 #![tactic(auto)]
 
 mod build;
+mod declared;
 mod find;
 mod header;
 mod names;
@@ -19,10 +20,8 @@ mod under;
 mod widths;
 
 pub use build::parts_of;
+pub use declared::{is_assignable, is_declared_header, is_declared_path};
 pub use header::{Field, Header};
-pub use names::{
-    copy_path, field_path, has_two, last_name, parent, path_of_one, path_of_two, same_path,
-    same_text,
-};
+pub use names::{copy_path, field_path, parent, path_of_one, path_of_two, same_path, same_text};
 pub use parts::{Body, Cells, Parts};
 pub use widths::width_of;

@@ -1,8 +1,7 @@
 //! Names and paths: whether two are the same, and the parts of a path.
 
 ghost use Rattle.std.specs.Prelude.{◌≡◌, ◌∷◌, ◌++◌, [], IfOk};
-ghost use Rattle.lex_text.specs.Names.{same_text, same_path, parent, last_name};
-ghost use Rattle.wire_parts.specs.Paths.{has_two};
+ghost use Rattle.lex_text.specs.Names.{same_text, same_path, parent};
 
 use lex_text::Name;
 use std::alloc::{AllocError, Global};
@@ -30,32 +29,6 @@ pub fn parent(path: &[Name]) -> &[Name]
     ensures { result.now ≡ parent path.now }
 {
     &path[..path.len().saturating_sub(1)]
-}
-
-/// Whether a path has two names or more.
-pub fn has_two(path: &[Name]) -> bool
-    ensures { result ≡ has_two path.now }
-{
-    match path {
-        [] => false,
-        [_first, rest @ ..] => match rest {
-            [] => false,
-            [_second, _more @ ..] => true,
-        },
-    }
-}
-
-/// The last name of a path.
-pub fn last_name(path: &[Name]) -> &str
-    ensures { result.now ≡ last_name path.now }
-{
-    match path {
-        [] => "",
-        [x, rest @ ..] => match rest {
-            [] => x.as_str(),
-            [_y, _more @ ..] => last_name(rest),
-        },
-    }
 }
 
 /// An equal path.

@@ -1,5 +1,5 @@
 -- Writes into a list of paths with their values.
-use Rattle.std.proofs.Common.{map, filter, append_assoc, ◌≡◌, ℕ, suc, ◌+◌, ◌<◌, length, take, drop, get_or, add-one, arith, List, [], ◌∷◌, ◌++◌, Bool, true, false, cond, Option, refl, sym, ap, ◌∙◌, Decides}
+use Rattle.std.proofs.Common.{map, filter, append_assoc, ◌≡◌, ℕ, suc, ◌+◌, ◌<◌, length, take, drop, get_or, add-one, arith, List, [], ◌∷◌, ◌++◌, Bool, true, false, cond, Option, Some, None, refl, sym, ap, ap₂, ◌∙◌, Decides}
 use Rattle.std.proofs.lemmas.Slice.Eq.{slice_eq-Decides, bytes_eq-Decides}
 use Rattle.std.specs.Prelude.{slice_set}
 use Rattle.std.proofs.lemmas.List.{get_or_default, take-append-drop, take-set, drop-set, drop-set-lt}
@@ -8,9 +8,9 @@ use Rattle.bit_values.specs.Bits.{Word, word}
 use Rattle.lex_text.specs.Names.{same_path}
 use Rattle.lex_text.specs.Names.{parent}
 use Rattle.p4_tree.specs.Store.{Store, zero_of, zeroed}
-use Rattle.p4_tree.specs.Pass.{value_kept, without_locals}
-use Rattle.wire_parts.specs.Paths.{has_two}
-use Rattle.wire_statements.specs.Fields.{Key, look, value_in, header_in, put_in, zero_under, is_field}
+use Rattle.p4_tree.specs.Parts.{Parts}
+use Rattle.p4_tree.specs.Pass.{is_declared_path, is_declared_header, declared}
+use Rattle.wire_statements.specs.Fields.{Key, look, value_in, header_in, put_in, zero_under, at_key}
 
 pub path_decides : (p q : List (List ℕ)) → Decides (same_path p q) (p ≡ q)
 path_decides p q = slice_eq-Decides bytes_eq-Decides p q (same_path p q) refl
@@ -131,26 +131,25 @@ zero_value h (e ∷ es) q = zero_step h q e (value_in es q) (value_in (map (zero
 pub zero_all : (h : List (List ℕ)) (es es' : List (Key × Word)) (vs : List (Key × Bool)) → es' ≡ map (zero_under h) es → store_with vs (value_in es') ≡ zeroed (store_with vs (value_in es)) h
 zero_all h es es' vs e = ap (λ l. store_with vs (value_in l)) e ∙ ap (store_with vs) (λ i q. zero_value h es q i)
 
-kept_step : (q : List (List ℕ)) (e : Key × Word) (es : List (Key × Word)) (b c : Bool) → is_field e ≡ b → same_path e.0.items q ≡ c → value_in (filter is_field es) q ≡ cond (has_two q) (value_in es q) (word 1 0) → value_in (cond b (e ∷ filter is_field es) (filter is_field es)) q ≡ cond (has_two q) (cond c e.1 (value_in es q)) (word 1 0)
-kept_step q e es true true f s h =
-    let k : e.0.items ≡ q = (path_decides e.0.items q).0 s in
-    ap (λ x. cond x e.1 (value_in (filter is_field es) q)) s
-    ∙ ap (λ x. cond x e.1 (word 1 0)) (sym f ∙ ap has_two k)
-kept_step q e es true false f s h = ap (λ x. cond x e.1 (value_in (filter is_field es) q)) s ∙ h
-kept_step q e es false true f s h =
-    let k : e.0.items ≡ q = (path_decides e.0.items q).0 s in
-    let none : has_two q ≡ false = sym (ap has_two k) ∙ f in
-    h ∙ ap (λ x. cond x (value_in es q) (word 1 0)) none ∙ sym (ap (λ x. cond x e.1 (word 1 0)) none)
-kept_step q e es false false f s h = h
+-- only the entries whose paths pass a test are kept
+module _ {X Y : Type 0} (d : Y) (f : X → Y) (test : List (List ℕ) → Bool) where
+  kept_step : (q : List (List ℕ)) (e : Key × X) (es : List (Key × X)) (b c : Bool) → test e.0.items ≡ b → same_path e.0.items q ≡ c → look d f (filter (at_key test) es) q ≡ cond (test q) (look d f es q) d → look d f (cond b (e ∷ filter (at_key test) es) (filter (at_key test) es)) q ≡ cond (test q) (cond c (f e.1) (look d f es q)) d
+  kept_step q e es true true t s h =
+      let k : e.0.items ≡ q = (path_decides e.0.items q).0 s in
+      ap (λ x. cond x (f e.1) (look d f (filter (at_key test) es) q)) s
+      ∙ ap (λ x. cond x (f e.1) d) (sym t ∙ ap test k)
+  kept_step q e es true false t s h = ap (λ x. cond x (f e.1) (look d f (filter (at_key test) es) q)) s ∙ h
+  kept_step q e es false true t s h =
+      let k : e.0.items ≡ q = (path_decides e.0.items q).0 s in
+      let none : test q ≡ false = sym (ap test k) ∙ t in
+      h ∙ ap (λ x. cond x (look d f es q) d) none ∙ sym (ap (λ x. cond x (f e.1) d) none)
+  kept_step q e es false false t s h = h
 
-kept_value : (es : List (Key × Word)) (q : List (List ℕ)) → value_in (filter is_field es) q ≡ cond (has_two q) (value_in es q) (word 1 0)
-kept_value [] q = same_both (has_two q) (word 1 0)
-kept_value (e ∷ es) q = kept_step q e es (is_field e) (same_path e.0.items q) refl refl (kept_value es q)
+  kept_value : (es : List (Key × X)) (q : List (List ℕ)) → look d f (filter (at_key test) es) q ≡ cond (test q) (look d f es q) d
+  kept_value [] q = same_both (test q) d
+  kept_value (e ∷ es) q = kept_step q e es (test e.0.items) (same_path e.0.items q) refl refl (kept_value es q)
 
-kept_as : (f : List (List ℕ) → Word) (q : List (List ℕ)) → cond (has_two q) (f q) (word 1 0) ≡ value_kept f q
-kept_as f [] = refl
-kept_as f (x ∷ []) = refl
-kept_as f (x ∷ y ∷ rest) = refl
-
-pub kept_all : (es es' : List (Key × Word)) (vs : List (Key × Bool)) → es' ≡ filter is_field es → store_with vs (value_in es') ≡ without_locals (store_with vs (value_in es))
-kept_all es es' vs e = ap (λ l. store_with vs (value_in l)) e ∙ ap (store_with vs) (λ i q. (kept_value es q ∙ kept_as (value_in es) q) i)
+pub kept_all : (p : Parts) (es es' : List (Key × Word)) (vs vs' : List (Key × Bool)) → es' ≡ filter (at_key (is_declared_path p)) es → vs' ≡ filter (at_key (is_declared_header p.headers)) vs → headed_with (value_in es') (header_in vs') ≡ declared p (headed_with (value_in es) (header_in vs))
+kept_all p es es' vs vs' e h =
+    ap₂ (λ l k. headed_with (value_in l) (header_in k)) e h
+    ∙ ap₂ headed_with (λ i q. kept_value (word 1 0) (λ w. w) (is_declared_path p) es q i) (λ i q. kept_value None Some (is_declared_header p.headers) vs q i)

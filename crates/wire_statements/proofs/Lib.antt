@@ -1,3 +1,4 @@
 pub mod FieldsLemmas
 pub mod ValueLemmas
 pub mod RegistersLemmas
+pub mod BodyLemmas

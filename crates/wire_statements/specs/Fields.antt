@@ -4,7 +4,6 @@ use Rattle.std.specs.Global.{Vec}
 use Rattle.bit_values.specs.Bits.{Word, word}
 use Rattle.lex_text.specs.Names.{same_path, parent}
 use Rattle.p4_tree.specs.Store.{Store, zero_of}
-use Rattle.wire_parts.specs.Paths.{has_two}
 use Rattle.wire_statements.specs.declared.fields.Fields.{Fields}
 
 -- a path, as the lists keep it
@@ -37,6 +36,6 @@ put_in (e ∷ es) p w = if same_path e.0.items p then (true, (e.0, w) ∷ es) el
 abbrev pub zero_under : List (List ℕ) → Key × Word → Key × Word
 zero_under h e = (e.0, if same_path h (parent e.0.items) then zero_of e.1 else e.1)
 
--- the entry's path has two names or more
-abbrev pub is_field : Key × Word → Bool
-is_field e = has_two e.0.items
+-- a test of an entry's path
+abbrev pub at_key : {X : Type 0} → (List (List ℕ) → Bool) → Key × X → Bool
+at_key test e = test e.0.items

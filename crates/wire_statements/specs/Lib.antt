@@ -1,5 +1,5 @@
 -- What callers rest on: a store of paths, and what statements work on.
 pub mod Fields
 pub mod Runs
-
--- What serves the proofs: nothing more.
+-- What serves the proofs.
+pub mod Calls

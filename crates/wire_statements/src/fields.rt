@@ -3,13 +3,18 @@
 ghost use Rattle.std.specs.Prelude.{◌≡◌, ◌∷◌, ◌++◌, [], false, IfOk, OnOk, map, filter};
 ghost use Rattle.lex_text.specs.Names.{parent};
 ghost use Rattle.p4_tree.specs.Store.{blank, read, set_value, set_valid, zero_of, zeroed, write};
-ghost use Rattle.p4_tree.specs.Pass.{without_locals};
-ghost use Rattle.wire_statements.specs.Fields.{store_of, value_in, header_in, put_in, zero_under, is_field};
+ghost use Rattle.p4_tree.specs.Pass.{declared, is_declared_path, is_declared_header};
+ghost use Rattle.wire_parts.specs.Headers as parts;
+ghost use Rattle.wire_parts.specs.PartsIn.{parts_in};
+ghost use Rattle.wire_statements.specs.Fields.{store_of, value_in, header_in, put_in, zero_under, at_key};
 
 use bit_values::Bits;
 use lex_text::Name;
 use std::alloc::{AllocError, Global};
-use wire_parts::{copy_path, field_path, has_two, parent, path_of_one, same_path};
+use wire_parts::{
+    Header, Parts, copy_path, field_path, is_declared_header, is_declared_path, parent,
+    path_of_one, same_path,
+};
 
 /// The words of paths, and which headers are valid. The first entry of a path counts.
 #[derive(Drop)]
@@ -19,7 +24,7 @@ pub struct Fields {
 }
 
 /// A number of the same width that is 0.
-fn zero_of(value: Bits) -> Bits
+pub fn zero_of(value: Bits) -> Bits
     ensures { result ≡ zero_of value }
 {
     Bits::new(value.width, 0)
@@ -72,11 +77,18 @@ fn zero_fields_of(entries: &mut Vec<(Vec<Name>, Bits)>, header: &[Name])
     }
 }
 
-/// Only the entries whose paths have two names or more.
-fn without_variables(entries: &mut Vec<(Vec<Name>, Bits)>)
-    ensures { entries.new.items ≡ filter is_field entries.old.items }
+/// Only the entries of paths that a program declares.
+fn keep_paths(entries: &mut Vec<(Vec<Name>, Bits)>, p: &Parts)
+    ensures { entries.new.items ≡ filter (at_key (is_declared_path (parts_in p.now))) entries.old.items }
 {
-    entries.retain(|entry| has_two(&entry.0));
+    entries.retain(|entry| is_declared_path(p, &entry.0));
+}
+
+/// Only the entries of headers that a program declares.
+fn keep_headers(entries: &mut Vec<(Vec<Name>, bool)>, list: &[Header])
+    ensures { entries.new.items ≡ filter (at_key (is_declared_header (map parts.header_in list.now))) entries.old.items }
+{
+    entries.retain(|entry| is_declared_header(list, &entry.0));
 }
 
 impl Fields {
@@ -144,11 +156,12 @@ impl Fields {
         zero_fields_of(&mut self.values, header);
     }
 
-    /// Forgets the variables of controls: the paths of one name.
-    pub fn forget_variables(&mut self)
-        ensures { store_of self.new ≡ without_locals (store_of self.old) }
+    /// Forgets what a program does not declare, so the variables of controls.
+    pub fn keep_declared(&mut self, p: &Parts)
+        ensures { store_of self.new ≡ declared (parts_in p.now) (store_of self.old) }
     {
-        without_variables(&mut self.values);
+        keep_paths(&mut self.values, p);
+        keep_headers(&mut self.valid, &p.headers);
     }
 
     /// The word of a header's field, whether the header is valid or not.

@@ -12,6 +12,7 @@
 #![tactic(auto)]
 
 mod calls;
+mod checksum;
 mod eval;
 mod fields;
 mod registers;
@@ -19,8 +20,9 @@ mod run;
 mod statements;
 
 pub use calls::{assign, standard_path};
+pub use checksum::csum16;
 pub use eval::{value_of, values_of};
 pub use fields::Fields;
 pub use registers::cells_of;
 pub use run::{Digest, Flow, Run};
-pub use statements::run_stmts;
+pub use statements::{run_body, run_stmts};

@@ -1,9 +1,12 @@
 //! The cells of registers.
 
-ghost use Rattle.std.specs.Prelude.{◌≡◌};
+ghost use Rattle.std.specs.Prelude.{◌≡◌, get_or};
+ghost use Rattle.bit_values.specs.Bits.{word};
+ghost use Rattle.p4_tree.specs.Store.{zero_of};
 ghost use Rattle.p4_tree.specs.Statements.{cell_at, cell_set, put_cells};
 ghost use Rattle.wire_statements.specs.Runs.{cells_in, place_in};
 
+use crate::fields::zero_of;
 use bit_values::{Bits, sound_width};
 use lex_text::Name;
 use wire_parts::same_text;
@@ -24,14 +27,24 @@ pub fn cells_of<'a>(registers: &'a [(Name, Vec<Bits>)], name: &str) -> &'a [Bits
     }
 }
 
-/// A cell; out of range it is 0.
+/// The number 0, as wide as the cells.
+fn zero_cell(cells: &[Bits]) -> Bits
+    ensures { result ≡ zero_of (get_or cells.now 0 (word 1 0)) }
+{
+    match cells {
+        [] => Bits::default(),
+        [first, _others @ ..] => zero_of(*first),
+    }
+}
+
+/// A cell; out of range it is 0, as wide as the cells.
 pub fn cell_at(cells: &[Bits], index: u128) -> Bits
     ensures { result ≡ cell_at cells.now index }
 {
     if index < cells.len() as u128 {
         cells[index as usize]
     } else {
-        Bits::default()
+        zero_cell(cells)
     }
 }
 

@@ -8,4 +8,4 @@ pub returns : goal.returns
 returns c =
     c.in_ok-set_number-2.ensures
     ∙ ap (λ (s : Store). set_value s egress_spec (word 9 0)) (c.in_ok-set_number.ensures
-    ∙ ap₂ (λ (s : Store) (n : ℕ). set_value s egress_port (word 9 (cast 9 n))) c.forget_variables.ensures (c.number.ensures ∙ ap (λ (v : Word). v.value) c.in_ok-spec.ensures))
+    ∙ ap₂ (λ (s : Store) (n : ℕ). set_value s egress_port (word 9 (cast 9 n))) c.keep_declared.ensures (c.number.ensures ∙ ap (λ (v : Word). v.value) c.in_ok-spec.ensures))

@@ -1,0 +1,27 @@
+-- What a call of code does, where no action is called and no table applied; checksum calls, argument by argument; and
+-- a checksum byte by byte.
+use Rattle.std.specs.Prelude.{◌≡◌, ℕ, List, [], ◌∷◌, Bool, Option, Some, None}
+use Rattle.p4_tree.specs.Tree.{Expr, path, Arg, one}
+use Rattle.p4_tree.specs.Checksum.{bytes_sum}
+use Rattle.p4_tree.specs.Statements.{Act, sums, idle, no_calls, done_by}
+use Rattle.wire_statements.specs.Runs.{run_of}
+use Rattle.wire_statements.specs.declared.run.Run as code_run
+
+-- the run behind an act is what the act makes of the run before
+abbrev pub Does : Act → (before behind : code_run.Run) → Type 0
+Does act before behind = run_of behind ≡ (done_by no_calls act (run_of before)).0
+
+-- a checksum of a field, where that is a path
+abbrev pub sum_at : Bool → Expr → List Expr → Expr → Act
+sum_at verifies c es (path p field) = sums verifies c es field
+sum_at verifies c es _ = idle
+
+-- a checksum call from the field on
+abbrev pub sum_behind : Bool → Expr → List Expr → List Arg → Act
+sum_behind verifies c es (one p field ∷ one q algorithm ∷ []) = sum_at verifies c es field
+sum_behind verifies c es _ = idle
+
+-- the one's complement sum from a number on, perhaps with the first byte of a pair
+abbrev pub sum_from : ℕ → Option ℕ → List ℕ → ℕ
+sum_from sum None bytes = bytes_sum sum bytes
+sum_from sum (Some high) bytes = bytes_sum sum (high ∷ bytes)
