@@ -2,21 +2,27 @@
 -- them before, and no state of their parser reaches itself. Read `Regions` before.
 use Rattle.std.specs.Prelude.{◌≡◌, ℕ, suc, List, [], ◌∷◌, length, true, false, Option, Some, None, nat_eq}
 use Rattle.std.specs.List.{AllByRecursion}
-use Rattle.p4_tree.specs.Tree.{Expr, num, flag, path, valid, negation, binary, cast, Arg, one, Stmt, Stmts, MaybeStmt, nothing, block, var, assign, choice, return_, exit_, call, done, next, without, otherwise, Keyset, any, only, masked, Case, Transition, nowhere, to, select, ParserState}
+use Rattle.p4_tree.specs.Tree.{Expr, num, flag, path, valid, applied, error_name, negation, inversion, opposite, binary, conditional, slice, cast, Arg, one, Stmt, Stmts, MaybeStmt, nothing, block, var, assign, choice, return_, exit_, call, done, next, without, otherwise, Keyset, any, only, masked, Case, Transition, nowhere, to, select, ParserState}
 use Rattle.p4_tree.specs.Statements.{Act, makes, drops, reads, writes, tells, idle, act_of}
 use Rattle.p4_tree.specs.Parsing.{Reading, turns_of}
 use Rattle.p4_tree.specs.Parts.{Parts}
 use Rattle.linkage.specs.Linkage.{report_receiver}
 use Rattle.linked_halves.specs.Regions.{is_mine, is_free, is_readable, is_writable, is_own_header}
 
--- an expression reads own paths
+-- an expression reads own paths; whether a table's application hits is none
 abbrev pub IsOwnExpr : Expr → Type 0
 IsOwnExpr (num p n) = Unit {0}
 IsOwnExpr (flag p b) = Unit {0}
 IsOwnExpr (path p names) = is_readable names ≡ true
 IsOwnExpr (valid p header) = is_free header ≡ true
+IsOwnExpr (applied p x b) = ⊥
+IsOwnExpr (error_name p x) = Unit {0}
 IsOwnExpr (negation p a) = IsOwnExpr a
+IsOwnExpr (inversion p a) = IsOwnExpr a
+IsOwnExpr (opposite p a) = IsOwnExpr a
 IsOwnExpr (binary p op a b) = IsOwnExpr a × IsOwnExpr b
+IsOwnExpr (conditional p t a b) = IsOwnExpr t × IsOwnExpr a × IsOwnExpr b
+IsOwnExpr (slice p a high low) = IsOwnExpr a
 IsOwnExpr (cast p ty a) = IsOwnExpr a
 
 abbrev pub IsOwnStart : Option Expr → Type 0
