@@ -1,8 +1,8 @@
--- The words of types, paths and expressions, each operator's expression in round brackets.
+-- The words of types, paths and expressions, each operator's expression in round brackets but for a slice.
 use Rattle.std.specs.Prelude.{ℕ, List, [], ◌∷◌, ◌++◌, map, Bool, true, false, codes, zero, suc}
 use Rattle.std.specs.Fmt.{decimal}
 use Rattle.lex_text.specs.declared.literal.Literal.{Literal}
-use Rattle.p4_tree.specs.Tree.{Expr, num, flag, path, valid, negation, binary, cast, Arg, one, many}
+use Rattle.p4_tree.specs.Tree.{Expr, num, flag, path, valid, applied, error_name, negation, inversion, opposite, binary, conditional, slice, cast, Arg, one, many}
 use Rattle.p4_tree.specs.declared.statement.Op.{Op}
 use Rattle.p4_tree.specs.declared.statement.Op.TheVariants as op
 use Rattle.p4_tree.specs.declared.statement.PTy.{PTy}
@@ -57,14 +57,25 @@ words_of_name x = x ∷ []
 abbrev pub words_of_path : List (List ℕ) → List (List ℕ)
 words_of_path names = separated (codes ".") (map words_of_name names)
 
+-- the word for how the application of a table ends
+abbrev pub word_of_outcome : (hit : Bool) → List ℕ
+word_of_outcome true = codes "hit"
+word_of_outcome false = codes "miss"
+
 -- the words of an expression
 abbrev pub words_of_expr : Expr → List (List ℕ)
 words_of_expr (num p n) = word_of_number n ∷ []
 words_of_expr (flag p b) = word_of_flag b ∷ []
 words_of_expr (path p names) = words_of_path names
 words_of_expr (valid p header) = words_of_path header ++ codes "." ∷ codes "isValid" ∷ codes "(" ∷ codes ")" ∷ []
+words_of_expr (applied p x hit) = x ∷ codes "." ∷ codes "apply" ∷ codes "(" ∷ codes ")" ∷ codes "." ∷ word_of_outcome hit ∷ []
+words_of_expr (error_name p x) = codes "error" ∷ codes "." ∷ x ∷ []
 words_of_expr (negation p a) = bracketed (codes "!" ∷ words_of_expr a)
+words_of_expr (inversion p a) = bracketed (codes "~" ∷ words_of_expr a)
+words_of_expr (opposite p a) = bracketed (codes "-" ∷ words_of_expr a)
 words_of_expr (binary p o a b) = bracketed (words_of_expr a ++ mark_of o ∷ words_of_expr b)
+words_of_expr (conditional p t a b) = codes "(" ∷ (words_of_expr t ++ codes "?" ∷ (words_of_expr a ++ codes ":" ∷ (words_of_expr b ++ codes ")" ∷ [])))
+words_of_expr (slice p a high low) = words_of_expr a ++ codes "[" ∷ decimal high ∷ codes ":" ∷ decimal low ∷ codes "]" ∷ []
 words_of_expr (cast p ty a) = bracketed (bracketed (words_of_type ty) ++ words_of_expr a)
 
 -- the words of expressions with commas between

@@ -1,9 +1,10 @@
 //! Types, paths, expressions and arguments as words.
 
 ghost use Rattle.std.specs.Prelude.{◌≡◌, List, ◌++◌, ◌∷◌, [], IfOk, string_bytes, codes, map};
+ghost use Rattle.std.specs.Fmt.{decimal};
 ghost use Rattle.p4_tree.specs.View.{expr_of, arg_of};
 ghost use Rattle.wire_printer.specs.Text.{text_of, each_after, bracketed};
-ghost use Rattle.wire_printer.specs.Expressions.{mark_of, word_of_number, word_of_flag, words_of_type, words_of_name, words_of_path, words_of_expr, words_of_exprs, words_of_arg, words_of_args};
+ghost use Rattle.wire_printer.specs.Expressions.{mark_of, word_of_number, word_of_flag, word_of_outcome, words_of_type, words_of_name, words_of_path, words_of_expr, words_of_exprs, words_of_arg, words_of_args};
 
 use crate::word::{put, put_decimal, put_name};
 use lex_text::{Literal, Name};
@@ -105,11 +106,21 @@ pub fn put_expr(alloc: Global, out: &mut String, e: &Expr) -> Result<(), AllocEr
         Expr::Flag(_, flag) => put_flag(out, *flag)?,
         Expr::Path(_, names) => put_path(out, names)?,
         Expr::Valid(_, header) => put_valid(out, header)?,
-        Expr::Not(_, a) => put_negation(alloc, out, a)?,
+        Expr::Applied(_, table, hit) => put_applied(out, table, *hit)?,
+        Expr::ErrorName(_, name) => put_error(out, name)?,
+        Expr::Not(_, a) => put_unary(alloc, out, "!", a)?,
+        Expr::Invert(_, a) => put_unary(alloc, out, "~", a)?,
+        Expr::Negate(_, a) => put_unary(alloc, out, "-", a)?,
         Expr::Bin(_, op, a, b) => {
             put_left(alloc, out, a)?;
             put_right(alloc, out, *op, b)?;
         }
+        Expr::Choice(_, test, a, b) => {
+            put_left(alloc, out, test)?;
+            put_held(alloc, out, a)?;
+            put_elsewhere(alloc, out, b)?;
+        }
+        Expr::Slice(_, a, high, low) => put_slice(alloc, out, a, *high, *low)?,
         Expr::Cast(_, ty, a) => put_cast(alloc, out, ty, a)?,
     }
     Ok(())
@@ -127,19 +138,96 @@ fn put_valid(out: &mut String, header: &[Name]) -> Result<(), AllocError>
     Ok(())
 }
 
+fn outcome_text(hit: bool) -> &'static str
+    ensures { result.now ≡ word_of_outcome hit }
+{
+    if hit { "hit" } else { "miss" }
+}
+
+#[tactic(auto, using(crate::proofs::Texts::texts))]
+fn put_applied(out: &mut String, table: &Name, hit: bool) -> Result<(), AllocError>
+    ensures { IfOk result (λ _. string_bytes out.new ≡ string_bytes out.old ++ text_of (table.now ∷ codes "." ∷ codes "apply" ∷ codes "(" ∷ codes ")" ∷ codes "." ∷ word_of_outcome hit ∷ [])) }
+{
+    put_name(out, table)?;
+    put(out, ".")?;
+    put(out, "apply")?;
+    put(out, "(")?;
+    put(out, ")")?;
+    put(out, ".")?;
+    put(out, outcome_text(hit))?;
+    Ok(())
+}
+
+#[tactic(auto, using(crate::proofs::Texts::texts))]
+fn put_error(out: &mut String, name: &Name) -> Result<(), AllocError>
+    ensures { IfOk result (λ _. string_bytes out.new ≡ string_bytes out.old ++ text_of (codes "error" ∷ codes "." ∷ name.now ∷ [])) }
+{
+    put(out, "error")?;
+    put(out, ".")?;
+    put_name(out, name)?;
+    Ok(())
+}
+
+/// Puts an operator before its operand, in brackets.
 #[tactic(auto, using(crate::proofs::Texts::texts))]
 #[cycle(put_expr)]
-fn put_negation(alloc: Global, out: &mut String, a: &Expr) -> Result<(), AllocError>
-    ensures { IfOk result (λ _. string_bytes out.new ≡ string_bytes out.old ++ text_of (bracketed (codes "!" ∷ words_of_expr (expr_of a.now)))) }
+fn put_unary(alloc: Global, out: &mut String, mark: &str, a: &Expr) -> Result<(), AllocError>
+    ensures { IfOk result (λ _. string_bytes out.new ≡ string_bytes out.old ++ text_of (bracketed (mark.now ∷ words_of_expr (expr_of a.now)))) }
 {
     put(out, "(")?;
-    put(out, "!")?;
+    put(out, mark)?;
     put_expr(alloc, out, a)?;
     put(out, ")")?;
     Ok(())
 }
 
-/// Puts an opening bracket and an operator's left operand.
+/// Puts the value that a choice has where its test holds.
+#[tactic(auto, using(crate::proofs::Texts::texts))]
+#[cycle(put_expr)]
+fn put_held(alloc: Global, out: &mut String, a: &Expr) -> Result<(), AllocError>
+    ensures { IfOk result (λ _. string_bytes out.new ≡ string_bytes out.old ++ text_of (codes "?" ∷ words_of_expr (expr_of a.now))) }
+{
+    put(out, "?")?;
+    put_expr(alloc, out, a)?;
+    Ok(())
+}
+
+/// Puts the value that a choice has elsewhere, and the closing bracket.
+#[tactic(auto, using(crate::proofs::Texts::texts))]
+#[cycle(put_expr)]
+fn put_elsewhere(alloc: Global, out: &mut String, b: &Expr) -> Result<(), AllocError>
+    ensures { IfOk result (λ _. string_bytes out.new ≡ string_bytes out.old ++ text_of (codes ":" ∷ (words_of_expr (expr_of b.now) ++ codes ")" ∷ []))) }
+{
+    put(out, ":")?;
+    put_expr(alloc, out, b)?;
+    put(out, ")")?;
+    Ok(())
+}
+
+/// Puts the first and the last bit of a slice, in brackets.
+#[tactic(auto, using(crate::proofs::Texts::texts))]
+fn put_bounds(alloc: Global, out: &mut String, high: u8, low: u8) -> Result<(), AllocError>
+    ensures { IfOk result (λ _. string_bytes out.new ≡ string_bytes out.old ++ text_of (codes "[" ∷ decimal high ∷ codes ":" ∷ decimal low ∷ codes "]" ∷ [])) }
+{
+    put(out, "[")?;
+    put_decimal(alloc, out, high as u128)?;
+    put(out, ":")?;
+    put_decimal(alloc, out, low as u128)?;
+    put(out, "]")?;
+    Ok(())
+}
+
+#[tactic(auto, using(crate::proofs::Texts::texts))]
+#[cycle(put_expr)]
+fn put_slice(alloc: Global, out: &mut String, a: &Expr, high: u8, low: u8) -> Result<(), AllocError>
+    ensures { IfOk result (λ _. string_bytes out.new ≡ string_bytes out.old ++ text_of (words_of_expr (expr_of a.now) ++ codes "[" ∷ decimal high ∷ codes ":" ∷ decimal low ∷ codes "]" ∷ [])) }
+{
+    put_expr(alloc, out, a)?;
+    put_bounds(alloc, out, high, low)?;
+    Ok(())
+}
+
+/// Puts an opening bracket, and an operator's left operand or a choice's test.
 #[tactic(auto, using(crate::proofs::Texts::texts))]
 #[cycle(put_expr)]
 fn put_left(alloc: Global, out: &mut String, a: &Expr) -> Result<(), AllocError>

@@ -2,7 +2,7 @@
 //!
 //! The layers above get `program_words`: the words of a program's tree in the order of the P4 grammar,
 //! each behind the other and each with one line feed behind it. A word is a token's text. Each
-//! operator's expression stands in round brackets, and numbers are decimal.
+//! operator's expression but a slice stands in round brackets, and numbers are decimal.
 //!
 //! Follows: P4_16 Language Specification, its grammar and its lexical structure, this project's subset.
 //!
@@ -11,10 +11,12 @@
 //! words spell another tree.
 #![tactic(auto)]
 
+mod declaration;
 mod expression;
 mod parser;
 mod program;
 mod statement;
+mod table;
 mod word;
 
 pub use program::program_words;

@@ -1,17 +1,18 @@
 //! Controls, declarations and whole programs as words.
 
 ghost use Rattle.std.specs.Prelude.{◌≡◌, List, ◌++◌, ◌∷◌, [], IfOk, string_bytes, codes, map};
-ghost use Rattle.std.specs.Fmt.{decimal};
 ghost use Rattle.p4_tree.specs.View.{local_of, control_of, top_of, program_of};
 ghost use Rattle.wire_printer.specs.Text.{text_of, in_row, each_after, separated};
-ghost use Rattle.wire_printer.specs.Programs.{words_of_local, words_of_control, words_of_register, words_of_field, words_of_fields, words_of_top, words_of_part, words_of_main, words_of_program};
+ghost use Rattle.wire_printer.specs.Programs.{words_of_local, words_of_control, words_of_field, words_of_fields, words_of_top, words_of_part, words_of_main, words_of_program};
 
+use crate::declaration::{put_action, put_constant, put_register, put_typedef};
 use crate::expression::put_type;
 use crate::parser::{put_params, put_parser};
 use crate::statement::{put_block, put_var};
-use crate::word::{put, put_decimal, put_name};
+use crate::table::put_table;
+use crate::word::{put, put_name};
 use lex_text::Name;
-use p4_tree::{Control, Local, PTy, Program, Register, Top};
+use p4_tree::{Control, Local, PTy, Program, Top};
 use std::alloc::{AllocError, Global};
 
 #[tactic(auto, using(crate::proofs::Texts::texts))]
@@ -19,6 +20,10 @@ fn put_local(alloc: Global, out: &mut String, local: &Local) -> Result<(), Alloc
     ensures { IfOk result (λ _. string_bytes out.new ≡ string_bytes out.old ++ text_of (words_of_local (local_of local.now))) }
 {
     match local {
+        Local::Act(_, action) => put_action(alloc, out, action)?,
+        Local::Tab(_, table) => put_table(alloc, out, table)?,
+        Local::Reg(_, register) => put_register(alloc, out, register)?,
+        Local::Const(_, ty, name, e) => put_constant(alloc, out, ty, name, e)?,
         Local::Var(_, ty, name, start) => put_var(alloc, out, ty, name, start)?,
     }
     Ok(())
@@ -48,31 +53,6 @@ fn put_control(alloc: Global, out: &mut String, control: &Control) -> Result<(),
     put(out, "apply")?;
     put_block(alloc, out, &control.apply)?;
     put(out, "}")?;
-    Ok(())
-}
-
-/// Puts the end of a register's type, and its count.
-#[tactic(auto, using(crate::proofs::Texts::texts))]
-fn put_count(alloc: Global, out: &mut String, count: u128) -> Result<(), AllocError>
-    ensures { IfOk result (λ _. string_bytes out.new ≡ string_bytes out.old ++ text_of (codes ">" ∷ codes "(" ∷ decimal count ∷ codes ")" ∷ [])) }
-{
-    put(out, ">")?;
-    put(out, "(")?;
-    put_decimal(alloc, out, count)?;
-    put(out, ")")?;
-    Ok(())
-}
-
-#[tactic(auto, using(crate::proofs::Texts::texts))]
-fn put_register(alloc: Global, out: &mut String, register: &Register) -> Result<(), AllocError>
-    ensures { IfOk result (λ _. string_bytes out.new ≡ string_bytes out.old ++ text_of (words_of_register register.now)) }
-{
-    put(out, "register")?;
-    put(out, "<")?;
-    put_type(alloc, out, &register.ty)?;
-    put_count(alloc, out, register.count)?;
-    put_name(out, &register.name)?;
-    put(out, ";")?;
     Ok(())
 }
 
@@ -120,6 +100,8 @@ fn put_top(alloc: Global, out: &mut String, top: &Top) -> Result<(), AllocError>
     ensures { IfOk result (λ _. string_bytes out.new ≡ string_bytes out.old ++ text_of (words_of_top (top_of top.now))) }
 {
     match top {
+        Top::Const(_, ty, name, e) => put_constant(alloc, out, ty, name, e)?,
+        Top::Typedef(_, ty, name) => put_typedef(alloc, out, ty, name)?,
         Top::Header(_, name, fields) => put_record(alloc, out, "header", name, fields)?,
         Top::Struct(_, name, fields) => put_record(alloc, out, "struct", name, fields)?,
         Top::Reg(_, register) => put_register(alloc, out, register)?,

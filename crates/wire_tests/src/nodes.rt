@@ -27,6 +27,11 @@ pub fn number(value: u128) -> Expr {
     Expr::Num(0, Literal { width: 0, value })
 }
 
+/// A number of a written width.
+pub fn wide(width: u8, value: u128) -> Expr {
+    Expr::Num(0, Literal { width, value })
+}
+
 pub fn binary(alloc: Global, op: Op, a: Expr, b: Expr) -> Result<Expr, AllocError> {
     let a = Box::new(alloc, a)?;
     let b = Box::new(alloc, b)?;

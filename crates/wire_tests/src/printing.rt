@@ -1,12 +1,13 @@
 //! Texts of programs, written by hand from the grammar.
 
 use crate::nodes::{
-    binary, call, control, digest, if_else, named, number, param, path, program, read, set, two,
+    binary, call, control, digest, if_else, named, names, number, param, path, program, read, set,
+    two, wide,
 };
-use lex_text::{Literal, Name};
+use lex_text::Name;
 use p4_tree::{
-    Control, Expr, Keyset, Local, Op, PTy, Parser, ParserState, Program, Register, Stmt, Top,
-    Transition, Way,
+    Action, Control, Expr, Keyset, Local, Op, PTy, Parser, ParserState, Program, Register, Stmt,
+    Table, Top, Transition, Way,
 };
 use std::alloc::{AllocError, Global};
 use wire_printer::program_words;
@@ -19,10 +20,6 @@ fn text_of_line(alloc: Global, line: &str) -> Result<String, AllocError> {
         text.push_str("\n")?;
     }
     Ok(text)
-}
-
-fn wide(width: u8, value: u128) -> Expr {
-    Expr::Num(0, Literal { width, value })
 }
 
 fn operation(alloc: Global, op: Op) -> Result<Expr, AllocError> {
@@ -87,6 +84,44 @@ fn assignments(rt: HostRuntime) -> Result<(), AllocError> {
     assert!(rt; gives(alloc, s, "m . f = ( ( bit < 9 > ) ( a + b ) ) ;")?);
     let not = Expr::Not(0, Box::new(alloc, Expr::Flag(0, false))?);
     assert!(rt; gives(alloc, set(alloc, "f", not)?, "f = ( ! false ) ;")?);
+    let sum = Box::new(alloc, operation(alloc, Op::Add)?)?;
+    let s = set(alloc, "x", Expr::Invert(0, sum))?;
+    assert!(rt; gives(alloc, s, "x = ( ~ ( a + b ) ) ;")?);
+    let s = set(alloc, "x", Expr::Negate(0, Box::new(alloc, wide(8, 1))?))?;
+    assert!(rt; gives(alloc, s, "x = ( - 8w1 ) ;")?);
+    Ok(())
+}
+
+/// A choice, slices of a field and of a sum, and an error's name.
+#[test]
+fn choices_and_slices(rt: HostRuntime) -> Result<(), AllocError> {
+    let alloc = rt.alloc();
+    let test = Box::new(alloc, operation(alloc, Op::Equal)?)?;
+    let a = Box::new(alloc, read(alloc, "m.f")?)?;
+    let sum = Box::new(alloc, operation(alloc, Op::Concat)?)?;
+    let b = Box::new(alloc, Expr::Slice(0, sum, 11, 4))?;
+    let s = set(alloc, "x", Expr::Choice(0, test, a, b))?;
+    let line = "x = ( ( a == b ) ? m . f : ( a ++ b ) [ 11 : 4 ] ) ;";
+    assert!(rt; gives(alloc, s, line)?);
+    let low = Expr::Slice(0, Box::new(alloc, read(alloc, "m.f")?)?, 127, 0);
+    let s = set(alloc, "x", Expr::Slice(0, Box::new(alloc, low)?, 0, 0))?;
+    assert!(rt; gives(alloc, s, "x = m . f [ 127 : 0 ] [ 0 : 0 ] ;")?);
+    let error = Expr::ErrorName(0, Name::new(alloc, "NoMatch")?);
+    assert!(rt; gives(alloc, set(alloc, "x", error)?, "x = error . NoMatch ;")?);
+    Ok(())
+}
+
+/// The application of a table as a whole test.
+#[test]
+fn applications(rt: HostRuntime) -> Result<(), AllocError> {
+    let alloc = rt.alloc();
+    let hit = Expr::Applied(0, Name::new(alloc, "t")?, true);
+    let s = if_else(alloc, hit, Stmt::Nothing(0), Stmt::Exit(0))?;
+    assert!(rt; gives(alloc, s, "if ( t . apply ( ) . hit ) ; else exit ;")?);
+    let miss = Expr::Applied(0, Name::new(alloc, "t")?, false);
+    let not = Expr::Not(0, Box::new(alloc, miss)?);
+    let s = Stmt::If(0, not, Box::new(alloc, Stmt::Return(0))?, None);
+    assert!(rt; gives(alloc, s, "if ( ( ! t . apply ( ) . miss ) ) return ;")?);
     Ok(())
 }
 
@@ -191,11 +226,73 @@ fn parser(alloc: Global) -> Result<Parser, AllocError> {
     })
 }
 
+fn action(alloc: Global) -> Result<Action, AllocError> {
+    let mut params = Vec::new(alloc);
+    params.push((PTy::Bit(8), Name::new(alloc, "v")?))?;
+    params.push((named(alloc, "port_t")?, Name::new(alloc, "w")?))?;
+    let mut body = Vec::new(alloc);
+    body.push(set(alloc, "meta.b", read(alloc, "v")?)?)?;
+    Ok(Action {
+        at: 0,
+        name: Name::new(alloc, "a")?,
+        params,
+        body,
+    })
+}
+
+fn table(alloc: Global) -> Result<Table, AllocError> {
+    let mut keys = Vec::new(alloc);
+    keys.push((read(alloc, "hdr.h.a")?, Name::new(alloc, "exact")?))?;
+    keys.push((operation(alloc, Op::Add)?, Name::new(alloc, "ternary")?))?;
+    let values = two(alloc, wide(8, 1), number(3))?;
+    Ok(Table {
+        at: 0,
+        name: Name::new(alloc, "t")?,
+        keys,
+        actions: names(alloc, "a NoAction", ' ')?,
+        default: Some((Name::new(alloc, "a")?, values)),
+        fixed: true,
+        size: Some(16),
+    })
+}
+
+fn empty_table(alloc: Global, default: Option<(Name, Vec<Expr>)>) -> Result<Table, AllocError> {
+    Ok(Table {
+        at: 0,
+        name: Name::new(alloc, "u")?,
+        keys: Vec::new(alloc),
+        actions: Vec::new(alloc),
+        default,
+        fixed: false,
+        size: None,
+    })
+}
+
+/// An action, three tables, a register and a constant.
+fn declared(alloc: Global) -> Result<Vec<Local>, AllocError> {
+    let mut locals = Vec::new(alloc);
+    locals.push(Local::Act(0, action(alloc)?))?;
+    locals.push(Local::Tab(0, table(alloc)?))?;
+    locals.push(Local::Tab(0, empty_table(alloc, None)?))?;
+    let none = (Name::new(alloc, "NoAction")?, Vec::new(alloc));
+    locals.push(Local::Tab(0, empty_table(alloc, Some(none))?))?;
+    let register = Register {
+        at: 0,
+        ty: PTy::Bit(8),
+        count: 2,
+        name: Name::new(alloc, "own")?,
+    };
+    locals.push(Local::Reg(0, register))?;
+    let on = Name::new(alloc, "on")?;
+    locals.push(Local::Const(0, PTy::Bool, on, Expr::Flag(0, true)))?;
+    Ok(locals)
+}
+
 fn with_locals(alloc: Global) -> Result<Control, AllocError> {
     let mut params = Vec::new(alloc);
     params.push(param(alloc, Way::Both, "H", "hdr")?)?;
     params.push(param(alloc, Way::Into, "M", "meta")?)?;
-    let mut locals = Vec::new(alloc);
+    let mut locals = declared(alloc)?;
     let seen = Name::new(alloc, "seen")?;
     locals.push(Local::Var(0, PTy::Bool, seen, Some(Expr::Flag(0, false))))?;
     let mut apply = Vec::new(alloc);
@@ -217,6 +314,9 @@ fn types(alloc: Global) -> Result<Vec<Top>, AllocError> {
     let mut headers = Vec::new(alloc);
     headers.push((named(alloc, "h_t")?, Name::new(alloc, "h")?))?;
     let mut tops = Vec::new(alloc);
+    let most = Name::new(alloc, "most")?;
+    tops.push(Top::Const(0, PTy::Bit(8), most, wide(8, 255)))?;
+    tops.push(Top::Typedef(0, PTy::Bit(9), Name::new(alloc, "port_t")?))?;
     tops.push(Top::Header(0, Name::new(alloc, "h_t")?, fields))?;
     tops.push(Top::Struct(0, Name::new(alloc, "H")?, headers))?;
     Ok(tops)
@@ -237,6 +337,8 @@ pub fn every_declaration(alloc: Global) -> Result<Program, AllocError> {
 }
 
 const DECLARATIONS: &str = "\
+const bit < 8 > most = 8w255 ;
+typedef bit < 9 > port_t ;
 header h_t { bit < 8 > a ; bit < 16 > b ; }
 struct H { h_t h ; }
 register < bit < 32 > > ( 4194304 ) r ;
@@ -246,6 +348,14 @@ transition select ( hdr . h . a , meta . b ) {
 ( 8w72 , 1 &&& 3 ) : more ; default : accept ; } }
 state more { transition last ; } state last { } }
 control C ( inout H hdr , in M meta ) {
+action a ( bit < 8 > v , port_t w ) { meta . b = v ; }
+table t { key = { hdr . h . a : exact ; ( a + b ) : ternary ; }
+actions = { a ; NoAction ; } size = 16 ;
+const default_action = a ( 8w1 , 3 ) ; }
+table u { key = { } actions = { } }
+table u { key = { } actions = { } default_action = NoAction ( ) ; }
+register < bit < 8 > > ( 2 ) own ;
+const bool on = true ;
 bool seen = false ; apply { ; exit ; } }
 V1Switch ( P ( ) , C ( ) ) main ;";
 

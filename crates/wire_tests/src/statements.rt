@@ -1,7 +1,7 @@
 //! Statements of a control, by hand: a sum that wraps, a header that is made valid, a register, a
 //! digest, a packet that is dropped, and a statement behind `exit`.
 
-use crate::nodes::{binary, call, digest, if_else, number, path, read, set, two};
+use crate::nodes::{binary, call, digest, if_else, number, path, read, set, two, wide};
 use bit_values::Bits;
 use lex_text::Name;
 use p4_tree::{Expr, Op, PTy, Stmt};
@@ -120,5 +120,57 @@ fn fields_are_read_and_written(rt: HostRuntime) -> Result<(), Fail> {
     assert!(rt; values_of(alloc, &list, &fields)?.as_slice() == [byte(10)].as_slice());
     fields.forget_variables();
     assert!(rt; fields.read(&path(alloc, "x")?).value == 0);
+    Ok(())
+}
+
+fn boxed_byte(alloc: Global, value: u128) -> Result<Box<Expr>, AllocError> {
+    Ok(Box::new(alloc, wide(8, value))?)
+}
+
+/// `(x == n) ? 8w2 : 8w3`
+fn choice(alloc: Global, n: u128) -> Result<Expr, AllocError> {
+    let test = binary(alloc, Op::Equal, read(alloc, "x")?, number(n))?;
+    let test = Box::new(alloc, test)?;
+    Ok(Expr::Choice(0, test, boxed_byte(alloc, 2)?, boxed_byte(alloc, 3)?))
+}
+
+/// `(8w0xAB ++ 8w0xCD)[high:low]`
+fn slice(alloc: Global, high: u8, low: u8) -> Result<Expr, AllocError> {
+    let joined = binary(alloc, Op::Concat, wide(8, 0xab), wide(8, 0xcd))?;
+    Ok(Expr::Slice(0, Box::new(alloc, joined)?, high, low))
+}
+
+/// A number without a written width, as an operand.
+fn one_number(alloc: Global, value: u128) -> Result<Box<Expr>, AllocError> {
+    Ok(Box::new(alloc, number(value))?)
+}
+
+/// The bits and the value of an expression where its place gives `place` bits, and x is 8w4.
+fn shown(alloc: Global, e: &Expr, place: u8) -> Result<(u8, u128), AllocError> {
+    let mut fields = Fields::new(alloc);
+    fields.declare(alloc, &Name::new(alloc, "x")?, byte(4))?;
+    let value = value_of(e, place, &fields);
+    Ok((value.width(), value.value))
+}
+
+#[test]
+fn operators_of_one_and_three(rt: HostRuntime) -> Result<(), Fail> {
+    let alloc = rt.alloc();
+    let invert = Expr::Invert(0, boxed_byte(alloc, 5)?);
+    assert!(rt; shown(alloc, &invert, 0)? == (8, 0xfa));
+    let invert = Expr::Invert(0, one_number(alloc, 5)?);
+    assert!(rt; shown(alloc, &invert, 4)? == (4, 0xa));
+    let negate = Expr::Negate(0, boxed_byte(alloc, 1)?);
+    assert!(rt; shown(alloc, &negate, 0)? == (8, 0xff));
+    let negate = Expr::Negate(0, one_number(alloc, 0)?);
+    assert!(rt; shown(alloc, &negate, 16)? == (16, 0));
+    assert!(rt; shown(alloc, &choice(alloc, 1)?, 0)? == (8, 3));
+    assert!(rt; shown(alloc, &choice(alloc, 4)?, 0)? == (8, 2));
+    assert!(rt; shown(alloc, &slice(alloc, 11, 4)?, 0)? == (8, 0xbc));
+    assert!(rt; shown(alloc, &slice(alloc, 15, 15)?, 32)? == (1, 1));
+    let error = Expr::ErrorName(0, Name::new(alloc, "PacketTooShort")?);
+    assert!(rt; shown(alloc, &error, 0)? == (2, 1));
+    let applied = Expr::Applied(0, Name::new(alloc, "t")?, true);
+    assert!(rt; shown(alloc, &applied, 1)? == (1, 0));
     Ok(())
 }

@@ -2,7 +2,7 @@ use Rattle.std.proofs.Common.{◌++◌, ◌∷◌, [], codes, string_bytes}
 use Rattle.std.specs.Fmt.{decimal}
 use Rattle.wire_printer.specs.Expressions.{words_of_type}
 use Rattle.wire_printer.proofs.Texts.{follows}
-use Rattle.wire_printer.proofs.program.put_register.Goals as goal
+use Rattle.wire_printer.proofs.declaration.put_register.Goals as goal
 
 pub returns : goal.returns
 returns c =

@@ -3,7 +3,7 @@ use Rattle.p4_tree.specs.View.{expr_of}
 use Rattle.wire_printer.specs.Text.{text_of}
 use Rattle.wire_printer.specs.Expressions.{words_of_expr, mark_of}
 use Rattle.wire_printer.proofs.Texts.{follows}
-use Rattle.wire_printer.proofs.Views.{expr_of-Bin}
+use Rattle.wire_printer.proofs.Views.{expr_of-Bin, expr_of-Choice}
 use Rattle.wire_printer.proofs.expression.+put_expr.Goals as goal
 
 pub put_expr-returns-in_ok-put_right-in-Bin : goal.put_expr-returns-in_ok-put_right-in-Bin
@@ -12,3 +12,11 @@ put_expr-returns-in_ok-put_right-in-Bin t c =
     (rw c.deref-in-Bin.ensures at c.in_ok-put_left-in-Bin.ensures) (rw c.deref-in-Bin-2.ensures at c.in_ok-put_right-in-Bin.ensures)
     ∙ ap (λ z. string_bytes c.args.out.now ++ text_of (codes "(" ∷ z)) (sym (append_assoc (words_of_expr (expr_of c.in-Bin.a.value)) (mark_of c.in-Bin.op ∷ words_of_expr (expr_of c.in-Bin.b.value)) (codes ")" ∷ [])))
     ∙ ap (λ z. string_bytes c.args.out.now ++ text_of (words_of_expr z)) (sym (ap expr_of c.in-Bin.is ∙ expr_of-Bin c.in-Bin.field-0 c.in-Bin.op c.in-Bin.a c.in-Bin.b))
+
+pub put_expr-returns-in_ok-put_elsewhere-in-Choice : goal.put_expr-returns-in_ok-put_elsewhere-in-Choice
+put_expr-returns-in_ok-put_elsewhere-in-Choice t c =
+    follows (string_bytes c.args.out.now) (string_bytes c.put_left-in-Choice.new.out) (string_bytes c.put_elsewhere.new.out) (codes "(" ∷ words_of_expr (expr_of c.in-Choice.test.value)) ((codes "?" ∷ words_of_expr (expr_of c.in-Choice.a.value)) ++ (codes ":" ∷ (words_of_expr (expr_of c.in-Choice.b.value) ++ codes ")" ∷ [])))
+    (rw c.deref-in-Choice.ensures at c.in_ok-put_left-in-Choice.ensures)
+    (follows (string_bytes c.put_left-in-Choice.new.out) (string_bytes c.put_held.new.out) (string_bytes c.put_elsewhere.new.out) (codes "?" ∷ words_of_expr (expr_of c.in-Choice.a.value)) (codes ":" ∷ (words_of_expr (expr_of c.in-Choice.b.value) ++ codes ")" ∷ []))
+    (rw c.deref-in-Choice-2.ensures at c.in_ok-put_held-in-Choice.ensures) (rw c.deref-in-Choice-3.ensures at c.in_ok-put_elsewhere-in-Choice.ensures))
+    ∙ ap (λ z. string_bytes c.args.out.now ++ text_of (words_of_expr z)) (sym (ap expr_of c.in-Choice.is ∙ expr_of-Choice c.in-Choice.field-0 c.in-Choice.test c.in-Choice.a c.in-Choice.b))

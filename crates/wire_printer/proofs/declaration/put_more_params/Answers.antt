@@ -1,0 +1,11 @@
+use Rattle.std.proofs.Common.{◌∷◌, [], codes, string_bytes, map, refl}
+use Rattle.wire_printer.specs.Text.{each_after}
+use Rattle.wire_printer.specs.Programs.{words_of_action_param}
+use Rattle.wire_printer.proofs.Texts.{follows}
+use Rattle.wire_printer.proofs.Loops.{step}
+use Rattle.wire_printer.proofs.declaration.put_more_params.Goals as goal
+
+pub loop-param-preserved : goal.loop-param-preserved
+loop-param-preserved c =
+    step (λ xs. each_after (codes ",") (map words_of_action_param xs)) (λ x. codes "," ∷ words_of_action_param x) refl (λ x xs. refl) (string_bytes c.args.out.now) (string_bytes c.loop-param.out) (string_bytes c.put_param.new.out) c.args.params.now c.param-item.result c.loop-param.param-index
+    c.loop-param-test.true c.param-item.is c.loop-param.invariant (follows (string_bytes c.loop-param.out) (string_bytes c.put.new.out) (string_bytes c.put_param.new.out) (codes "," ∷ []) (words_of_action_param c.param-item.result) c.in_ok-put.ensures c.in_ok-put_param.ensures)
