@@ -6,7 +6,8 @@ use Rattle.bit_values.specs.Bytes.{bits_of, number_at}
 use Rattle.bit_values.proofs.BytesLemmas.{length-bits_of}
 use Rattle.p4_tree.specs.Tree.{ParserState}
 use Rattle.p4_tree.specs.Store.{Store, set_value}
-use Rattle.p4_tree.specs.Parsing.{Reading, Field, Header, goes_on, stops, PacketTooShort, field_taken, fields_taken, width_sum, extracted, with_valid, leads, on_turned, turns_of}
+use Rattle.p4_tree.specs.Parsing.{Reading, Field, Header, goes_on, stops, PacketTooShort, field_taken, fields_taken, width_sum, extracted, with_valid, ParserEnd, Turned, ends, leads, on_turned, turns_of}
+use Rattle.wire_machine.specs.Places.{IsTurn}
 
 abbrev pub at_place : Store → List ℕ → ℕ → Reading
 at_place s frame at = record { store = s; rest = drop at (bits_of frame) }
@@ -25,5 +26,11 @@ pub long_enough : (h : Header) (s : Reading) → nat_lt (length s.rest) (width_s
 long_enough h s e = sym (ap (λ b. cond b (stops s PacketTooShort) (goes_on (with_valid h.path (fields_taken h.path h.fields s)))) e)
 
 -- one state more
-pub one_more : (k m : ℕ) (hs : List Header) (sts left : List ParserState) (n n' : List ℕ) (s s' : Reading) → k ≡ suc m → ((j : ℕ) → turns_of (suc j) hs sts n s ≡ on_turned (leads n' s') (turns_of j hs left)) → turns_of m hs left n' s' ≡ turns_of k hs sts n s
-one_more k m hs sts left n n' s s' e led = sym (led m) ∙ ap (λ j. turns_of j hs sts n s) (sym e)
+pub one_more : (k m : ℕ) (hs : List Header) (sts left : List ParserState) (n n' : List ℕ) (s s' : Reading) (t : Turned) → k ≡ suc m → IsTurn hs sts n s t left → t ≡ leads n' s' → turns_of m hs left n' s' ≡ turns_of k hs sts n s
+one_more k m hs sts left n n' s s' t e turn led =
+    sym (turn m ∙ ap (λ t. on_turned t (turns_of m hs left)) led) ∙ ap (λ j. turns_of j hs sts n s) (sym e)
+
+-- the last state
+pub ends_now : (k m : ℕ) (hs : List Header) (sts left : List ParserState) (n : List ℕ) (s : Reading) (t : Turned) (f : ParserEnd) → k ≡ suc m → IsTurn hs sts n s t left → t ≡ ends f → f ≡ turns_of k hs sts n s
+ends_now k m hs sts left n s t f e turn end =
+    sym (turn m ∙ ap (λ t. on_turned t (turns_of m hs left)) end) ∙ ap (λ j. turns_of j hs sts n s) (sym e)
