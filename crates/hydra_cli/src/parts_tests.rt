@@ -39,7 +39,8 @@ fn linked_program_has_these_parts(rt: HostRuntime) -> Result<(), Fail> {
     for (state, name) in parts.states.iter().zip(states) {
         assert_eq!(rt; state.name.as_str(), name);
     }
-    assert_eq!(rt; (parts.ingress.len(), parts.egress.len()), (2, 1));
-    assert!(rt; parts.metadata.is_empty() && parts.verify.is_empty() && parts.compute.is_empty());
+    assert_eq!(rt; (parts.ingress.body.len(), parts.egress.body.len()), (2, 1));
+    let idle = parts.verify.body.is_empty() && parts.compute.body.is_empty();
+    assert!(rt; parts.metadata.is_empty() && idle);
     Ok(())
 }

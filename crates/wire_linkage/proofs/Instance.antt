@@ -4,7 +4,7 @@ use Rattle.std.specs.Prelude.{if◌then◌else◌}
 use Rattle.std.specs.List.{AllByRecursion}
 use Rattle.lex_text.specs.Names.{same_text}
 use Rattle.p4_tree.specs.Tree.{Expr, num, path, flag, binary, negation, Stmt, assign, choice, block, Stmts, MaybeStmt, otherwise, Case, ParserState, and_then, next, done, without}
-use Rattle.p4_tree.specs.Parsing.{Field, Reading, Turned, ends, leads, parser_end, NoError, on_turned, turns_of}
+use Rattle.p4_tree.specs.Parsing.{Field}
 use Rattle.p4_tree.specs.Parts.{Roots, Parts, path_under, expr_under, stmt_under, stmts_under, else_under, case_under, field_of, parts_of}
 use Rattle.p4_tree.specs.declared.statement.Op.TheVariants as p4
 use Rattle.indus_tree.specs.Tree as indus
@@ -95,8 +95,8 @@ built fields cases entry exit =
           ∷ Rattle.wire_program.specs.WireProgram.passing_state (codes "hydra_start") (codes "accept")
           ∷ [];
       verify = done;
-      ingress = next entry wire_ingress;
-      egress = next exit done;
+      ingress = record { locals = done; body = next entry wire_ingress };
+      egress = record { locals = done; body = next exit done };
       compute = done;
       emits = tele_header ∷ [];
     }
@@ -111,17 +111,6 @@ linked_wire_parts p linked_ports =
     ∙ ap₂ (λ a b. built (map parts.tele_field p.decls) (link_cases linked_ports) a b) (entry_same p linked_ports) (exit_same p linked_ports)
 
 -- the wire program uses no name of the monitor's
-abbrev wire_states : List ParserState
-wire_states = (parts_of wire_program).states
-
-two_ways : (s : Reading) (b c : Bool) → (let r : Turned = if b then ends (parser_end s NoError) else (if c then leads (codes "accept") s else ends (parser_end s NoError)) in on_turned r (turns_of 2 [] wire_states) ≡ on_turned r (turns_of 1 [] wire_states))
-two_ways s true c = refl
-two_ways s false true = refl
-two_ways s false false = refl
-
-settled : (x : List ℕ) (s : Reading) → turns_of (suc (suc (length wire_states))) [] wire_states x s ≡ turns_of (suc (length wire_states)) [] wire_states x s
-settled x s = two_ways s (same_text x (codes "accept") || same_text x (codes "reject")) (same_text (codes "start") x)
-
 pub wire_forwards : IsForwarding (parts_of wire_program)
 wire_forwards =
     record {
@@ -130,11 +119,10 @@ wire_forwards =
       metadata = tt;
       states = (record { name = refl; body = tt; next = refl }, tt);
       verify = tt;
-      ingress = (((refl, tt), ((refl, refl, tt), tt), ((refl, refl, tt), tt)), tt);
-      egress = tt;
+      ingress = record { locals = tt; body = (((tt, (refl, tt)), ((refl, refl, tt), tt), ((refl, refl, tt), tt)), tt) };
+      egress = record { locals = tt; body = tt };
       compute = tt;
       emits = tt;
-      settles = settled;
     }
 
 -- the names that a linked program declares

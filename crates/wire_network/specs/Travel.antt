@@ -59,7 +59,7 @@ at_edge i port frame = if nat_le (length frame) 65535 then left i port frame els
 
 -- no switch
 abbrev pub no_machine : Machine
-no_machine = record { parts = record { registers = []; headers = []; metadata = []; states = []; verify = done; ingress = done; egress = done; compute = done; emits = [] }; registers = λ x. [] }
+no_machine = record { parts = record { registers = []; headers = []; metadata = []; states = []; verify = done; ingress = record { locals = done; body = done }; egress = record { locals = done; body = done }; compute = done; emits = [] }; registers = λ x. [] }
 
 -- how a packet goes on from the switch and port that it comes to
 abbrev pub Way : Type 0

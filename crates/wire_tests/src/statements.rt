@@ -118,8 +118,10 @@ fn fields_are_read_and_written(rt: HostRuntime) -> Result<(), Fail> {
     let mut list = Vec::new(alloc);
     list.push(sum)?;
     assert!(rt; values_of(alloc, &list, &fields)?.as_slice() == [byte(10)].as_slice());
-    fields.forget_variables();
+    let program = wire_program(alloc)?;
+    fields.keep_declared(&parts_of(alloc, &program)?);
     assert!(rt; fields.read(&path(alloc, "x")?).value == 0);
+    assert!(rt; fields.header(&header).is_none());
     Ok(())
 }
 
