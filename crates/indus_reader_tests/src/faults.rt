@@ -14,7 +14,12 @@ fn dead_blocks(rt: HostRuntime) -> Result<(), Fail> {
  => syntax 0
 {} {} {} {} => syntax 6
 {} {} {}; => syntax 6
-edition 1; {} {} {} => syntax 0
+edition 1; {} {} {} => syntax 1
+edition 2w2; {} {} {} => syntax 1
+edition; {} {} {} => syntax 1
+edition 2 {} {} {} => syntax 2
+{} edition 2; {} {} => syntax 2
+tele bool b; edition 2; {} {} {} => syntax 4
 {n = 1; \u{e9}} => char 8
 {n = 1 @ 2;} {} {} => char 7
 {} } 8x => char 6

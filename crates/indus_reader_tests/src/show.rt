@@ -252,9 +252,18 @@ fn show_decl(alloc: Global, out: &mut String, decl: &Decl) -> Result<(), AllocEr
     out.push_str("; ")
 }
 
+/// The line of the edition, or nothing in the first one.
+fn edition_line(tree: &Property) -> &'static str {
+    match tree.edition {
+        1 => "",
+        2 => "edition 2; ",
+        _ => "no edition; ",
+    }
+}
+
 /// A property.
 pub fn show_property(alloc: Global, tree: &Property) -> Result<String, AllocError> {
-    let mut out = String::new(alloc);
+    let mut out = String::from_str(alloc, edition_line(tree))?;
     for decl in &tree.decls {
         show_decl(alloc, &mut out, decl)?;
     }

@@ -13,7 +13,6 @@ pub fn answer(rt: &impl Abort, alloc: Global, text: &str) -> Result<String, Fail
     match read_property(alloc, text.as_bytes()) {
         Ok(tree) => {
             assert_eq!(rt; tree.at, 0);
-            assert_eq!(rt; tree.edition, 1);
             Ok(show_property(alloc, &tree)?)
         }
         Err(PropertyFault::NoMemory) => Err(Fail::from(AllocError)),
@@ -122,6 +121,8 @@ sensor bit<8> c; {} {c = c + 1;} {report();} => sensor@0 c bit8; {} {(set@10 c (
 control dict<bit<9>, bit<8>> tenants; header bit<9> i = standard_metadata.ingress_port; header bit<9> o = standard_metadata.egress_port; {} {} {report(tenants[o], tenants[i]);} => control@0 tenants dict bit9 to bit8; header@14 i bit9 standard_metadata.ingress_port; header@25 o bit9 standard_metadata.egress_port; {} {} {(report@41 #0 (tenants@43 o@45) (tenants@48 i@50))}
 tele bit<1>[255] a; tele bit<8> n; {} {for (x in a) {for (y in a) {n = n + 1;}}} {} => tele@0 a bit1[255]; tele@10 n bit8; {} {(for@20 x a {(for@27 y a {(set@34 n (+@36 n@36 1@38))})})} {}
 tele bit<8> n; {m = 1;} {} {} => tele@0 n bit8; {(set@8 m 1@10)} {} {}
+edition 0x2; {} {} {} => edition 2; {} {} {}
+edition 2; sensor bit<8> s; {report(1w1);} {s = s + 1; report(s);} {report(s);} => edition 2; sensor@3 s bit8; {(report@11 #0 1w1@13)} {(set@18 s (+@20 s@20 1@22)) (report@24 #1 s@26)} {(report@31 #2 s@33)}
 header bit<16> d = hdr.tcp.dport; {} {} {} => header@0 d bit16 hdr.tcp.dport; {} {} {}",
     )
 }

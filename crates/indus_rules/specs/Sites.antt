@@ -14,11 +14,12 @@ use Rattle.indus_scopes.specs.declared.scope.Block.TheVariants as block
 use Rattle.indus_rules.specs.declared.check.Wants as code_wants
 use Rattle.indus_rules.specs.declared.check.Wants.TheVariants.{AnyWidth, Keys, Each, Free}
 
--- an expression of whose place `want` is wanted, a statement, or a declaration behind others
+-- an expression of whose place `want` is wanted, a statement, a declaration behind others, or a property's edition
 pub data Site : Type 0 where
   at_expr : Sight → (want : Kind) → Expr → Site
   at_stmt : Sight → Stmt → Site
   at_decl : (before : List Decl) → Decl → Site
+  at_edition : Property → Site
 
 -- what is wanted of the expressions of a list: numbers of any width, which have 128 bits where they have none, the parts
 -- of a key, each the same, or nothing
@@ -113,7 +114,7 @@ start_want _ = Unknown
 -- a written initial value, of which no name is in sight
 abbrev pub start_sites : Option Expr → Shape → Sites Site
 start_sites None h = nowhere
-start_sites (Some e) h = expr_sites (record { decls = []; loops = []; block = block.Init }) (start_want h) e
+start_sites (Some e) h = expr_sites (record { edition = 1; decls = []; loops = []; block = block.Init }) (start_want h) e
 
 -- declarations, each behind those before it
 abbrev pub decl_sites : (before : List Decl) → List Decl → Sites Site
@@ -122,15 +123,15 @@ decl_sites before (d ∷ ds) = both (both (here (at_decl before d)) (start_sites
 
 -- what is in sight in a block, outside loops
 abbrev pub sight : Property → Block → Sight
-sight p b = record { decls = p.decls; loops = []; block = b }
+sight p b = record { edition = p.edition; decls = p.decls; loops = []; block = b }
 
 -- the three blocks of a property
 abbrev pub blocks_sites : Property → Sites Site
 blocks_sites p = both (block_sites (sight p block.Init) p.init) (both (block_sites (sight p block.Tele) p.tele) (block_sites (sight p block.Check) p.check))
 
--- a property: its declarations, and then its blocks
+-- a property: its edition, its declarations, and then its blocks
 abbrev pub property_sites : Property → Sites Site
-property_sites p = both (decl_sites [] p.decls) (blocks_sites p)
+property_sites p = both (here (at_edition p)) (both (decl_sites [] p.decls) (blocks_sites p))
 
 -- ---- of the program's values
 

@@ -20,8 +20,9 @@ pub record Around : Type 0 where
   pub names : List (List ℕ)
   pub lists : List (List ℕ)
 
--- what is in sight at a place: the declarations, the surrounding loops, innermost first, and the block
+-- what is in sight at a place: the property's edition, the declarations, the surrounding loops, innermost first, and the block
 pub record Sight : Type 0 where
+  pub edition : ℕ
   pub decls : List Decl
   pub loops : List Around
   pub block : Block

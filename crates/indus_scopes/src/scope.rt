@@ -77,10 +77,11 @@ pub fn builtin_of(name: &Name) -> Option<Kind>
 
 impl<'a> Scope<'a> {
     /// What is in sight outside loops.
-    pub fn new(alloc: Global, decls: Declared<'a>, block: Block) -> Scope<'a>
-        ensures { scope_of result ≡ record { decls = map decl_of decls.entry.decls.now; loops = []; block = block } }
+    pub fn new(alloc: Global, edition: u8, decls: Declared<'a>, block: Block) -> Scope<'a>
+        ensures { scope_of result ≡ record { edition = edition; decls = map decl_of decls.entry.decls.now; loops = []; block = block } }
     {
         Scope {
+            edition,
             decls,
             loops: Vec::new(alloc),
             block,

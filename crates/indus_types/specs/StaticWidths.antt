@@ -17,7 +17,7 @@ use Rattle.indus_tree.specs.Shapes.{HasWidth, AreShaped}
 use Rattle.indus_tree.specs.declared.tree.DeclKind.TheVariants.{Tele, Sensor, Header, Control}
 use Rattle.indus_scopes.specs.Kinds.{kind_of, join, as_number, manner_of, left_want, right_want}
 use Rattle.indus_scopes.specs.Scopes.{Sight, role_of, read_kind, index_kind, item_of, builtin_of, own}
-use Rattle.indus_rules.specs.Sites.{Site, at_expr, at_stmt, at_decl, push_want, expr_sites, stmt_sites, property_sites, sight}
+use Rattle.indus_rules.specs.Sites.{Site, at_expr, at_stmt, at_decl, at_edition, push_want, expr_sites, stmt_sites, property_sites, sight}
 use Rattle.indus_scopes.specs.Items.{within}
 use Rattle.indus_rules.specs.Rules.{Fine, IsWellTyped}
 use Rattle.indus_scopes.specs.declared.kind.Kind.{Kind}
@@ -105,6 +105,7 @@ EachExpr P nowhere = Unit {0}
 EachExpr P (here (at_expr g want e)) = P g want e
 EachExpr P (here (at_stmt g c)) = Unit {0}
 EachExpr P (here (at_decl b d)) = Unit {0}
+EachExpr P (here (at_edition p)) = Unit {0}
 EachExpr P (both a b) = EachExpr P a × EachExpr P b
 
 -- a fine expression has its static width, and so has each expression of a well-typed property
