@@ -77,7 +77,10 @@ pub fn rows(rt: &impl Abort, alloc: Global, table: &str) -> Result<(), Fail> {
         let Some((line, property)) = call.split_once(" | ") else {
             return Err(Fail::new("a row has no property"));
         };
-        assert!(rt; gives(alloc, line, property.as_bytes(), NONE, wanted)?, "{row}");
+        assert!(rt;
+            gives(alloc, line, property.as_bytes(), NONE, wanted)?,
+            "{row}"
+        );
     }
     Ok(())
 }
@@ -85,7 +88,10 @@ pub fn rows(rt: &impl Abort, alloc: Global, table: &str) -> Result<(), Fail> {
 /// `wire` answers so to each property of a table.
 fn each(rt: &impl Abort, alloc: Global, wanted: &str, table: &str) -> Result<(), Fail> {
     for property in table.lines() {
-        assert!(rt; gives(alloc, "wire p f o", property.as_bytes(), NONE, wanted)?, "{property}");
+        assert!(rt;
+            gives(alloc, "wire p f o", property.as_bytes(), NONE, wanted)?,
+            "{property}"
+        );
     }
     Ok(())
 }
@@ -101,7 +107,13 @@ fn has_texts(store: &MemStore, wanted: [bool; 3]) -> bool {
 
 #[test]
 fn third_hop_is_rejected(rt: HostRuntime) -> Result<(), Fail> {
-    let (status, store, out) = answered(rt.alloc(), "wire p f o", REJECTED.as_bytes(), &[1, 2], NONE)?;
+    let (status, store, out) = answered(
+        rt.alloc(),
+        "wire p f o",
+        REJECTED.as_bytes(),
+        &[1, 2],
+        NONE,
+    )?;
     assert!(rt; is_answer(rt.alloc(), status, out.taken(), ONE_REJECTED)?);
     assert!(rt; has_texts(&store, [true; 3]));
     assert!(rt; store.file("o.frame").is_none());
@@ -201,8 +213,8 @@ fn refusals_say_their_cause(rt: HostRuntime) -> Result<(), Fail> {
         &rt,
         rt.alloc(),
         "\
- | {} {} {} => BadWords hydra: words/
 wire p f | {} {} {} => BadWords hydra: words/
+ | {} {} {} => BadWords hydra: words/
 check p f o | {} {} {} => BadWords hydra: words/
 wire q f o | {} {} {} => ReadFault hydra: read q/
 wire p g o | {} {} {} => ReadFault hydra: read g/
@@ -218,7 +230,14 @@ fn files_past_their_limits_are_refused(rt: HostRuntime) -> Result<(), Fail> {
     let frame = vec![in alloc; 7u8; 65536]?;
     let text = LEAVES.as_bytes();
     let (status, store, out) = answered(alloc, "wire p f o", text, &frame, NONE)?;
-    assert!(rt; is_answer(alloc, status, out.taken(), "BadCapture hydra: capture f Long/")?);
+    assert!(rt;
+        is_answer(
+            alloc,
+            status,
+            out.taken(),
+            "BadCapture hydra: capture f Long/"
+        )?
+    );
     assert!(rt; has_texts(&store, [false; 3]));
     let (_, store, _) = answered(alloc, "wire p f o", text, &frame[1..], NONE)?;
     assert!(rt; store.file("o.frame") == Some(&frame[1..]));
@@ -240,8 +259,13 @@ WriteFault hydra: write o.frame/"
         .enumerate()
     {
         let failing: (&[u64], &[u64]) = (&[call as u64], &[]);
-        let (status, store, out) =
-            answered(alloc, "wire p f o", LEAVES.as_bytes(), &[1, 2], failing)?;
+        let (status, store, out) = answered(
+            alloc,
+            "wire p f o",
+            LEAVES.as_bytes(),
+            &[1, 2],
+            failing,
+        )?;
         assert!(rt; is_answer(alloc, status, out.taken(), wanted)?, "{wanted}");
         assert!(rt; has_texts(&store, [call > 2, call > 3, call > 4]));
         assert!(rt; store.file("o.frame").is_none());
@@ -260,7 +284,10 @@ fn puts_fail(rt: HostRuntime) -> Result<(), Fail> {
         ("wire q f o", 0, "ReadFault "),
         ("wire q f o", 1, "ReadFault hydra: read q/"),
     ] {
-        assert!(rt; gives(alloc, line, b"{} {} {}", (&[], &[put]), wanted)?, "{line}");
+        assert!(rt;
+            gives(alloc, line, b"{} {} {}", (&[], &[put]), wanted)?,
+            "{line}"
+        );
     }
     Ok(())
 }

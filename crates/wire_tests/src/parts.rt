@@ -19,7 +19,11 @@ fn linked_program_has_these_parts(rt: HostRuntime) -> Result<(), Fail> {
     let program = link_wire(alloc, &property, &[1, 2])?;
     let parts = parts_of(alloc, &program)?;
     let fields = [("hydra_mark", 8), ("hydra_v_n", 8)];
-    match (parts.registers.as_slice(), parts.headers.as_slice(), parts.emits.as_slice()) {
+    match (
+        parts.registers.as_slice(),
+        parts.headers.as_slice(),
+        parts.emits.as_slice(),
+    ) {
         ([register], [header], [emit]) => {
             assert!(rt; register.name.as_str() == "hydra_rejects");
             assert!(rt; register.width == 32 && register.count == 1);
