@@ -4,7 +4,7 @@ use Rattle.std.specs.Prelude.{List, [], ◌∷◌, ◌++◌, Option, Some, None}
 use Rattle.rule_sites.specs.Sites.{Sites, nowhere, here, both}
 use Rattle.indus_tree.specs.Tree.{Expr, Exprs, none, more, num, flag, read, count, index, member, negation, inversion, binary, cast, Stmt, Stmts, done, next, assign, cell, push, choice, loop, reject, report, Shape, one, list, set, dict, Decl, Property}
 use Rattle.indus_tree.specs.declared.tree.Ty.{Ty}
-use Rattle.indus_scopes.specs.Kinds.{kind_of, as_number, join, manner_of, left_want, right_want}
+use Rattle.indus_scopes.specs.Kinds.{kind_of, as_number, join, left_want, right_want}
 use Rattle.indus_scopes.specs.Items.{within}
 use Rattle.indus_scopes.specs.Scopes.{Sight, Stands, variable, shape_item, role_of, read_kind, index_kind, own}
 use Rattle.indus_scopes.specs.declared.kind.Kind.{Kind}
@@ -81,7 +81,7 @@ abbrev mutual
   expr_sites s w (member p ks x) = both (here (at_expr s w (member p ks x))) (all_sites s (member_wants (role_of s x)) ks)
   expr_sites s w (negation p a) = both (here (at_expr s w (negation p a))) (expr_sites s Truth a)
   expr_sites s w (inversion p a) = both (here (at_expr s w (inversion p a))) (expr_sites s (as_number (join (own s a) w)) a)
-  expr_sites s w (binary p op a b) = both (here (at_expr s w (binary p op a b))) (both (expr_sites s (left_want (manner_of op) (own s a) (own s b) w) a) (expr_sites s (right_want (manner_of op) (own s a) (own s b) w) b))
+  expr_sites s w (binary p op a b) = both (here (at_expr s w (binary p op a b))) (both (expr_sites s (left_want op (own s a) (own s b) w) a) (expr_sites s (right_want op (own s a) (own s b) w) b))
   expr_sites s w (cast p v a) = both (here (at_expr s w (cast p v a))) (expr_sites s (as_number (own s a)) a)
 
   -- the expressions of a list

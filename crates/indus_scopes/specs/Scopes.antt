@@ -7,7 +7,7 @@ use Rattle.indus_tree.specs.State.{lookup}
 use Rattle.indus_tree.specs.View.{decl_of}
 use Rattle.indus_tree.specs.declared.tree.DeclKind.{DeclKind}
 use Rattle.indus_tree.specs.declared.tree.DeclKind.TheVariants.{Sensor}
-use Rattle.indus_scopes.specs.Kinds.{kind_of, as_number, binary_kind, manner_of}
+use Rattle.indus_scopes.specs.Kinds.{kind_of, as_number, binary_kind}
 use Rattle.indus_scopes.specs.declared.kind.Kind.{Kind}
 use Rattle.indus_scopes.specs.declared.kind.Kind.TheVariants.{Number, Truth, Unknown}
 use Rattle.indus_scopes.specs.declared.scope.Block.{Block}
@@ -102,7 +102,7 @@ own s (index p x ks) = index_kind (role_of s x)
 own s (member p ks x) = Truth
 own s (negation p a) = Truth
 own s (inversion p a) = as_number (own s a)
-own s (binary p op a b) = binary_kind (manner_of op) (own s a) (own s b)
+own s (binary p op a b) = binary_kind op (own s a) (own s b)
 own s (cast p w a) = Number w
 
 -- ---- of the program's values
