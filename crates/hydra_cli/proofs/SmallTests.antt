@@ -7,7 +7,7 @@ use Rattle.std.proofs.lemmas.Cmp.{nat_list_eq_equiv}
 use Rattle.std.proofs.lemmas.List.Elements.{All-nil, All-cons, All-head, All-tail}
 use Rattle.lex_text.specs.Names.{same_text}
 use Rattle.lex_text.specs.NameToken.{is_name}
-use Rattle.indus_tree.specs.Names.{is_declared, is_keyword, is_built_in}
+use Rattle.indus_tree.specs.Names.{is_declared}
 use Rattle.indus_tree.specs.Small.{IsByteDecl, IsSmallSum, IsSmallTest, IsSmallStmt, IsSmallBlock, IsSmall}
 use Rattle.indus_tree.specs.Tree.{one, Shape, Expr, num, read, binary, Stmt, Stmts, assign, choice, reject, done, next, Decl, Property}
 use Rattle.indus_tree.specs.declared.tree.DeclKind.{DeclKind}
@@ -16,7 +16,7 @@ use Rattle.indus_tree.specs.declared.tree.Op.{Op}
 use Rattle.indus_tree.specs.declared.tree.Op.TheVariants.{Add, Equal}
 use Rattle.indus_tree.specs.declared.tree.Ty.{Ty}
 use Rattle.indus_tree.specs.declared.tree.Ty.TheVariants as ty
-use Rattle.hydra_cli.specs.SmallTest.{is_tele, is_byte, is_byte_shape, is_unset, is_free, is_byte_decl, are_byte_decls, are_distinct, is_add, is_equal, sum_fits, reads_declared, test_fits, is_done, stmt_fits, block_fits, property_fits}
+use Rattle.hydra_cli.specs.SmallTest.{is_tele, is_byte, is_byte_shape, is_unset, is_short_name, is_byte_decl, are_byte_decls, are_distinct, is_add, is_equal, sum_fits, reads_declared, test_fits, is_done, stmt_fits, block_fits, property_fits}
 
 -- ---- truth values
 
@@ -80,32 +80,28 @@ no_path (x ∷ xs) h = let e : length (x ∷ xs) ≡ 0 = same (length (x ∷ xs)
 
 byte_decl : (d : Decl) → is_byte_decl d ≡ true → IsByteDecl d
 byte_decl d h =
-    let a = both (is_tele d.kind && is_byte_shape d.shape && is_unset d.start && nat_eq (length d.path) 0 && not d.valid) (is_free d.name) h in
+    let a = both (is_tele d.kind && is_byte_shape d.shape && is_unset d.start && nat_eq (length d.path) 0 && not d.valid) (is_short_name d.name) h in
     let b = both (is_tele d.kind && is_byte_shape d.shape && is_unset d.start && nat_eq (length d.path) 0) (not d.valid) a.0 in
     let c = both (is_tele d.kind && is_byte_shape d.shape && is_unset d.start) (nat_eq (length d.path) 0) b.0 in
     let e = both (is_tele d.kind && is_byte_shape d.shape) (is_unset d.start) c.0 in
     let f = both (is_tele d.kind) (is_byte_shape d.shape) e.0 in
     let x = d.name in
-    let s = both (is_name x && not (is_keyword x) && not (is_built_in x)) (nat_le (length x) 4096) a.1 in
-    let t = both (is_name x && not (is_keyword x)) (not (is_built_in x)) s.0 in
-    let u = both (is_name x) (not (is_keyword x)) t.0 in
+    let s = both (is_name x) (nat_le (length x) 4096) a.1 in
     record {
       kind = tele d.kind f.0;
       shape = byte_shape d.shape f.1;
       start = unset d.start e.1;
       path = no_path d.path c.1;
       valid = off d.valid b.1;
-      is_name = u.0;
-      no_keyword = off (is_keyword x) u.1;
-      not_built_in = off (is_built_in x) t.1;
+      is_name = s.0;
       short = within (length x) 4096 s.1;
     }
 
 is_decl : (d : Decl) → IsByteDecl d → is_byte_decl d ≡ true
 is_decl d h =
-    let free : is_free d.name ≡ true = and (and (and h.is_name (on (is_keyword d.name) h.no_keyword)) (on (is_built_in d.name) h.not_built_in)) (is_within (length d.name) 4096 h.short) in
+    let named : is_short_name d.name ≡ true = and h.is_name (is_within (length d.name) 4096 h.short) in
     let path : nat_eq (length d.path) 0 ≡ true = is_same (length d.path) 0 (ap length h.path) in
-    and (and (and (and (and (ap is_tele h.kind) (ap is_byte_shape h.shape)) (ap is_unset h.start)) path) (on d.valid h.valid)) free
+    and (and (and (and (and (ap is_tele h.kind) (ap is_byte_shape h.shape)) (ap is_unset h.start)) path) (on d.valid h.valid)) named
 
 byte_decls : (ds : List Decl) → are_byte_decls ds ≡ true → All IsByteDecl ds
 byte_decls [] h = All-nil IsByteDecl

@@ -1,7 +1,7 @@
 -- The test of small properties as it computes. `IsSmall` of the trees says what it tests.
 use Rattle.std.specs.Prelude.{ℕ, Bool, true, false, not, ◌&&◌, List, [], ◌∷◌, length, Option, Some, None, nat_eq, nat_lt, nat_le}
 use Rattle.lex_text.specs.NameToken.{is_name}
-use Rattle.indus_tree.specs.Names.{is_declared, is_keyword, is_built_in}
+use Rattle.indus_tree.specs.Names.{is_declared}
 use Rattle.indus_tree.specs.Tree.{one, Shape, Expr, num, read, binary, Stmt, Stmts, assign, choice, reject, done, next, Decl, Property}
 use Rattle.indus_tree.specs.declared.tree.DeclKind.{DeclKind}
 use Rattle.indus_tree.specs.declared.tree.DeclKind.TheVariants.{Tele}
@@ -26,11 +26,11 @@ abbrev pub is_unset : Option Expr → Bool
 is_unset None = true
 is_unset (Some e) = false
 
-abbrev pub is_free : List ℕ → Bool
-is_free x = is_name x && not (is_keyword x) && not (is_built_in x) && nat_le (length x) 4096
+abbrev pub is_short_name : List ℕ → Bool
+is_short_name x = is_name x && nat_le (length x) 4096
 
 abbrev pub is_byte_decl : Decl → Bool
-is_byte_decl d = is_tele d.kind && is_byte_shape d.shape && is_unset d.start && nat_eq (length d.path) 0 && not d.valid && is_free d.name
+is_byte_decl d = is_tele d.kind && is_byte_shape d.shape && is_unset d.start && nat_eq (length d.path) 0 && not d.valid && is_short_name d.name
 
 abbrev pub are_byte_decls : List Decl → Bool
 are_byte_decls [] = true

@@ -18,8 +18,6 @@ mod check;
 mod check_tests;
 mod command;
 mod job;
-#[cfg(test)]
-mod parts_tests;
 mod small;
 #[cfg(test)]
 mod tests;

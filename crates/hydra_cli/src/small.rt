@@ -3,11 +3,11 @@
 ghost use Rattle.std.specs.Prelude.{◌≡◌, ◌↔◌, IsTrue, length, map, nat_le};
 ghost use Rattle.std.specs.List.{list_all};
 ghost use Rattle.std.specs.Option.{option_map};
-ghost use Rattle.indus_tree.specs.Names.{is_built_in, is_declared, is_keyword};
+ghost use Rattle.indus_tree.specs.Names.{is_declared};
 ghost use Rattle.indus_tree.specs.Small.{IsSmall};
 ghost use Rattle.indus_tree.specs.View.{block_of, decl_of, expr_of, property_of, shape_of, stmt_of};
 ghost use Rattle.lex_text.specs.NameToken.{is_name, is_name_byte, is_name_start};
-ghost use Rattle.hydra_cli.specs.SmallTest.{are_byte_decls, are_distinct, block_fits, is_add, is_byte_decl, is_byte_shape, is_done, is_equal, is_free, is_tele, is_unset, property_fits, reads_declared, stmt_fits, sum_fits, test_fits};
+ghost use Rattle.hydra_cli.specs.SmallTest.{are_byte_decls, are_distinct, block_fits, is_add, is_byte_decl, is_byte_shape, is_done, is_equal, is_short_name, is_tele, is_unset, property_fits, reads_declared, stmt_fits, sum_fits, test_fits};
 
 use indus_tree::{Decl, DeclKind, Expr, Op, Property, Shape, Stmt, Ty};
 
@@ -49,7 +49,7 @@ fn are_byte_decls(decls: &[Decl]) -> bool
     true
 }
 
-/// `tele bit<8> NAME;`, with a name that may be declared.
+/// `tele bit<8> NAME;`
 fn is_byte_decl(d: &Decl) -> bool
     ensures { result ≡ is_byte_decl (decl_of d.now) }
 {
@@ -58,7 +58,7 @@ fn is_byte_decl(d: &Decl) -> bool
         && is_unset(&d.start)
         && d.path.is_empty()
         && !d.valid
-        && is_free(d.name.as_str())
+        && is_short_name(d.name.as_str())
 }
 
 fn is_tele(kind: DeclKind) -> bool
@@ -95,11 +95,11 @@ fn is_unset(start: &Option<Expr>) -> bool
     }
 }
 
-/// A name that the language does not have for itself, of at most 4,096 bytes.
-fn is_free(name: &str) -> bool
-    ensures { result ≡ is_free name.now }
+/// A name token of at most 4,096 bytes.
+fn is_short_name(name: &str) -> bool
+    ensures { result ≡ is_short_name name.now }
 {
-    is_name(name.as_bytes()) && !is_keyword(name) && !is_built_in(name) && name.len() <= 4096
+    is_name(name.as_bytes()) && name.len() <= 4096
 }
 
 fn is_name(text: &[u8]) -> bool
@@ -132,37 +132,6 @@ fn is_name_byte(b: u8) -> bool
     ensures { result ≡ is_name_byte b }
 {
     is_name_start(b) || (b'0' <= b && b <= b'9')
-}
-
-/// Whether the language has this word.
-fn is_keyword(name: &str) -> bool
-    ensures { result ≡ is_keyword name.now }
-{
-    name == "tele"
-        || name == "sensor"
-        || name == "header"
-        || name == "control"
-        || name == "set"
-        || name == "dict"
-        || name == "bit"
-        || name == "bool"
-        || name == "true"
-        || name == "false"
-        || name == "if"
-        || name == "else"
-        || name == "for"
-        || name == "in"
-        || name == "reject"
-        || name == "report"
-        || name == "length"
-        || name == "edition"
-}
-
-/// Whether each property has this name without a declaration.
-fn is_built_in(name: &str) -> bool
-    ensures { result ≡ is_built_in name.now }
-{
-    name == "first_hop" || name == "last_hop" || name == "switch_id"
 }
 
 /// Whether no name is declared twice.

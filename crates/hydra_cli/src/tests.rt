@@ -1,19 +1,22 @@
+//! `wire`, and what every command answers where files or the sink fail.
+
 use super::*;
 use outside::{MemSink, MemStore, SureSink, SureStore};
 use std::alloc::AllocError;
+use std::process::Abort;
 use std::test::Fail;
 
 const LEAVES: &str = "tele bit<8> n; {} {n = n + 1;} {if (n == 2) {reject;}}";
 
 const REJECTED: &str = "tele bit<8> n; {} {n = n + 1;} {if (n == 3) {reject;}}";
 
-const SENSOR: &str = "sensor bit<8> s; {} {} {}";
+/// What is answered, as `is_answer` has it.
+const ONE_LEFT: &str = "Done packets 1/sent 1/dropped 0/rejected 0/lost 0/reports 0/";
 
-const NOT_BUILT: &str = "hydra: property p NotBuilt\n";
+const ONE_REJECTED: &str = "Done packets 1/sent 0/dropped 0/rejected 1/lost 0/reports 0/";
 
-const ONE_LEFT: &str = "packets 1\nsent 1\ndropped 0\nrejected 0\nlost 0\nreports 0\n";
-
-const ONE_REJECTED: &str = "packets 1\nsent 0\ndropped 0\nrejected 1\nlost 0\nreports 0\n";
+/// No call fails.
+pub const NONE: (&[u64], &[u64]) = (&[], &[]);
 
 fn words_of(alloc: Global, line: &str) -> Result<Vec<String>, AllocError> {
     line.split(' ')
@@ -22,103 +25,169 @@ fn words_of(alloc: Global, line: &str) -> Result<Vec<String>, AllocError> {
         .try_collect(alloc)
 }
 
-/// What `wire p f o` answers and leaves, over kinds that have no faults.
-fn wired(
+/// What a command line answers, and the store and the sink behind it. The store holds `p`, a property, and `f`, a
+/// frame; the calls of these numbers of the store and of the sink fail.
+pub fn answered(
     alloc: Global,
-    property: &str,
+    line: &str,
+    property: &[u8],
     frame: &[u8],
-) -> Result<(Status, SureStore, SureSink), AllocError> {
-    let mut store = SureStore::new(alloc);
-    store.hold(alloc, "p", property.as_bytes())?;
+    failing: (&[u64], &[u64]),
+) -> Result<(Status, MemStore, MemSink), AllocError> {
+    let mut store = MemStore::new(alloc, failing.0.to_vec(alloc)?);
+    store.hold(alloc, "p", property)?;
     store.hold(alloc, "f", frame)?;
-    let mut out = SureSink::new(alloc, 1000)?;
-    let words = words_of(alloc, "wire p f o")?;
-    let status = hydra(alloc, &words, &mut store, &mut out);
+    let mut out = MemSink::new(alloc, 1000, failing.1.to_vec(alloc)?)?;
+    let status = hydra(alloc, &words_of(alloc, line)?, &mut store, &mut out);
     Ok((status, store, out))
 }
 
-fn linked_texts(store: &SureStore) -> usize {
-    ["o.linked.s1.p4", "o.linked.s2.p4", "o.linked.s3.p4"]
-        .iter()
-        .filter(|name| store.file(name).is_some())
-        .count()
+/// Whether this is the status, and behind a space all that was put, with `/` for each line feed.
+fn is_answer(
+    alloc: Global,
+    status: Status,
+    taken: &[u8],
+    wanted: &str,
+) -> Result<bool, AllocError> {
+    let mut found = format!(in alloc; "{status:?} ")?.into_bytes();
+    for byte in taken {
+        found.push(if *byte == b'\n' { b'/' } else { *byte })?;
+    }
+    Ok(found.as_slice() == wanted.as_bytes())
 }
 
-#[test]
-fn third_hop_is_rejected(rt: HostRuntime) -> Result<(), Fail> {
-    let (status, store, out) = wired(rt.alloc(), REJECTED, &[1, 2])?;
-    assert_eq!(rt; status, Status::Done);
-    assert_eq!(rt; linked_texts(&store), 3);
-    assert_eq!(rt; store.file("o.frame"), None);
-    assert_eq!(rt; out.taken(), ONE_REJECTED.as_bytes());
-    Ok(())
+/// Whether the command line is answered so, with this property and a frame of two bytes.
+pub fn gives(
+    alloc: Global,
+    line: &str,
+    property: &[u8],
+    failing: (&[u64], &[u64]),
+    wanted: &str,
+) -> Result<bool, AllocError> {
+    let (status, _, out) = answered(alloc, line, property, &[1, 2], failing)?;
+    is_answer(alloc, status, out.taken(), wanted)
 }
 
-#[test]
-fn frame_leaves_as_it_came(rt: HostRuntime) -> Result<(), Fail> {
-    let frames: [&[u8]; 3] = [&[1, 2], &[], &[0x48, 5, 2]];
-    for frame in frames {
-        let (status, store, out) = wired(rt.alloc(), LEAVES, frame)?;
-        assert_eq!(rt; status, Status::Done);
-        assert_eq!(rt; linked_texts(&store), 3);
-        assert_eq!(rt; store.file("o.frame"), Some(frame));
-        assert_eq!(rt; out.taken(), ONE_LEFT.as_bytes());
+/// Each row is a command line, ` | `, a property, ` => ` and what is answered.
+pub fn rows(rt: &impl Abort, alloc: Global, table: &str) -> Result<(), Fail> {
+    for row in table.lines() {
+        let Some((call, wanted)) = row.split_once(" => ") else {
+            return Err(Fail::new("a row has no answer"));
+        };
+        let Some((line, property)) = call.split_once(" | ") else {
+            return Err(Fail::new("a row has no property"));
+        };
+        assert!(rt;
+            gives(alloc, line, property.as_bytes(), NONE, wanted)?,
+            "{row}"
+        );
     }
     Ok(())
 }
 
-/// Seven variables, and `if`s in one another up to the limit of 16. At the third hop a is 4 and g is 12.
-const SEVEN_REJECTED: &str =
-    "tele bit<8> a; tele bit<8> b; tele bit<8> c; tele bit<8> d; tele bit<8> e; tele bit<8> f; tele bit<8> g;
-{a = 1; b = 2; c = 3; d = 4; e = 5; f = 6; g = 250;} {a = a + 1; g = g + a + 3;}
-{if (a == 4) {if (b == 2) {if (c == 3) {if (d == 4) {if (e == 5) {if (f == 6) {if (g == 12) {if (a == b + 2) {
-if (b == 2) {if (c == a + 255) {if (d == a) {if (e == d + 1) {if (f == e + 1) {if (g == f + f) {if (a == 4) {if (g == 12) {
-reject;}}}}}}}}}}}}}}}}}";
+/// `wire` answers so to each property of a table.
+fn each(rt: &impl Abort, alloc: Global, wanted: &str, table: &str) -> Result<(), Fail> {
+    for property in table.lines() {
+        assert!(rt;
+            gives(alloc, "wire p f o", property.as_bytes(), NONE, wanted)?,
+            "{property}"
+        );
+    }
+    Ok(())
+}
 
-/// The same, but that the last test does not hold.
-const SEVEN_LEAVES: &str =
+/// Which of the linked texts are there.
+fn has_texts(store: &MemStore, wanted: [bool; 3]) -> bool {
+    let names = ["o.linked.s1.p4", "o.linked.s2.p4", "o.linked.s3.p4"];
+    names
+        .iter()
+        .zip(wanted)
+        .all(|(name, is)| store.file(name).is_some() == is)
+}
+
+#[test]
+fn third_hop_is_rejected(rt: HostRuntime) -> Result<(), Fail> {
+    let (status, store, out) = answered(
+        rt.alloc(),
+        "wire p f o",
+        REJECTED.as_bytes(),
+        &[1, 2],
+        NONE,
+    )?;
+    assert!(rt; is_answer(rt.alloc(), status, out.taken(), ONE_REJECTED)?);
+    assert!(rt; has_texts(&store, [true; 3]));
+    assert!(rt; store.file("o.frame").is_none());
+    Ok(())
+}
+
+/// Over the kinds that have no faults.
+#[test]
+fn frame_leaves_as_it_came(rt: HostRuntime) -> Result<(), Fail> {
+    let alloc = rt.alloc();
+    let frames: [&[u8]; 3] = [&[1, 2], &[], &[0x48, 5, 2]];
+    for frame in frames {
+        let mut store = SureStore::new(alloc);
+        store.hold(alloc, "p", LEAVES.as_bytes())?;
+        store.hold(alloc, "f", frame)?;
+        let mut out = SureSink::new(alloc, 1000)?;
+        let status = hydra(alloc, &words_of(alloc, "wire p f o")?, &mut store, &mut out);
+        assert!(rt; is_answer(alloc, status, out.taken(), ONE_LEFT)?);
+        assert!(rt; store.file("o.frame") == Some(frame));
+    }
+    Ok(())
+}
+
+/// Seven variables, and `if`s in one another. At the third hop a is 4 and g is 12: the last test holds for 12 alone.
+const SEVEN: &str =
     "tele bit<8> a; tele bit<8> b; tele bit<8> c; tele bit<8> d; tele bit<8> e; tele bit<8> f; tele bit<8> g;
 {a = 1; b = 2; c = 3; d = 4; e = 5; f = 6; g = 250;} {a = a + 1; g = g + a + 3;}
 {if (a == 4) {if (b == 2) {if (c == 3) {if (d == 4) {if (e == 5) {if (f == 6) {if (g == 12) {if (a == b + 2) {
-if (b == 2) {if (c == a + 255) {if (d == a) {if (e == d + 1) {if (f == e + 1) {if (g == f + f) {if (a == 4) {if (g == 13) {
-reject;}}}}}}}}}}}}}}}}}";
+if (b == 2) {if (c == a + 255) {if (d == a) {if (e == d + 1) {if (f == e + 1) {if (g == f + f) {if (a == 4) {if (g == ";
 
 #[test]
 fn seven_variables_in_nested_tests(rt: HostRuntime) -> Result<(), Fail> {
-    let (status, store, out) = wired(rt.alloc(), SEVEN_REJECTED, &[1, 2])?;
-    assert_eq!(rt; status, Status::Done);
-    assert_eq!(rt; store.file("o.frame"), None);
-    assert_eq!(rt; out.taken(), ONE_REJECTED.as_bytes());
-    let (status, store, out) = wired(rt.alloc(), SEVEN_LEAVES, &[1, 2])?;
-    assert_eq!(rt; status, Status::Done);
-    assert_eq!(rt; store.file("o.frame"), Some([1u8, 2].as_slice()));
-    assert_eq!(rt; out.taken(), ONE_LEFT.as_bytes());
+    let alloc = rt.alloc();
+    for (last, wanted) in [("12", ONE_REJECTED), ("13", ONE_LEFT)] {
+        let mut property = String::from_str(alloc, SEVEN)?;
+        property.push_str(last)?;
+        property.push_str(") {reject;}}}}}}}}}}}}}}}}}")?;
+        assert!(rt; gives(alloc, "wire p f o", property.as_bytes(), NONE, wanted)?);
+    }
     Ok(())
 }
 
 #[test]
 fn small_properties_are_taken(rt: HostRuntime) -> Result<(), Fail> {
-    for property in "\
+    each(
+        &rt,
+        rt.alloc(),
+        ONE_LEFT,
+        "\
 {}{}{}
-{}{}{reject;reject;}
 /* nothing */ {} {} {} // is done
-tele bit<8> n;{}{n=n+1;}{if(n==3){reject;}}
 tele bit<8> n; {n = 255;} {n = 007 + (0x1f + 2_5);} {}
 tele bit<8> _N9; {_N9 = _N9;} {} {}
 tele bit<8> bits; tele bit<8> ifs; {bits = ifs;} {} {}
 tele bit<8> n; {if (n == n + 1 + n) {}} {n = 1; n = 2;} {if (n == 0) {if (n == 1) {n = 2;} reject;}}
-tele bit<8> a; tele bit<8> b; tele bit<8> c; tele bit<8> d; tele bit<8> e; tele bit<8> f; tele bit<8> g; {}{}{}"
-        .lines()
-    {
-        let (status, _, _) = wired(rt.alloc(), property, &[])?;
-        assert_eq!(rt; status, Status::Done, "{property}");
-    }
-    Ok(())
+tele bit<8> a; tele bit<8> b; tele bit<8> c; tele bit<8> d; tele bit<8> e; tele bit<8> f; tele bit<8> g; {}{}{}",
+    )?;
+    each(
+        &rt,
+        rt.alloc(),
+        ONE_REJECTED,
+        "\
+{}{}{reject;reject;}
+tele bit<8> n;{}{n=n+1;}{if(n==3){reject;}}",
+    )
 }
 
 #[test]
 fn other_properties_are_not_built(rt: HostRuntime) -> Result<(), Fail> {
-    for property in "\
+    each(
+        &rt,
+        rt.alloc(),
+        "BadProperty hydra: property p NotBuilt/",
+        "\
 tele bit<16> n; {} {} {}
 tele bool b; {} {} {}
 tele bit<8>[2] l; {} {} {}
@@ -134,127 +203,91 @@ tele bit<8> n; {if (1 == n) {}} {} {}
 tele bit<8> n; {if (n != 1) {}} {} {}
 tele bit<8> n; {if (true) {}} {} {}
 tele bit<8> n; {if (n == 1) {} else {n = 1;}} {} {}
-tele bit<8> n; {} {} {report(n);}"
-        .lines()
-    {
-        let (status, _, out) = wired(rt.alloc(), property, &[])?;
-        assert_eq!(rt; status, Status::BadProperty, "{property}");
-        assert_eq!(rt; out.taken(), NOT_BUILT.as_bytes(), "{property}");
-    }
-    Ok(())
-}
-
-/// No call fails.
-const NONE: (&[u64], &[u64]) = (&[], &[]);
-
-/// What a command line answers and puts, where the store's and the sink's calls of these numbers fail.
-fn answered(
-    alloc: Global,
-    line: &str,
-    property: &[u8],
-    frame: &[u8],
-    failing: (&[u64], &[u64]),
-) -> Result<(Status, MemStore, MemSink), AllocError> {
-    let mut store = MemStore::new(alloc, failing.0.to_vec(alloc)?);
-    store.hold(alloc, "p", property)?;
-    store.hold(alloc, "f", frame)?;
-    let mut out = MemSink::new(alloc, 1000, failing.1.to_vec(alloc)?)?;
-    let status = hydra(alloc, &words_of(alloc, line)?, &mut store, &mut out);
-    Ok((status, store, out))
+tele bit<8> n; {} {} {report(n);}",
+    )
 }
 
 #[test]
 fn refusals_say_their_cause(rt: HostRuntime) -> Result<(), Fail> {
-    let alloc = rt.alloc();
-    let rows: [(&str, &str, Status, &str); 7] = [
-        ("", LEAVES, Status::BadWords, "hydra: words\n"),
-        ("wire p f", LEAVES, Status::BadWords, "hydra: words\n"),
-        ("check p f o", LEAVES, Status::BadWords, "hydra: words\n"),
-        ("wire q f o", LEAVES, Status::ReadFault, "hydra: read q\n"),
-        ("wire p g o", LEAVES, Status::ReadFault, "hydra: read g\n"),
-        ("wire p g o", SENSOR, Status::BadProperty, NOT_BUILT),
-        ("wire p f o", SENSOR, Status::BadProperty, NOT_BUILT),
-    ];
-    for (line, property, status, said) in rows {
-        let (answer, store, out) = answered(alloc, line, property.as_bytes(), &[1, 2], NONE)?;
-        assert_eq!(rt; answer, status);
-        assert_eq!(rt; out.taken(), said.as_bytes());
-        assert_eq!(rt; store.file("o.linked.s1.p4"), None);
-    }
-    Ok(())
+    rows(
+        &rt,
+        rt.alloc(),
+        "\
+wire p f | {} {} {} => BadWords hydra: words/
+ | {} {} {} => BadWords hydra: words/
+check p f o | {} {} {} => BadWords hydra: words/
+wire q f o | {} {} {} => ReadFault hydra: read q/
+wire p g o | {} {} {} => ReadFault hydra: read g/
+wire p g o | sensor bit<8> s; {} {} {} => BadProperty hydra: property p NotBuilt/
+wire p f o | tele bit<8> first_hop; {} {} {} => BadProperty hydra: property p Type 0 NameTwice/
+wire p f o | tele bit<8> in; {} {} {} => BadProperty hydra: property p Syntax 5/",
+    )
 }
 
 #[test]
 fn files_past_their_limits_are_refused(rt: HostRuntime) -> Result<(), Fail> {
     let alloc = rt.alloc();
-    let spaces = vec![in alloc; 32u8; 65537]?;
-    let (status, _, out) = answered(alloc, "wire p f o", &spaces, &[], NONE)?;
-    assert_eq!(rt; status, Status::BadProperty);
-    assert_eq!(rt; out.taken(), b"hydra: property p Long\n".as_slice());
     let frame = vec![in alloc; 7u8; 65536]?;
-    let (status, _, out) = answered(alloc, "wire p f o", LEAVES.as_bytes(), &frame, NONE)?;
-    assert_eq!(rt; status, Status::BadCapture);
-    assert_eq!(rt; out.taken(), b"hydra: capture f Long\n".as_slice());
-    let (status, store, _) = answered(alloc, "wire p f o", LEAVES.as_bytes(), &frame[1..], NONE)?;
-    assert_eq!(rt; status, Status::Done);
-    assert_eq!(rt; store.file("o.frame"), Some(&frame[1..]));
+    let text = LEAVES.as_bytes();
+    let (status, store, out) = answered(alloc, "wire p f o", text, &frame, NONE)?;
+    assert!(rt;
+        is_answer(
+            alloc,
+            status,
+            out.taken(),
+            "BadCapture hydra: capture f Long/"
+        )?
+    );
+    assert!(rt; has_texts(&store, [false; 3]));
+    let (_, store, _) = answered(alloc, "wire p f o", text, &frame[1..], NONE)?;
+    assert!(rt; store.file("o.frame") == Some(&frame[1..]));
     Ok(())
 }
 
-/// Each read, each write and the first put fails in turn.
+/// Each read and each write fails in turn, and what was written before it stays.
 #[test]
 fn faults_name_their_file(rt: HostRuntime) -> Result<(), Fail> {
     let alloc = rt.alloc();
-    let rows: [(&[u64], &[u64], Status, &str); 7] = [
-        (&[0], &[], Status::ReadFault, "hydra: read p\n"),
-        (&[1], &[], Status::ReadFault, "hydra: read f\n"),
-        (
-            &[2],
-            &[],
-            Status::WriteFault,
-            "hydra: write o.linked.s1.p4\n",
-        ),
-        (
-            &[3],
-            &[],
-            Status::WriteFault,
-            "hydra: write o.linked.s2.p4\n",
-        ),
-        (
-            &[4],
-            &[],
-            Status::WriteFault,
-            "hydra: write o.linked.s3.p4\n",
-        ),
-        (&[5], &[], Status::WriteFault, "hydra: write o.frame\n"),
-        (&[], &[0], Status::WriteFault, "hydra: write -\n"),
-    ];
-    for (calls, puts, status, said) in rows {
-        let text = LEAVES.as_bytes();
-        let (answer, store, out) = answered(alloc, "wire p f o", text, &[1, 2], (calls, puts))?;
-        assert_eq!(rt; answer, status);
-        assert_eq!(rt; out.taken(), said.as_bytes());
-        let first = store.file("o.linked.s1.p4").is_some();
-        assert_eq!(rt; first, !matches!(calls, [0] | [1] | [2]));
-        assert_eq!(rt; store.file("o.frame").is_some(), calls.is_empty());
+    for (call, wanted) in "\
+ReadFault hydra: read p/
+ReadFault hydra: read f/
+WriteFault hydra: write o.linked.s1.p4/
+WriteFault hydra: write o.linked.s2.p4/
+WriteFault hydra: write o.linked.s3.p4/
+WriteFault hydra: write o.frame/"
+        .lines()
+        .enumerate()
+    {
+        let failing: (&[u64], &[u64]) = (&[call as u64], &[]);
+        let (status, store, out) = answered(
+            alloc,
+            "wire p f o",
+            LEAVES.as_bytes(),
+            &[1, 2],
+            failing,
+        )?;
+        assert!(rt; is_answer(alloc, status, out.taken(), wanted)?, "{wanted}");
+        assert!(rt; has_texts(&store, [call > 2, call > 3, call > 4]));
+        assert!(rt; store.file("o.frame").is_none());
     }
     Ok(())
 }
 
+/// A put that fails: of a command's output the status says so, of a refusal's line nothing does.
 #[test]
-fn refusal_keeps_its_status_where_its_line_fails(rt: HostRuntime) -> Result<(), Fail> {
+fn puts_fail(rt: HostRuntime) -> Result<(), Fail> {
     let alloc = rt.alloc();
-    let rows = [
-        ("wire", &[0u64], Status::BadWords, ""),
-        ("wire p f o", &[0], Status::ReadFault, ""),
-        ("wire p f o", &[1], Status::ReadFault, "hydra: read p\n"),
-    ];
-    for (line, puts, status, said) in rows {
-        let mut store = MemStore::new(alloc, Vec::new(alloc));
-        let mut out = MemSink::new(alloc, 1000, puts.to_vec(alloc)?)?;
-        let answer = hydra(alloc, &words_of(alloc, line)?, &mut store, &mut out);
-        assert_eq!(rt; answer, status);
-        assert_eq!(rt; out.taken(), said.as_bytes());
+    for (line, put, wanted) in [
+        ("wire p f o", 0, "WriteFault hydra: write -/"),
+        ("check p", 0, "WriteFault hydra: write -/"),
+        ("wire", 0, "BadWords "),
+        ("wire q f o", 0, "ReadFault "),
+        ("wire q f o", 1, "ReadFault hydra: read q/"),
+    ] {
+        assert!(rt;
+            gives(alloc, line, b"{} {} {}", (&[], &[put]), wanted)?,
+            "{line}"
+        );
     }
     Ok(())
 }
@@ -274,7 +307,7 @@ fn statuses_are_the_numbers_from_0_on(rt: HostRuntime) {
         Status::NoMemory,
     ];
     for (number, status) in statuses.into_iter().enumerate() {
-        assert_eq!(rt; status as usize, number);
+        assert!(rt; status as usize == number);
     }
 }
 
@@ -324,7 +357,7 @@ fn linked_text_is_the_words_of_the_grammar(rt: HostRuntime) -> Result<(), Fail> 
             text.push('\n')?;
         }
     }
-    let (_, store, _) = wired(alloc, LEAVES, &[1, 2])?;
-    assert_eq!(rt; store.file("o.linked.s2.p4"), Some(text.as_bytes()));
+    let (_, store, _) = answered(alloc, "wire p f o", LEAVES.as_bytes(), &[1, 2], NONE)?;
+    assert!(rt; store.file("o.linked.s2.p4") == Some(text.as_bytes()));
     Ok(())
 }

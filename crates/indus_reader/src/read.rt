@@ -7,19 +7,54 @@ ghost use Rattle.lex_text.specs.Places.{AreIn};
 ghost use Rattle.lex_text.specs.declared.token.Words.TheVariants.{Indus};
 ghost use Rattle.lex_words.specs.Seen.{lexemes_of};
 ghost use Rattle.lex_words.specs.Written.{AreLexemes};
+ghost use Rattle.lex_words.specs.Moving.{Moves, Stays};
 ghost use Rattle.lex_words.specs.Reading.{Gives};
 ghost use Rattle.indus_tree.specs.Tree.{Property as Tree};
 ghost use Rattle.indus_tree.specs.View.{property_of};
 ghost use Rattle.indus_reader.specs.Faults.{HasCause, IsAnswer, IsProperty, IsRefusal};
-ghost use Rattle.indus_reader.specs.Reading.{property_at, property_read};
+ghost use Rattle.indus_reader.specs.Reading.{edition_at, is_two, property_at, property_read, second_at};
 
 use crate::decl::declarations;
 use crate::fault::PropertyFault;
 use crate::stmt::block;
 use indus_tree::Property;
-use lex_text::{LexFault, Token, Words, tokens};
-use lex_words::{Cursor, Halt};
+use lex_text::{LexFault, Literal, Token, Words, tokens};
+use lex_words::{Cursor, Halt, Key};
 use std::alloc::Global;
+
+/// Whether a number is 2, without a written width.
+fn is_two(value: Literal) -> bool
+    ensures { result ≡ is_two value }
+{
+    value.width == 0 && value.value == 2
+}
+
+/// The number of the second edition.
+#[tactic(auto, unfolding(crate::specs::Reading::second_at, lex_words::specs::Reading::numbered_at))]
+fn second(tokens: &mut Cursor) -> Result<u8, Halt>
+    ensures { Moves (λ x. x) (λ ws n. second_at ws n 256) tokens.old result tokens.new }
+{
+    let at = tokens.at();
+    if is_two(tokens.number()?) {
+        Ok(2)
+    } else {
+        Err(Halt::Wrong(at))
+    }
+}
+
+/// The edition: 2 behind `edition 2;`, and else 1.
+#[tactic(auto, unfolding(crate::specs::Reading::edition_at))]
+fn edition(tokens: &mut Cursor) -> Result<u8, Halt>
+    ensures { Stays (λ x. x) (λ ws n. edition_at ws n 256) tokens.old result tokens.new }
+{
+    if tokens.eat(Key::Edition) {
+        let number = second(tokens)?;
+        tokens.expect(Key::Semicolon)?;
+        Ok(number)
+    } else {
+        Ok(1)
+    }
+}
 
 /// The property that all tokens spell.
 #[tactic(auto, unfolding(crate::specs::Reading::property_at, crate::specs::Reading::whole_at, lex_words::specs::Reading::all_read))]
@@ -28,6 +63,7 @@ fn whole(alloc: Global, tokens: &mut Cursor) -> Result<Property, Halt>
     requires short { length tokens.old.lexemes ≤ 65536 }
     ensures { Gives property_of result (property_at tokens.old.lexemes (length tokens.old.lexemes + 1) 256 255) }
 {
+    let edition = edition(tokens)?;
     let decls = declarations(alloc, tokens)?;
     let init = block(alloc, tokens, 255, 0)?;
     let tele = block(alloc, tokens, 255, init.reports)?;
@@ -37,7 +73,7 @@ fn whole(alloc: Global, tokens: &mut Cursor) -> Result<Property, Halt>
     }
     Ok(Property {
         at: 0,
-        edition: 1,
+        edition,
         decls,
         init: init.stmts,
         tele: tele.stmts,

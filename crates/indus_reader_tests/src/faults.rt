@@ -1,6 +1,6 @@
 //! Texts that spell no property, with the token at which that is seen, and the limits.
 
-use crate::trees::{answer, answer_expr, copies, each};
+use crate::trees::{each, same};
 use std::alloc::{AllocError, Global};
 use std::test::Fail;
 
@@ -14,7 +14,12 @@ fn dead_blocks(rt: HostRuntime) -> Result<(), Fail> {
  => syntax 0
 {} {} {} {} => syntax 6
 {} {} {}; => syntax 6
-edition 1; {} {} {} => syntax 0
+edition 1; {} {} {} => syntax 1
+edition 2w2; {} {} {} => syntax 1
+edition; {} {} {} => syntax 1
+edition 2 {} {} {} => syntax 2
+{} edition 2; {} {} => syntax 2
+tele bool b; edition 2; {} {} {} => syntax 4
 {n = 1; \u{e9}} => char 8
 {n = 1 @ 2;} {} {} => char 7
 {} } 8x => char 6
@@ -140,174 +145,79 @@ fn dead_tuples(rt: HostRuntime) -> Result<(), Fail> {
 
 #[test]
 fn reserved_words_are_no_names(rt: HostRuntime) -> Result<(), Fail> {
-    let alloc = rt.alloc();
-    for word in "tele sensor header control set dict bit bool true \
-        false if else for in reject report length edition"
-        .split(' ')
-    {
-        let text = format!(in alloc; "tele bool {word}; {{}} {{}} {{}}")?;
-        assert_eq!(rt;
-            answer(&rt, alloc, &text)?,
-            String::from_str(alloc, "syntax 2")?,
-            "{text}"
-        );
-    }
-    Ok(())
-}
-
-#[test]
-fn brackets(rt: HostRuntime) -> Result<(), Fail> {
-    let alloc = rt.alloc();
-    let open = copies(alloc, "(", 256)?;
-    let close = copies(alloc, ")", 256)?;
-    let tree = "{(set@1 n a@259)} {} {}";
-    assert_eq!(rt;
-        answer_expr(&rt, alloc, &format!(in alloc; "{open}a{close}")?)?,
-        String::from_str(alloc, tree)?
-    );
-    // The 257th bracket is too many.
-    let text = format!(in alloc; "{open}(a{close})")?;
-    assert_eq!(rt;
-        answer_expr(&rt, alloc, &text)?,
-        String::from_str(alloc, "too deep 259")?
-    );
-    // The bracket of `if` counts.
-    let text = format!(in alloc; "{{if ({open}a{close}) {{}}}} {{}} {{}}")?;
-    assert_eq!(rt;
-        answer(&rt, alloc, &text)?,
-        String::from_str(alloc, "too deep 258")?
-    );
-    // So do those of a cast and of `length`.
-    let text = format!(in alloc; "{open}(bit<8>) a{close}")?;
-    assert_eq!(rt;
-        answer_expr(&rt, alloc, &text)?,
-        String::from_str(alloc, "too deep 259")?
-    );
-    let text = format!(in alloc; "{open}length(a){close}")?;
-    assert_eq!(rt;
-        answer_expr(&rt, alloc, &text)?,
-        String::from_str(alloc, "too deep 260")?
-    );
-    Ok(())
-}
-
-/// An assignment with so many brackets around its value.
-fn bracketed(alloc: Global, brackets: usize) -> Result<String, AllocError> {
-    let open = copies(alloc, "(", brackets)?;
-    let close = copies(alloc, ")", brackets)?;
-    format!(in alloc; "n = {open}a{close};")
-}
-
-#[test]
-fn brackets_closed_again(rt: HostRuntime) -> Result<(), Fail> {
-    let alloc = rt.alloc();
-    let most = bracketed(alloc, 256)?;
-    let more = bracketed(alloc, 257)?;
-    // Brackets that are closed do not count.
-    assert_eq!(rt;
-        answer(
-            &rt,
-            alloc,
-            &format!(in alloc; "{{{most} {most}}} {{}} {{}}")?
-        )?,
-        String::from_str(alloc, "{(set@1 n a@259) (set@517 n a@775)} {} {}")?
-    );
-    // The 257th is too many, also where all are closed behind it, and also behind others.
-    assert_eq!(rt;
-        answer(
-            &rt,
-            alloc,
-            &format!(in alloc; "{{{more} {most}}} {{}} {{}}")?
-        )?,
-        String::from_str(alloc, "too deep 259")?
-    );
-    assert_eq!(rt;
-        answer(
-            &rt,
-            alloc,
-            &format!(in alloc; "{{{most} {more}}} {{}} {{}}")?
-        )?,
-        String::from_str(alloc, "too deep 775")?
-    );
-    Ok(())
-}
-
-/// Init with so many `if`s in one another.
-fn nested(alloc: Global, ifs: usize) -> Result<String, AllocError> {
-    let open = copies(alloc, "if (a) {", ifs)?;
-    let close = copies(alloc, "}", ifs)?;
-    format!(in alloc; "{{{open}{close}}} {{}} {{}}")
-}
-
-#[test]
-fn heights(rt: HostRuntime) -> Result<(), Fail> {
-    let alloc = rt.alloc();
-    // The property, 254 `if`s and a test are 256 nodes in one another.
-    let found = answer(&rt, alloc, &nested(alloc, 254)?)?;
-    assert!(rt; found.as_str().starts_with("{(if@1 "));
-    for ifs in [255, 256, 300] {
-        let found = answer(&rt, alloc, &nested(alloc, ifs)?)?;
-        // `{` and 254 times five tokens stand before the 255th `if`.
-        assert_eq!(rt; found, String::from_str(alloc, "too deep 1271")?, "{ifs}");
-    }
-    Ok(())
-}
-
-#[test]
-fn heights_of_sums(rt: HostRuntime) -> Result<(), Fail> {
-    let alloc = rt.alloc();
-    // The property, the assignment and 254 nodes: 254 operands of `+`.
-    let sum = copies(alloc, "a + ", 253)?;
-    let found = answer_expr(&rt, alloc, &format!(in alloc; "{sum}a")?)?;
-    assert!(rt; found.as_str().starts_with("{(set@1 n (+@3 (+@3 "));
-    let sum = copies(alloc, "a + ", 299)?;
-    let found = answer_expr(&rt, alloc, &format!(in alloc; "{sum}a")?)?;
-    // The 254th `+` stands behind three tokens and 253 times two, and a name.
-    assert_eq!(rt; found, String::from_str(alloc, "too deep 510")?);
-    Ok(())
-}
-
-#[test]
-fn both_limits_in_one_text(rt: HostRuntime) -> Result<(), Fail> {
-    let alloc = rt.alloc();
-    let deep = bracketed(alloc, 257)?;
-    let open = copies(alloc, "if (a) {", 255)?;
-    let close = copies(alloc, "}", 255)?;
-    // The first that is passed is named.
-    assert_eq!(rt;
-        answer(
-            &rt,
-            alloc,
-            &format!(in alloc; "{{{open}{close} {deep}}} {{}} {{}}")?
-        )?,
-        String::from_str(alloc, "too deep 1271")?
-    );
-    assert_eq!(rt;
-        answer(
-            &rt,
-            alloc,
-            &format!(in alloc; "{{{deep} {open}{close}}} {{}} {{}}")?
-        )?,
-        String::from_str(alloc, "too deep 259")?
-    );
-    Ok(())
-}
-
-#[test]
-fn a_limit_and_a_dead_token_in_one_text(rt: HostRuntime) -> Result<(), Fail> {
-    let alloc = rt.alloc();
-    let open = copies(alloc, "(", 257)?;
-    let ifs = copies(alloc, "if (a) {", 255)?;
-    // The first of the two is named.
     each(
         &rt,
-        alloc,
-        &format!(in alloc;
-            "\
-{{n = {open};}} {{}} {{}} => too deep 259
-{{n = ; n = {open};}} {{}} {{}} => syntax 3
-{{{ifs};}} {{}} {{}} => too deep 1271
-{{; {ifs};}} {{}} {{}} => syntax 1"
-        )?,
+        rt.alloc(),
+        "\
+tele bool tele; {} {} {} => syntax 2
+tele bool sensor; {} {} {} => syntax 2
+tele bool header; {} {} {} => syntax 2
+tele bool control; {} {} {} => syntax 2
+tele bool set; {} {} {} => syntax 2
+tele bool dict; {} {} {} => syntax 2
+tele bool bit; {} {} {} => syntax 2
+tele bool bool; {} {} {} => syntax 2
+tele bool true; {} {} {} => syntax 2
+tele bool false; {} {} {} => syntax 2
+tele bool if; {} {} {} => syntax 2
+tele bool else; {} {} {} => syntax 2
+tele bool for; {} {} {} => syntax 2
+tele bool in; {} {} {} => syntax 2
+tele bool reject; {} {} {} => syntax 2
+tele bool report; {} {} {} => syntax 2
+tele bool length; {} {} {} => syntax 2
+tele bool edition; {} {} {} => syntax 2",
     )
+}
+
+/// A text in which each piece between grave accents, a number and a text, is that text so many times.
+fn repeated(alloc: Global, pattern: &str) -> Result<String, AllocError> {
+    let mut out = String::new(alloc);
+    for piece in pattern.split('`') {
+        match piece.split_once('*') {
+            Some((count, text)) => {
+                for _ in 0..usize::from_str_radix(count, 10).unwrap_or(0) {
+                    out.push_str(text)?;
+                }
+            }
+            None => out.push_str(piece)?,
+        }
+    }
+    Ok(out)
+}
+
+/// The limits of brackets, of heights and of the text's length. Each text has its pieces repeated: where a limit is
+/// passed, the first token that passes it is named, and where a token is dead before, that one.
+const LIMITS: &str = "\
+{n = `256*(`a`256*)`;} {} {} => {(set@1 n a@259)} {} {}
+{n = `257*(`a`257*)`;} {} {} => too deep 259
+{if (`256*(`a`256*)`) {}} {} {} => too deep 258
+{n = `256*(`(bit<8>) a`256*)`;} {} {} => too deep 259
+{n = `256*(`length(a)`256*)`;} {} {} => too deep 260
+{n = `256*(`a`256*)`; n = `256*(`a`256*)`;} {} {} => {(set@1 n a@259) (set@517 n a@775)} {} {}
+{n = `257*(`a`257*)`; n = `256*(`a`256*)`;} {} {} => too deep 259
+{n = `256*(`a`256*)`; n = `257*(`a`257*)`;} {} {} => too deep 775
+{`254*if (a) {`  `254*}`} {} {} => {(if@1 ..
+{`255*if (a) {`  `255*}`} {} {} => too deep 1271
+{`300*if (a) {`  `300*}`} {} {} => too deep 1271
+{n = `253*a + `a;} {} {} => {(set@1 n (+@3 (+@3 ..
+{n = `299*a + `a;} {} {} => too deep 510
+{`255*if (a) {`  `255*}` n = `257*(`a`257*)`;} {} {} => too deep 1271
+{n = `257*(`a`257*)`; `255*if (a) {`  `255*}`} {} {} => too deep 259
+{n = `257*(`;} {} {} => too deep 259
+{n = ; n = `257*(`;} {} {} => syntax 3
+{`255*if (a) {`;} {} {} => too deep 1271
+{; `255*if (a) {`;} {} {} => syntax 1
+{`6552*n = n + 1;`} {} {} => {(set@1 n (+@3 n@3 1@5)) (set@7 ..";
+
+#[test]
+fn limits(rt: HostRuntime) -> Result<(), Fail> {
+    for row in LIMITS.lines() {
+        let Some((pattern, wanted)) = row.split_once(" => ") else {
+            return Err(Fail::new("a row has no answer"));
+        };
+        let text = repeated(rt.alloc(), pattern)?;
+        same(&rt, rt.alloc(), text.as_str(), wanted)?;
+    }
+    Ok(())
 }

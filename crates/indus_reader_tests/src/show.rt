@@ -26,10 +26,21 @@ fn sign(op: Op) -> &'static str {
     }
 }
 
+/// A text and a number behind it.
+pub fn put_number(
+    alloc: Global,
+    out: &mut String,
+    front: &str,
+    number: u128,
+) -> Result<(), AllocError> {
+    out.push_str(front)?;
+    out.push_str(&format!(in alloc; "{number}")?)
+}
+
 /// `word@at`
 fn put(alloc: Global, out: &mut String, word: &str, at: u32) -> Result<(), AllocError> {
     out.push_str(word)?;
-    out.push_str(&format!(in alloc; "@{at}")?)
+    put_number(alloc, out, "@", at as u128)
 }
 
 /// `word@at name`
@@ -46,11 +57,13 @@ fn open(
 }
 
 /// `8w5@at`, or `5@at` where no width is written.
-fn put_number(alloc: Global, out: &mut String, n: Literal, at: u32) -> Result<(), AllocError> {
+fn put_literal(alloc: Global, out: &mut String, n: Literal, at: u32) -> Result<(), AllocError> {
     if n.width > 0 {
-        out.push_str(&format!(in alloc; "{}w", n.width)?)?;
+        put_number(alloc, out, "", n.width as u128)?;
+        out.push_str("w")?;
     }
-    out.push_str(&format!(in alloc; "{}@{at}", n.value)?)
+    put_number(alloc, out, "", n.value)?;
+    put(alloc, out, "", at)
 }
 
 /// A space, and then each expression as `show` writes it.
@@ -75,7 +88,7 @@ fn show_last(alloc: Global, out: &mut String, expr: &Expr) -> Result<(), AllocEr
 #[cycle(show)]
 fn show(alloc: Global, out: &mut String, expr: &Expr) -> Result<(), AllocError> {
     match expr {
-        Expr::Num(at, n) => put_number(alloc, out, *n, *at),
+        Expr::Num(at, n) => put_literal(alloc, out, *n, *at),
         Expr::Flag(at, value) => put(alloc, out, if *value { "true" } else { "false" }, *at),
         Expr::Read(at, name) => put(alloc, out, name.as_str(), *at),
         Expr::Length(at, name) => {
@@ -110,7 +123,7 @@ fn show(alloc: Global, out: &mut String, expr: &Expr) -> Result<(), AllocError> 
         }
         Expr::Cast(at, width, inner) => {
             put(alloc, out, "(cast", *at)?;
-            out.push_str(&format!(in alloc; " {width}")?)?;
+            put_number(alloc, out, " ", *width as u128)?;
             show_last(alloc, out, inner)
         }
     }
@@ -188,7 +201,7 @@ fn show_stmt(alloc: Global, out: &mut String, stmt: &Stmt) -> Result<(), AllocEr
         }
         Stmt::Report(at, number, values) => {
             put(alloc, out, "(report", *at)?;
-            out.push_str(&format!(in alloc; " #{number}")?)?;
+            put_number(alloc, out, " #", *number as u128)?;
             show_all(alloc, out, values)?;
             out.push_str(")")
         }
@@ -199,7 +212,7 @@ fn show_stmt(alloc: Global, out: &mut String, stmt: &Stmt) -> Result<(), AllocEr
 fn show_type(alloc: Global, out: &mut String, item: Ty) -> Result<(), AllocError> {
     match item {
         Ty::Bool => out.push_str(" bool"),
-        Ty::Bit(width) => out.push_str(&format!(in alloc; " bit{width}")?),
+        Ty::Bit(width) => put_number(alloc, out, " bit", width as u128),
     }
 }
 
@@ -216,7 +229,8 @@ fn show_shape(alloc: Global, out: &mut String, shape: &Shape) -> Result<(), Allo
         Shape::One(item) => show_type(alloc, out, *item),
         Shape::List(item, size) => {
             show_type(alloc, out, *item)?;
-            out.push_str(&format!(in alloc; "[{size}]")?)
+            put_number(alloc, out, "[", *size as u128)?;
+            out.push_str("]")
         }
         Shape::SetOf(key) => {
             out.push_str(" set")?;
@@ -252,9 +266,18 @@ fn show_decl(alloc: Global, out: &mut String, decl: &Decl) -> Result<(), AllocEr
     out.push_str("; ")
 }
 
+/// The line of the edition, or nothing in the first one.
+fn edition_line(tree: &Property) -> &'static str {
+    match tree.edition {
+        1 => "",
+        2 => "edition 2; ",
+        _ => "no edition; ",
+    }
+}
+
 /// A property.
 pub fn show_property(alloc: Global, tree: &Property) -> Result<String, AllocError> {
-    let mut out = String::new(alloc);
+    let mut out = String::from_str(alloc, edition_line(tree))?;
     for decl in &tree.decls {
         show_decl(alloc, &mut out, decl)?;
     }

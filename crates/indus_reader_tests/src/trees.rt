@@ -1,42 +1,48 @@
 //! Texts with their trees.
 
-use crate::show::show_property;
+use crate::show::{put_number, show_property};
 use indus_reader::{PropertyFault, read_property};
 use lex_text::LexFault;
 use std::alloc::{AllocError, Global};
 use std::process::Abort;
 use std::test::Fail;
 
+/// A fault of a text, with its place.
+fn show_fault(alloc: Global, fault: PropertyFault) -> Result<String, Fail> {
+    let (word, at) = match fault {
+        PropertyFault::NoMemory => return Err(Fail::from(AllocError)),
+        PropertyFault::Lex(LexFault::BadChar { at }) => ("char ", at),
+        PropertyFault::Lex(LexFault::NumberTooWide { at }) => ("number ", at),
+        PropertyFault::Lex(LexFault::OpenComment { at }) => ("comment ", at),
+        PropertyFault::Lex(_) => ("lex ", 0),
+        PropertyFault::Syntax { at } => ("syntax ", at),
+        PropertyFault::TooDeep { at } => ("too deep ", at),
+    };
+    let mut out = String::new(alloc);
+    put_number(alloc, &mut out, word, at as u128)?;
+    Ok(out)
+}
+
 /// What the text spells, or the fault.
-pub fn answer(rt: &impl Abort, alloc: Global, text: &str) -> Result<String, Fail> {
+fn answer(rt: &impl Abort, alloc: Global, text: &str) -> Result<String, Fail> {
     assert!(rt; text.len() <= 65536);
     match read_property(alloc, text.as_bytes()) {
         Ok(tree) => {
-            assert_eq!(rt; tree.at, 0);
-            assert_eq!(rt; tree.edition, 1);
+            assert!(rt; tree.at == 0);
             Ok(show_property(alloc, &tree)?)
         }
-        Err(PropertyFault::NoMemory) => Err(Fail::from(AllocError)),
-        Err(PropertyFault::Lex(LexFault::BadChar { at })) => Ok(format!(in alloc; "char {at}")?),
-        Err(PropertyFault::Lex(LexFault::NumberTooWide { at })) => {
-            Ok(format!(in alloc; "number {at}")?)
-        }
-        Err(PropertyFault::Lex(LexFault::OpenComment { at })) => {
-            Ok(format!(in alloc; "comment {at}")?)
-        }
-        Err(PropertyFault::Lex(_)) => Ok(String::from_str(alloc, "lex")?),
-        Err(PropertyFault::Syntax { at }) => Ok(format!(in alloc; "syntax {at}")?),
-        Err(PropertyFault::TooDeep { at }) => Ok(format!(in alloc; "too deep {at}")?),
+        Err(fault) => show_fault(alloc, fault),
     }
 }
 
-/// The text has this answer.
-fn same(rt: &impl Abort, alloc: Global, text: &str, wanted: &str) -> Result<(), Fail> {
-    assert_eq!(rt;
-        answer(rt, alloc, text)?,
-        String::from_str(alloc, wanted)?,
-        "{text}"
-    );
+/// The text has this answer, or where that ends with `..`, one that begins so.
+pub fn same(rt: &impl Abort, alloc: Global, text: &str, wanted: &str) -> Result<(), Fail> {
+    let found = answer(rt, alloc, text)?;
+    let is_same = match wanted.strip_suffix("..") {
+        Some(front) => found.as_str().starts_with(front),
+        None => found.as_str() == wanted,
+    };
+    assert!(rt; is_same, "{text}");
     Ok(())
 }
 
@@ -122,6 +128,8 @@ sensor bit<8> c; {} {c = c + 1;} {report();} => sensor@0 c bit8; {} {(set@10 c (
 control dict<bit<9>, bit<8>> tenants; header bit<9> i = standard_metadata.ingress_port; header bit<9> o = standard_metadata.egress_port; {} {} {report(tenants[o], tenants[i]);} => control@0 tenants dict bit9 to bit8; header@14 i bit9 standard_metadata.ingress_port; header@25 o bit9 standard_metadata.egress_port; {} {} {(report@41 #0 (tenants@43 o@45) (tenants@48 i@50))}
 tele bit<1>[255] a; tele bit<8> n; {} {for (x in a) {for (y in a) {n = n + 1;}}} {} => tele@0 a bit1[255]; tele@10 n bit8; {} {(for@20 x a {(for@27 y a {(set@34 n (+@36 n@36 1@38))})})} {}
 tele bit<8> n; {m = 1;} {} {} => tele@0 n bit8; {(set@8 m 1@10)} {} {}
+edition 0x2; {} {} {} => edition 2; {} {} {}
+edition 2; sensor bit<8> s; {report(1w1);} {s = s + 1; report(s);} {report(s);} => edition 2; sensor@3 s bit8; {(report@11 #0 1w1@13)} {(set@18 s (+@20 s@20 1@22)) (report@24 #1 s@26)} {(report@31 #2 s@33)}
 header bit<16> d = hdr.tcp.dport; {} {} {} => header@0 d bit16 hdr.tcp.dport; {} {} {}",
     )
 }
@@ -137,9 +145,20 @@ fn a_whole_file(rt: HostRuntime) -> Result<(), Fail> {
     )
 }
 
-/// What an expression spells, or the fault.
-pub fn answer_expr(rt: &impl Abort, alloc: Global, text: &str) -> Result<String, Fail> {
-    answer(rt, alloc, &format!(in alloc; "{{n = {text};}} {{}} {{}}")?)
+/// Texts behind each other.
+pub fn joined(alloc: Global, parts: &[&str]) -> Result<String, AllocError> {
+    let mut out = String::new(alloc);
+    for part in parts {
+        out.push_str(part)?;
+    }
+    Ok(out)
+}
+
+/// The expression, as the value that init assigns, has this tree.
+fn same_value(rt: &impl Abort, alloc: Global, text: &str, tree: &str) -> Result<(), Fail> {
+    let text = joined(alloc, &["{n = ", text, ";} {} {}"])?;
+    let wanted = joined(alloc, &["{(set@1 n ", tree, ")} {} {}"])?;
+    same(rt, alloc, text.as_str(), wanted.as_str())
 }
 
 /// Expressions and their trees, a row a line.
@@ -183,100 +202,77 @@ _ => _@3";
 
 #[test]
 fn expressions(rt: HostRuntime) -> Result<(), Fail> {
-    let alloc = rt.alloc();
     for row in EXPRESSIONS.lines() {
         let Some((text, tree)) = row.split_once(" => ") else {
             return Err(Fail::new("a row has no tree"));
         };
-        let wanted = format!(in alloc; "{{(set@1 n {tree})}} {{}} {{}}")?;
-        assert_eq!(rt; answer_expr(&rt, alloc, text)?, wanted, "{text}");
+        same_value(&rt, rt.alloc(), text, tree)?;
     }
     Ok(())
 }
 
-/// Each binary operator but `in`, with its level from the tightest on.
-const SIGNS: [(&str, u8); 16] = [
-    ("*", 1),
-    ("+", 2),
-    ("-", 2),
-    ("<<", 3),
-    (">>", 3),
-    ("&", 4),
-    ("^", 5),
-    ("|", 6),
-    ("<", 7),
-    ("<=", 7),
-    (">", 7),
-    (">=", 7),
-    ("==", 8),
-    ("!=", 8),
-    ("&&", 9),
-    ("||", 10),
-];
+/// The binary operators but `in`, those of a level on a line, the tightest first. `in` is of the line at 6.
+const LEVELS: &str = "\
+*
++ -
+<< >>
+&
+^
+|
+< <= > >=
+== !=
+&&
+||";
 
-#[test]
-fn pairs_of_operators(rt: HostRuntime) -> Result<(), Fail> {
-    let alloc = rt.alloc();
-    for (first, level) in SIGNS {
-        for (second, other) in SIGNS {
+/// Two operators behind each other, the first on this level.
+fn pairs_with(rt: &impl Abort, alloc: Global, first: &str, level: usize) -> Result<(), Fail> {
+    for (other, signs) in LEVELS.lines().enumerate() {
+        for second in signs.split(' ') {
             let tree = if level <= other {
-                format!(in alloc; "({second}@3 ({first}@3 a@3 b@5) c@7)")?
+                joined(alloc, &["(", second, "@3 (", first, "@3 a@3 b@5) c@7)"])?
             } else {
-                format!(in alloc; "({first}@3 a@3 ({second}@5 b@5 c@7))")?
+                joined(alloc, &["(", first, "@3 a@3 (", second, "@5 b@5 c@7))"])?
             };
-            let wanted = format!(in alloc; "{{(set@1 n {tree})}} {{}} {{}}")?;
-            let text = format!(in alloc; "a {first} b {second} c")?;
-            assert_eq!(rt; answer_expr(&rt, alloc, &text)?, wanted, "{text}");
+            let text = joined(alloc, &["a ", first, " b ", second, " c"])?;
+            same_value(rt, alloc, text.as_str(), tree.as_str())?;
         }
     }
     Ok(())
 }
 
+/// `in` before and behind an operator on this level.
+fn in_beside(rt: &impl Abort, alloc: Global, sign: &str, level: usize) -> Result<(), Fail> {
+    // Behind `in` a tighter operator finds no left side.
+    let tree = if level <= 6 {
+        joined(alloc, &["(in@3 s (", sign, "@3 a@3 b@5))"])?
+    } else {
+        joined(alloc, &["(", sign, "@3 a@3 (in@5 s b@5))"])?
+    };
+    let text = joined(alloc, &["a ", sign, " b in s"])?;
+    same_value(rt, alloc, text.as_str(), tree.as_str())?;
+    let text = joined(alloc, &["a in s ", sign, " b"])?;
+    if level < 6 {
+        let text = joined(alloc, &["{n = ", text.as_str(), ";} {} {}"])?;
+        same(rt, alloc, text.as_str(), "syntax 6")
+    } else {
+        let tree = joined(alloc, &["(", sign, "@3 (in@3 s a@3) b@7)"])?;
+        same_value(rt, alloc, text.as_str(), tree.as_str())
+    }
+}
+
 #[test]
-fn in_beside_an_operator(rt: HostRuntime) -> Result<(), Fail> {
-    let alloc = rt.alloc();
-    for (sign, level) in SIGNS {
-        // Behind `in` a tighter operator finds no left side.
-        let before = if level <= 7 {
-            format!(in alloc; "(in@3 s ({sign}@3 a@3 b@5))")?
-        } else {
-            format!(in alloc; "({sign}@3 a@3 (in@5 s b@5))")?
-        };
-        let wanted = format!(in alloc; "{{(set@1 n {before})}} {{}} {{}}")?;
-        let text = format!(in alloc; "a {sign} b in s")?;
-        assert_eq!(rt; answer_expr(&rt, alloc, &text)?, wanted, "{text}");
-        let behind = if level < 7 {
-            String::from_str(alloc, "syntax 6")?
-        } else {
-            format!(in alloc; "{{(set@1 n ({sign}@3 (in@3 s a@3) b@7))}} {{}} {{}}")?
-        };
-        let text = format!(in alloc; "a in s {sign} b")?;
-        assert_eq!(rt; answer_expr(&rt, alloc, &text)?, behind, "{text}");
+fn levels_of_operators(rt: HostRuntime) -> Result<(), Fail> {
+    for (level, signs) in LEVELS.lines().enumerate() {
+        for sign in signs.split(' ') {
+            pairs_with(&rt, rt.alloc(), sign, level)?;
+            in_beside(&rt, rt.alloc(), sign, level)?;
+        }
     }
     Ok(())
 }
 
-/// So many copies of a text behind each other.
-pub fn copies(alloc: Global, text: &str, count: usize) -> Result<String, AllocError> {
-    let mut out = String::new(alloc);
-    for _ in 0..count {
-        out.push_str(text)?;
-    }
-    Ok(out)
-}
-
+/// A double quote begins no token.
 #[test]
-fn a_text_of_64_kib(rt: HostRuntime) -> Result<(), Fail> {
-    let alloc = rt.alloc();
-    // 6,552 statements of 10 bytes each, and 8 bytes around them.
-    let body = copies(alloc, "n = n + 1;", 6552)?;
-    let found = answer(&rt, alloc, &format!(in alloc; "{{{body}}} {{}} {{}}")?)?;
-    assert!(rt;
-        found
-            .as_str()
-            .starts_with("{(set@1 n (+@3 n@3 1@5)) (set@7 ")
-    );
-    let fault = read_property(alloc, b"\"");
-    assert!(rt; matches!(fault, Err(PropertyFault::Lex(LexFault::BadChar { at: 0 }))));
-    Ok(())
+fn a_quote_is_no_token(rt: HostRuntime) -> Result<(), Fail> {
+    same(&rt, rt.alloc(), "\"", "char 0")
 }

@@ -1,6 +1,6 @@
 -- The rules: each is a test of a site, `broken`. A property is well typed where no rule is broken at any of its sites.
 -- Read `Sites` and `Uses` before it.
-use Rattle.std.specs.Prelude.{ℕ, ◌+◌, ◌^◌, List, [], ◌∷◌, Bool, true, false, not, ◌&&◌, ◌||◌, nat_eq, nat_lt, Option, Some, None, is_some, if◌then◌else◌, length, codes}
+use Rattle.std.specs.Prelude.{ℕ, ◌^◌, List, [], ◌∷◌, Bool, true, false, not, ◌&&◌, ◌||◌, nat_eq, nat_lt, Option, Some, None, is_some, if◌then◌else◌, length, codes}
 use Rattle.lex_text.specs.Names.{same_text}
 use Rattle.lex_text.specs.declared.literal.Literal.{Literal}
 use Rattle.rule_sites.specs.Sites.{Sites, BreaksAt, AllFine, first_rule, first_broken}
@@ -12,7 +12,7 @@ use Rattle.indus_tree.specs.declared.tree.DeclKind.{DeclKind}
 use Rattle.indus_tree.specs.declared.tree.DeclKind.TheVariants.{Tele, Sensor, Header, Control}
 use Rattle.indus_scopes.specs.Kinds.{kinds_differ, widths_differ, width_in}
 use Rattle.indus_scopes.specs.Scopes.{Sight, Around, role_of, builtin_of, own}
-use Rattle.indus_rules.specs.Sites.{Site, at_expr, at_stmt, at_decl, property_sites}
+use Rattle.indus_rules.specs.Sites.{Site, at_expr, at_stmt, at_decl, at_edition, property_sites}
 use Rattle.indus_scopes.specs.Items.{among, repeats}
 use Rattle.indus_scopes.specs.Uses.{is_missing, is_hop, reads, counts, indexed, may_hold, may_index, writable}
 use Rattle.indus_scopes.specs.declared.kind.Kind.{Kind}
@@ -143,7 +143,8 @@ sets_fixed s (assign p x e) = not (writable (role_of s x))
 sets_fixed s (cell p x i e) = not (writable (role_of s x))
 sets_fixed s c = false
 
--- ---- WrongBlock: `first_hop` or `last_hop` in init; `reject` or `report` outside the checker
+-- ---- WrongBlock: `first_hop` or `last_hop` in init; `reject` outside the checker; `report` outside the checker in
+-- edition 1
 
 abbrev pub is_init : Block → Bool
 is_init block.Init = true
@@ -159,7 +160,7 @@ hop_in_init s e = false
 
 abbrev pub answers_early : Sight → Stmt → Bool
 answers_early s (reject p) = not (is_check s.block)
-answers_early s (report p n es) = not (is_check s.block)
+answers_early s (report p n es) = nat_eq s.edition 1 && not (is_check s.block)
 answers_early s c = false
 
 -- ---- LoopListChanged: a push onto a list that a surrounding loop walks
@@ -173,7 +174,7 @@ pushes_walked s (push p x e) = walked s.loops x
 pushes_walked s c = false
 
 -- ---- BadSize: a width outside 1 to 128, a size of 0, a key of more than 4 parts, a report of more than 8 values, a
--- number that is not below 2 ^ width
+-- number that is not below 2 ^ width, an edition that is neither 1 nor 2, which no text gives
 
 abbrev pub bad_bits : ℕ → Bool
 bad_bits w = nat_eq w 0 || nat_lt 128 w
@@ -205,6 +206,9 @@ bad_shape (list t n) = bad_width t || nat_eq n 0 || nat_lt 255 n
 bad_shape (set ks) = bad_widths ks || nat_lt 4 (length ks)
 bad_shape (dict ks t) = bad_widths ks || nat_lt 4 (length ks) || bad_width t
 
+abbrev pub bad_edition : ℕ → Bool
+bad_edition n = not (nat_eq n 1 || nat_eq n 2)
+
 -- ---- all of them
 
 -- a rule is broken at a site
@@ -212,27 +216,35 @@ abbrev pub broken : Rule → Site → Bool
 broken NameTwice (at_expr s w e) = false
 broken NameTwice (at_stmt s c) = names_again s c
 broken NameTwice (at_decl b d) = declared_twice b d.name
+broken NameTwice (at_edition p) = false
 broken NoSuchName (at_expr s w e) = cites_missing s e
 broken NoSuchName (at_stmt s c) = sets_missing s c
 broken NoSuchName (at_decl b d) = false
+broken NoSuchName (at_edition p) = false
 broken WidthDiffers (at_expr s w e) = widths_differ (own s e) w
 broken WidthDiffers (at_stmt s c) = false
 broken WidthDiffers (at_decl b d) = false
+broken WidthDiffers (at_edition p) = false
 broken KindDiffers (at_expr s w e) = kinds_differ (own s e) w || ill_used s w e
 broken KindDiffers (at_stmt s c) = ill_set s c
 broken KindDiffers (at_decl b d) = ill_declared d
+broken KindDiffers (at_edition p) = false
 broken NotWritable (at_expr s w e) = false
 broken NotWritable (at_stmt s c) = sets_fixed s c
 broken NotWritable (at_decl b d) = false
+broken NotWritable (at_edition p) = false
 broken WrongBlock (at_expr s w e) = hop_in_init s e
 broken WrongBlock (at_stmt s c) = answers_early s c
 broken WrongBlock (at_decl b d) = false
+broken WrongBlock (at_edition p) = false
 broken LoopListChanged (at_expr s w e) = false
 broken LoopListChanged (at_stmt s c) = pushes_walked s c
 broken LoopListChanged (at_decl b d) = false
+broken LoopListChanged (at_edition p) = false
 broken BadSize (at_expr s w e) = ill_sized w e
 broken BadSize (at_stmt s c) = tells_much c
 broken BadSize (at_decl b d) = bad_shape d.shape
+broken BadSize (at_edition p) = bad_edition p.edition
 
 -- the number of the first token of an expression
 abbrev pub expr_place : Expr → ℕ
@@ -262,6 +274,7 @@ abbrev pub place_of : Site → ℕ
 place_of (at_expr s w e) = expr_place e
 place_of (at_stmt s c) = stmt_place c
 place_of (at_decl b d) = d.at
+place_of (at_edition p) = p.at
 
 abbrev pub all_rules : List Rule
 all_rules = NameTwice ∷ NoSuchName ∷ WidthDiffers ∷ KindDiffers ∷ NotWritable ∷ WrongBlock ∷ LoopListChanged ∷ BadSize ∷ []

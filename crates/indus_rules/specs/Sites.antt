@@ -1,10 +1,10 @@
 -- The places of a property at which a rule may be broken, from left to right, each with what is wanted there. Read
 -- `Scopes` before it and `Rules` after it.
-use Rattle.std.specs.Prelude.{ℕ, List, [], ◌∷◌, ◌++◌, Option, Some, None}
+use Rattle.std.specs.Prelude.{List, [], ◌∷◌, ◌++◌, Option, Some, None}
 use Rattle.rule_sites.specs.Sites.{Sites, nowhere, here, both}
 use Rattle.indus_tree.specs.Tree.{Expr, Exprs, none, more, num, flag, read, count, index, member, negation, inversion, binary, cast, Stmt, Stmts, done, next, assign, cell, push, choice, loop, reject, report, Shape, one, list, set, dict, Decl, Property}
 use Rattle.indus_tree.specs.declared.tree.Ty.{Ty}
-use Rattle.indus_scopes.specs.Kinds.{kind_of, as_number, join, manner_of, left_want, right_want}
+use Rattle.indus_scopes.specs.Kinds.{kind_of, as_number, join, left_want, right_want}
 use Rattle.indus_scopes.specs.Items.{within}
 use Rattle.indus_scopes.specs.Scopes.{Sight, Stands, variable, shape_item, role_of, read_kind, index_kind, own}
 use Rattle.indus_scopes.specs.declared.kind.Kind.{Kind}
@@ -14,11 +14,12 @@ use Rattle.indus_scopes.specs.declared.scope.Block.TheVariants as block
 use Rattle.indus_rules.specs.declared.check.Wants as code_wants
 use Rattle.indus_rules.specs.declared.check.Wants.TheVariants.{AnyWidth, Keys, Each, Free}
 
--- an expression of whose place `want` is wanted, a statement, or a declaration behind others
+-- an expression of whose place `want` is wanted, a statement, a declaration behind others, or a property's edition
 pub data Site : Type 0 where
   at_expr : Sight → (want : Kind) → Expr → Site
   at_stmt : Sight → Stmt → Site
   at_decl : (before : List Decl) → Decl → Site
+  at_edition : Property → Site
 
 -- what is wanted of the expressions of a list: numbers of any width, which have 128 bits where they have none, the parts
 -- of a key, each the same, or nothing
@@ -80,7 +81,7 @@ abbrev mutual
   expr_sites s w (member p ks x) = both (here (at_expr s w (member p ks x))) (all_sites s (member_wants (role_of s x)) ks)
   expr_sites s w (negation p a) = both (here (at_expr s w (negation p a))) (expr_sites s Truth a)
   expr_sites s w (inversion p a) = both (here (at_expr s w (inversion p a))) (expr_sites s (as_number (join (own s a) w)) a)
-  expr_sites s w (binary p op a b) = both (here (at_expr s w (binary p op a b))) (both (expr_sites s (left_want (manner_of op) (own s a) (own s b) w) a) (expr_sites s (right_want (manner_of op) (own s a) (own s b) w) b))
+  expr_sites s w (binary p op a b) = both (here (at_expr s w (binary p op a b))) (both (expr_sites s (left_want op (own s a) (own s b) w) a) (expr_sites s (right_want op (own s a) (own s b) w) b))
   expr_sites s w (cast p v a) = both (here (at_expr s w (cast p v a))) (expr_sites s (as_number (own s a)) a)
 
   -- the expressions of a list
@@ -113,7 +114,7 @@ start_want _ = Unknown
 -- a written initial value, of which no name is in sight
 abbrev pub start_sites : Option Expr → Shape → Sites Site
 start_sites None h = nowhere
-start_sites (Some e) h = expr_sites (record { decls = []; loops = []; block = block.Init }) (start_want h) e
+start_sites (Some e) h = expr_sites (record { edition = 1; decls = []; loops = []; block = block.Init }) (start_want h) e
 
 -- declarations, each behind those before it
 abbrev pub decl_sites : (before : List Decl) → List Decl → Sites Site
@@ -122,15 +123,15 @@ decl_sites before (d ∷ ds) = both (both (here (at_decl before d)) (start_sites
 
 -- what is in sight in a block, outside loops
 abbrev pub sight : Property → Block → Sight
-sight p b = record { decls = p.decls; loops = []; block = b }
+sight p b = record { edition = p.edition; decls = p.decls; loops = []; block = b }
 
 -- the three blocks of a property
 abbrev pub blocks_sites : Property → Sites Site
 blocks_sites p = both (block_sites (sight p block.Init) p.init) (both (block_sites (sight p block.Tele) p.tele) (block_sites (sight p block.Check) p.check))
 
--- a property: its declarations, and then its blocks
+-- a property: its edition, its declarations, and then its blocks
 abbrev pub property_sites : Property → Sites Site
-property_sites p = both (decl_sites [] p.decls) (blocks_sites p)
+property_sites p = both (here (at_edition p)) (both (decl_sites [] p.decls) (blocks_sites p))
 
 -- ---- of the program's values
 

@@ -10,7 +10,7 @@ ghost use Rattle.indus_rules.specs.Rules.{first};
 use crate::expr_rules::{place_of_expr, rule_of_expr};
 use crate::rule::Rule;
 use crate::stmt_rules::{place_of_stmt, rule_of_stmt};
-use indus_scopes::kind::{Kind, as_number, join, kind_of, left_want, manner_of, right_want};
+use indus_scopes::kind::{Kind, as_number, join, kind_of, left_want, right_want};
 use indus_scopes::loops::{enter, leave};
 use indus_scopes::scope::{Role, index_kind, read_kind, shape_item};
 use indus_scopes::sight::Scope;
@@ -129,12 +129,11 @@ fn check_known(scope: &Scope, kind: Kind, want: Kind, e: &Expr) -> Option<(u32, 
             check_known(scope, kind, as_number(join(kind, want)), a)
         }
         Expr::Bin(_, op, a, b) => {
-            let manner = manner_of(*op);
             let left = scope.own(a);
             let right = scope.own(b);
-            match check_known(scope, left, left_want(manner, left, right, want), a) {
+            match check_known(scope, left, left_want(*op, left, right, want), a) {
                 Some(fault) => Some(fault),
-                None => check_known(scope, right, right_want(manner, left, right, want), b),
+                None => check_known(scope, right, right_want(*op, left, right, want), b),
             }
         }
         Expr::Cast(_, _, a) => {

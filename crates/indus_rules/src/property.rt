@@ -5,7 +5,7 @@ ghost use Rattle.std.specs.Option.{option_map};
 ghost use Rattle.indus_tree.specs.View.{block_of, decl_of, expr_of, property_of, shape_of};
 ghost use Rattle.indus_scopes.specs.NameTable.{names_of, texts};
 ghost use Rattle.indus_rules.specs.Sites.{at_decl, start_want, start_sites, decl_sites, property_sites, block_sites, blocks_sites};
-ghost use Rattle.indus_rules.specs.Rules.{first, rule_at};
+ghost use Rattle.indus_rules.specs.Rules.{bad_edition, first, rule_at};
 
 use crate::check::{check_block, check_expr};
 use crate::decl_rules::rule_of_decl;
@@ -38,7 +38,7 @@ fn check_start(alloc: Global, start: &Option<Expr>, s: &Shape) -> Option<(u32, R
                 decls: &[],
                 names: &IndexSet::new(alloc),
             };
-            let scope = Scope::new(alloc, none, Block::Init);
+            let scope = Scope::new(alloc, 1, none, Block::Init);
             check_expr(&scope, start_want(s), e)
         }
     }
@@ -80,20 +80,31 @@ fn rule_of_next(names: &IndexSet<String>, before: &[Decl], d: &Decl) -> Option<R
 
 fn check_part<'a>(
     alloc: Global,
+    edition: u8,
     decls: Declared<'a>,
     block: Block,
     body: &'a [Stmt],
 ) -> Result<Option<(u32, Rule)>, AllocError>
-    ensures { IfOk result (λ o. o ≡ first (block_sites (record { decls = map decl_of decls.entry.decls.now; loops = []; block = block }) (block_of body.now))) }
+    ensures { IfOk result (λ o. o ≡ first (block_sites (record { edition = edition; decls = map decl_of decls.entry.decls.now; loops = []; block = block }) (block_of body.now))) }
 {
-    let mut scope = Scope::new(alloc, decls, block);
+    let mut scope = Scope::new(alloc, edition, decls, block);
     check_block(alloc, &mut scope, body)
+}
+
+/// An edition that no property has.
+fn bad_edition(edition: u8) -> bool
+    ensures { result ≡ bad_edition edition }
+{
+    !(edition == 1 || edition == 2)
 }
 
 /// The first broken rule of a property, with its place.
 pub fn first_fault(alloc: Global, p: &Property) -> Result<Option<(u32, Rule)>, AllocError>
     ensures { IfOk result (λ o. o ≡ first (property_sites (property_of p.now))) }
 {
+    if bad_edition(p.edition) {
+        return Ok(Some((p.at, Rule::BadSize)));
+    }
     let mut names = IndexSet::new(alloc);
     if let Some(fault) = check_decls(alloc, &mut names, &p.decls)? {
         return Ok(Some(fault));
@@ -114,11 +125,11 @@ fn check_blocks(
         decls: &p.decls,
         names,
     };
-    if let Some(fault) = check_part(alloc, decls, Block::Init, &p.init)? {
+    if let Some(fault) = check_part(alloc, p.edition, decls, Block::Init, &p.init)? {
         return Ok(Some(fault));
     }
-    if let Some(fault) = check_part(alloc, decls, Block::Tele, &p.tele)? {
+    if let Some(fault) = check_part(alloc, p.edition, decls, Block::Tele, &p.tele)? {
         return Ok(Some(fault));
     }
-    check_part(alloc, decls, Block::Check, &p.check)
+    check_part(alloc, p.edition, decls, Block::Check, &p.check)
 }

@@ -111,7 +111,7 @@ fn answers_early(scope: &Scope, s: &Stmt) -> bool
 {
     match s {
         Stmt::Reject(_) => !is_check(scope.block),
-        Stmt::Report(_, _, _) => !is_check(scope.block),
+        Stmt::Report(_, _, _) => scope.edition == 1 && !is_check(scope.block),
         _ => false,
     }
 }

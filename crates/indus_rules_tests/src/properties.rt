@@ -97,6 +97,8 @@ tele bit<8> a; tele bit<8> n; {} {n = n + 1; a = a + n;} {if (n == 3) {reject;}}
 tele bit<8> z; tele bit<8> n; {} {n = n + z;} {report(n);} => ok bits 24 weight 6
 tele bit<8> n; {} {n = n + 1;} {if (n == 1) {reject;} report(n);} => ok bits 16 weight 11
 sensor bit<8> s; {} {s = s + 1;} {report(s);} => ok bits 8 weight 7
+edition 2; sensor bit<8> s; {report(1w1);} {s = s + 1; report(s);} {report(s);} => ok bits 8 weight 11
+edition 2; tele bit<8> hop; header bit<9> in_port = standard_metadata.ingress_port; header bit<9> out_port = standard_metadata.egress_port; { report(in_port); } { hop = hop + 1; report(hop, switch_id, out_port); } { } => ok bits 16 weight 10
 tele bit<1>[255] a; tele bit<8> n; {} {for (x in a) {for (y in a) {n = n + 1;}}} {} => ok bits 279 weight 325636
 tele bit<1>[255] a; tele bit<8> n; {} {for (z in a) {for (w in a) {for (x in a) {for (y in a) {n = n + 1;}}}}} {} => ok bits 279 weight 4294967295";
 
@@ -115,6 +117,10 @@ tele bit<300> n; {} {} {} => Syntax { at: 3 }
 tele bit<8> n; {n = 0w1;} {} {} => Lex(NumberTooWide { at: 20 })
 tele bit<8> n; {m = 1;} {} {} => 8 NoSuchName
 tele bit<8> n; {reject;} {} {} => 8 WrongBlock
+sensor bit<8> s; {report(1w1);} {s = s + 1; report(s);} {report(s);} => 8 WrongBlock
+sensor bit<8> s; {} {s = s + 1; report(s);} {report(s);} => 16 WrongBlock
+edition 2; {} {report(); reject;} {} => 10 WrongBlock
+edition 2; tele bool f; {f = last_hop; report();} {} {} => 10 WrongBlock
 tele bit<8> n; {n = 256;} {} {} => 10 BadSize
 tele bit<8> n; {n = switch_id;} {} {} => 10 WidthDiffers
 control bit<8> c; {c = 1;} {} {} => 8 NotWritable

@@ -61,9 +61,9 @@ asks_early = property (variable Tele (codes "l") (one Truth) ∷ []) (assign 0 (
 abbrev pub reads_where : (last : Bool) → Reads Contents
 reads_where last = reads_at 0 true last [] no_contents
 
--- {report();} {} {report();}, as a later edition of the language takes it
+-- edition 2; {report();} {} {report();}
 abbrev pub reports_twice : Property
-reports_twice = property [] (report 0 0 (exprs_from []) ∷ []) [] (report 0 1 (exprs_from []) ∷ [])
+reports_twice = record (property [] (report 0 0 (exprs_from []) ∷ []) [] (report 0 1 (exprs_from []) ∷ [])) { edition = 2 }
 
 -- a report without values
 abbrev pub telling : ℕ → Report

@@ -262,3 +262,20 @@ fn views_of_the_two_parts(rt: HostRuntime) -> Result<(), Fail> {
     }
     Ok(())
 }
+
+/// A report in each block. That of init stays where forwarding drops the packet.
+#[test]
+fn reports_of_each_block(rt: HostRuntime) -> Result<(), Fail> {
+    let alloc = rt.alloc();
+    let p = read(
+        alloc,
+        "edition 2; sensor bit<8> s; {report(1w1);} {s = s + 1; report(s);} {report(s);}",
+    )?;
+    let mut hop = view(alloc, 0, true, true);
+    let left = left_by(alloc, &p, &hop)?;
+    assert_eq!(rt; left.as_str(), "/ [8w1] / #0(1w1) #1(8w1) #2(8w1)");
+    hop.exit_ = None;
+    let left = left_by(alloc, &p, &hop)?;
+    assert_eq!(rt; left.as_str(), "/ [8w0] / #0(1w1)");
+    Ok(())
+}

@@ -1,13 +1,13 @@
 -- What an expression is, and what its place wants of it.
-use Rattle.std.specs.Prelude.{ℕ, Bool, true, false, not, ◌&&◌, nat_eq, if◌then◌else◌}
+use Rattle.std.specs.Prelude.{ℕ, ◌+◌, Bool, true, false, not, ◌&&◌, nat_eq, min, if◌then◌else◌}
+use Rattle.bit_values.specs.Operators.{Class, like, shift, joined, compare, logic}
+use Rattle.indus_tree.specs.Operators.{class_of}
 use Rattle.indus_tree.specs.declared.tree.Ty.{Ty}
 use Rattle.indus_tree.specs.declared.tree.Ty.TheVariants as ty
 use Rattle.indus_tree.specs.declared.tree.Op.{Op}
-use Rattle.indus_tree.specs.declared.tree.Op.TheVariants.{Mul, Add, Sub, Shl, Shr, BitAnd, BitXor, BitOr, Less, LessEq, More, MoreEq, Equal, Differ, Both, Either}
+use Rattle.indus_tree.specs.declared.tree.Op.TheVariants.{Equal, Differ}
 use Rattle.indus_scopes.specs.declared.kind.Kind.{Kind}
 use Rattle.indus_scopes.specs.declared.kind.Kind.TheVariants.{Number, Truth, Unknown}
-use Rattle.indus_scopes.specs.declared.kind.Manner.{Manner}
-use Rattle.indus_scopes.specs.declared.kind.Manner.TheVariants.{Like, Shift, Same, Order, Logic}
 
 -- a value of a type
 abbrev pub kind_of : Ty → Kind
@@ -47,46 +47,44 @@ abbrev pub widths_differ : Kind → Kind → Bool
 widths_differ (Number v) (Number w) = not (nat_eq v 0) && not (nat_eq w 0) && not (nat_eq v w)
 widths_differ _ _ = false
 
--- how an operator takes its operands
-abbrev pub manner_of : Op → Manner
-manner_of Mul = Like
-manner_of Add = Like
-manner_of Sub = Like
-manner_of Shl = Shift
-manner_of Shr = Shift
-manner_of BitAnd = Like
-manner_of BitXor = Like
-manner_of BitOr = Like
-manner_of Less = Order
-manner_of LessEq = Order
-manner_of More = Order
-manner_of MoreEq = Order
-manner_of Equal = Same
-manner_of Differ = Same
-manner_of Both = Logic
-manner_of Either = Logic
-
 -- what an operator with operands of these kinds is
-abbrev pub binary_kind : Manner → Kind → Kind → Kind
-binary_kind Like a b = as_number (join a b)
-binary_kind Shift a b = as_number a
-binary_kind Same a b = Truth
-binary_kind Order a b = Truth
-binary_kind Logic a b = Truth
+abbrev pub class_kind : Class → Kind → Kind → Kind
+class_kind like a b = as_number (join a b)
+class_kind shift a b = as_number a
+class_kind joined a b = Number (min 128 (width_in a + width_in b))
+class_kind compare a b = Truth
+class_kind logic a b = Truth
+
+abbrev pub binary_kind : Op → Kind → Kind → Kind
+binary_kind op = class_kind (class_of op)
+
+-- the operator takes two truth values as well as two numbers
+abbrev pub takes_either : Op → Bool
+takes_either Equal = true
+takes_either Differ = true
+takes_either _ = false
 
 -- what is wanted of an operator's left operand, where the operands are of kinds a and b, and `want` is wanted of the
 -- whole: a number takes its width from the other operand, and where that has none from the place of the whole
-abbrev pub left_want : Manner → (a b want : Kind) → Kind
-left_want Like a b want = as_number (join (join a b) want)
-left_want Shift a b want = as_number (join a want)
-left_want Same a b want = join a b
-left_want Order a b want = as_number (join a b)
-left_want Logic a b want = Truth
+abbrev pub class_left : Class → (either : Bool) → (a b want : Kind) → Kind
+class_left like either a b want = as_number (join (join a b) want)
+class_left shift either a b want = as_number (join a want)
+class_left joined either a b want = as_number a
+class_left compare true a b want = join a b
+class_left compare false a b want = as_number (join a b)
+class_left logic either a b want = Truth
+
+abbrev pub left_want : Op → (a b want : Kind) → Kind
+left_want op = class_left (class_of op) (takes_either op)
 
 -- the same of the right operand. That of a shift may have any width, and without one it has 128
-abbrev pub right_want : Manner → (a b want : Kind) → Kind
-right_want Like a b want = as_number (join (join a b) want)
-right_want Shift a b want = as_number (join b (Number 128))
-right_want Same a b want = join a b
-right_want Order a b want = as_number (join a b)
-right_want Logic a b want = Truth
+abbrev pub class_right : Class → (either : Bool) → (a b want : Kind) → Kind
+class_right like either a b want = as_number (join (join a b) want)
+class_right shift either a b want = as_number (join b (Number 128))
+class_right joined either a b want = as_number b
+class_right compare true a b want = join a b
+class_right compare false a b want = as_number (join a b)
+class_right logic either a b want = Truth
+
+abbrev pub right_want : Op → (a b want : Kind) → Kind
+right_want op = class_right (class_of op) (takes_either op)

@@ -7,7 +7,7 @@ use Rattle.indus_tree.specs.State.{lookup}
 use Rattle.indus_tree.specs.View.{decl_of}
 use Rattle.indus_tree.specs.declared.tree.DeclKind.{DeclKind}
 use Rattle.indus_tree.specs.declared.tree.DeclKind.TheVariants.{Sensor}
-use Rattle.indus_scopes.specs.Kinds.{kind_of, as_number, binary_kind, manner_of}
+use Rattle.indus_scopes.specs.Kinds.{kind_of, as_number, binary_kind}
 use Rattle.indus_scopes.specs.declared.kind.Kind.{Kind}
 use Rattle.indus_scopes.specs.declared.kind.Kind.TheVariants.{Number, Truth, Unknown}
 use Rattle.indus_scopes.specs.declared.scope.Block.{Block}
@@ -20,8 +20,9 @@ pub record Around : Type 0 where
   pub names : List (List ℕ)
   pub lists : List (List ℕ)
 
--- what is in sight at a place: the declarations, the surrounding loops, innermost first, and the block
+-- what is in sight at a place: the property's edition, the declarations, the surrounding loops, innermost first, and the block
 pub record Sight : Type 0 where
+  pub edition : ℕ
   pub decls : List Decl
   pub loops : List Around
   pub block : Block
@@ -101,7 +102,7 @@ own s (index p x ks) = index_kind (role_of s x)
 own s (member p ks x) = Truth
 own s (negation p a) = Truth
 own s (inversion p a) = as_number (own s a)
-own s (binary p op a b) = binary_kind (manner_of op) (own s a) (own s b)
+own s (binary p op a b) = binary_kind op (own s a) (own s b)
 own s (cast p w a) = Number w
 
 -- ---- of the program's values

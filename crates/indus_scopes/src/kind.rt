@@ -1,7 +1,7 @@
 //! What an expression is, and what its place wants.
 
 ghost use Rattle.std.specs.Prelude.{◌≡◌};
-ghost use Rattle.indus_scopes.specs.Kinds.{kind_of, is_open, join, as_number, kinds_differ, widths_differ, manner_of, left_want, right_want, width_in};
+ghost use Rattle.indus_scopes.specs.Kinds.{kind_of, is_open, join, as_number, kinds_differ, widths_differ, left_want, right_want, width_in};
 
 use indus_tree::{Op, Ty};
 
@@ -13,21 +13,6 @@ pub enum Kind {
     Truth,
     /// A missing name, or a place that takes either.
     Unknown,
-}
-
-/// How an operator takes its operands.
-#[derive(Clone, Copy, Debug, PartialEq, Eq)]
-pub enum Manner {
-    /// Two numbers of one width, which the result has too.
-    Like,
-    /// A number, and one of any width.
-    Shift,
-    /// Two numbers of one width, or two truth values.
-    Same,
-    /// Two numbers of one width.
-    Order,
-    /// Two truth values.
-    Logic,
 }
 
 /// A value of a type.
@@ -99,41 +84,30 @@ pub fn widths_differ(a: Kind, b: Kind) -> bool
     }
 }
 
-/// How an operator takes its operands.
-pub fn manner_of(op: Op) -> Manner
-    ensures { result ≡ manner_of op }
+/// What is wanted of a left operand.
+pub fn left_want(op: Op, a: Kind, b: Kind, want: Kind) -> Kind
+    ensures { result ≡ left_want op a b want }
 {
     match op {
-        Op::Mul | Op::Add | Op::Sub | Op::BitAnd | Op::BitXor | Op::BitOr => Manner::Like,
-        Op::Shl | Op::Shr => Manner::Shift,
-        Op::Less | Op::LessEq | Op::More | Op::MoreEq => Manner::Order,
-        Op::Equal | Op::Differ => Manner::Same,
-        Op::Both | Op::Either => Manner::Logic,
-    }
-}
-
-/// What is wanted of a left operand.
-pub fn left_want(c: Manner, a: Kind, b: Kind, want: Kind) -> Kind
-    ensures { result ≡ left_want c a b want }
-{
-    match c {
-        Manner::Like => as_number(join(join(a, b), want)),
-        Manner::Shift => as_number(join(a, want)),
-        Manner::Same => join(a, b),
-        Manner::Order => as_number(join(a, b)),
-        Manner::Logic => Kind::Truth,
+        Op::Mul | Op::Add | Op::Sub => as_number(join(join(a, b), want)),
+        Op::BitAnd | Op::BitXor | Op::BitOr => as_number(join(join(a, b), want)),
+        Op::Shl | Op::Shr => as_number(join(a, want)),
+        Op::Equal | Op::Differ => join(a, b),
+        Op::Less | Op::LessEq | Op::More | Op::MoreEq => as_number(join(a, b)),
+        Op::Both | Op::Either => Kind::Truth,
     }
 }
 
 /// What is wanted of a right operand.
-pub fn right_want(c: Manner, a: Kind, b: Kind, want: Kind) -> Kind
-    ensures { result ≡ right_want c a b want }
+pub fn right_want(op: Op, a: Kind, b: Kind, want: Kind) -> Kind
+    ensures { result ≡ right_want op a b want }
 {
-    match c {
-        Manner::Like => as_number(join(join(a, b), want)),
-        Manner::Shift => as_number(join(b, Kind::Number(128))),
-        Manner::Same => join(a, b),
-        Manner::Order => as_number(join(a, b)),
-        Manner::Logic => Kind::Truth,
+    match op {
+        Op::Mul | Op::Add | Op::Sub => as_number(join(join(a, b), want)),
+        Op::BitAnd | Op::BitXor | Op::BitOr => as_number(join(join(a, b), want)),
+        Op::Shl | Op::Shr => as_number(join(b, Kind::Number(128))),
+        Op::Equal | Op::Differ => join(a, b),
+        Op::Less | Op::LessEq | Op::More | Op::MoreEq => as_number(join(a, b)),
+        Op::Both | Op::Either => Kind::Truth,
     }
 }

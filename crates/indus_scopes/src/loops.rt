@@ -71,6 +71,7 @@ fn within<'a>(
     ensures { IfOk result (λ s. scope_of s ≡ within (scope_of scope.entry) names.now lists.now) }
 {
     let Scope {
+        edition,
         decls,
         loops,
         block,
@@ -89,6 +90,7 @@ fn within<'a>(
         around.push(*l)?;
     }
     Ok(Scope {
+        edition,
         decls,
         loops: around,
         block,
@@ -105,6 +107,7 @@ fn outside<'a>(scope: Scope<'a>) -> Scope<'a>
         return scope;
     }
     let Scope {
+        edition,
         decls,
         loops,
         block,
@@ -119,6 +122,7 @@ fn outside<'a>(scope: Scope<'a>) -> Scope<'a>
     items.truncate(left);
     kinds.truncate(left);
     Scope {
+        edition,
         decls,
         loops,
         block,
@@ -137,7 +141,7 @@ pub fn enter<'a>(
     requires { repeats (scope_of scope.old) names.now ≡ false }
     ensures { OnOk result (scope_of scope.new ≡ within (scope_of scope.old) names.now lists.now) }
 {
-    let empty = Scope::new(alloc, scope.decls, scope.block);
+    let empty = Scope::new(alloc, scope.edition, scope.decls, scope.block);
     *scope = within(alloc, mem::replace(scope, empty), names, lists)?;
     Ok(())
 }
@@ -146,6 +150,6 @@ pub fn enter<'a>(
 pub fn leave(alloc: Global, scope: &mut Scope)
     ensures { scope_of scope.new ≡ record (scope_of scope.old) { loops = drop 1 (scope_of scope.old).loops } }
 {
-    let empty = Scope::new(alloc, scope.decls, scope.block);
+    let empty = Scope::new(alloc, scope.edition, scope.decls, scope.block);
     *scope = outside(mem::replace(scope, empty));
 }

@@ -7,10 +7,10 @@ ghost use Rattle.indus_scopes.specs.Scopes.{item_of, builtin_of, role_of, stands
 ghost use Rattle.indus_scopes.specs.Sights.{scope_of};
 
 use crate::declared::Declared;
-use crate::kind::{Kind, Manner, as_number, is_open, kind_of, manner_of};
+use crate::kind::{Kind, as_number, is_open, kind_of};
 use crate::sight::Scope;
 use indexmap::IndexSet;
-use indus_tree::{Decl, DeclKind, Expr, Shape};
+use indus_tree::{Decl, DeclKind, Expr, Op, Shape};
 use lex_text::Name;
 use std::alloc::Global;
 
@@ -77,10 +77,11 @@ pub fn builtin_of(name: &Name) -> Option<Kind>
 
 impl<'a> Scope<'a> {
     /// What is in sight outside loops.
-    pub fn new(alloc: Global, decls: Declared<'a>, block: Block) -> Scope<'a>
-        ensures { scope_of result ≡ record { decls = map decl_of decls.entry.decls.now; loops = []; block = block } }
+    pub fn new(alloc: Global, edition: u8, decls: Declared<'a>, block: Block) -> Scope<'a>
+        ensures { scope_of result ≡ record { edition = edition; decls = map decl_of decls.entry.decls.now; loops = []; block = block } }
     {
         Scope {
+            edition,
             decls,
             loops: Vec::new(alloc),
             block,
@@ -174,8 +175,8 @@ impl<'a> Scope<'a> {
             Expr::Member(_, _, _) => Kind::Truth,
             Expr::Not(_, _) => Kind::Truth,
             Expr::Invert(_, a) => as_number(self.own(a)),
-            Expr::Bin(_, op, a, b) => match manner_of(*op) {
-                Manner::Like => {
+            Expr::Bin(_, op, a, b) => match op {
+                Op::Mul | Op::Add | Op::Sub | Op::BitAnd | Op::BitXor | Op::BitOr => {
                     let left = self.own(a);
                     if is_open(left) {
                         as_number(self.own(b))
@@ -183,8 +184,9 @@ impl<'a> Scope<'a> {
                         as_number(left)
                     }
                 }
-                Manner::Shift => as_number(self.own(a)),
-                Manner::Same | Manner::Order | Manner::Logic => Kind::Truth,
+                Op::Shl | Op::Shr => as_number(self.own(a)),
+                Op::Less | Op::LessEq | Op::More | Op::MoreEq => Kind::Truth,
+                Op::Equal | Op::Differ | Op::Both | Op::Either => Kind::Truth,
             },
             Expr::Cast(_, w, _) => Kind::Number(*w),
         }

@@ -14,6 +14,8 @@ use indexmap::IndexSet;
 /// What is in sight at a place, innermost loop first.
 #[derive(Drop)]
 pub struct Scope<'a> {
+    /// The property's edition.
+    pub edition: u8,
     pub decls: Declared<'a>,
     pub loops: Vec<Loop<'a>>,
     pub block: Block,

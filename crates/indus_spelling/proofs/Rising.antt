@@ -155,27 +155,31 @@ decl_rises {p = p} (a_sensor x {e = e} {u = u} {v = v} s t) = (
 decl_rises {p = p} (a_header x {u = u} {v = v} s t) = (omega arith, omega (arith, length-append u (name x ∷ key k.Assign ∷ (v ++ key k.Semicolon ∷ []))))
 decl_rises {p = p} (a_control x {u = u} s) = (omega arith, omega (arith, length-append u (name x ∷ key k.Semicolon ∷ [])))
 
-wider_decls : (ds : List Decl) (p q q' : ℕ) → q ≤ q' → DeclsRise p q ds → DeclsRise p q' ds
-wider_decls [] p q q' b x = omega (arith, x)
-wider_decls (t ∷ ds) p q q' b x = (x.0, x.1, x.2, wider_decls ds x.0 q q' b x.3)
+wider_decls : (ds : List Decl) (p q p' q' : ℕ) → p' ≤ p → q ≤ q' → DeclsRise p q ds → DeclsRise p' q' ds
+wider_decls [] p q p' q' a b x = omega (arith, x)
+wider_decls (t ∷ ds) p q p' q' a b x = (x.0, omega (arith, x.1), x.2, wider_decls ds x.0 q x.0 q' (omega arith) b x.3)
 
 decls_rise : {p : ℕ} {ds : List Decl} {u : List Lexeme} → SpellsDecls p ds u → DeclsRise p (p + length u) ds
 decls_rise no_decl = omega arith
 decls_rise {p = p} (a_decl {ds = ds} {u = u} {v = v} t w) =
     let r = decl_rises t in
-    (p + length u, r.0, r.1, wider_decls ds (p + length u) (p + length u + length v) (p + length (u ++ v)) (omega (arith, length-append u v)) (decls_rise w))
+    (p + length u, r.0, r.1, wider_decls ds (p + length u) (p + length u + length v) (p + length u) (p + length (u ++ v)) (omega arith) (omega (arith, length-append u v)) (decls_rise w))
 
 -- ---- properties
 
 pub places_rise : PlacesRise
-places_rise t ws (a_property {ds = list} {c = c} {s = s} {u = u} {v = v} {w = w} ds x y z) =
+places_rise t ws (a_property {ds = list} {c = c} {r = r} {s = s} {u = u} {v = v} {w = w} e ds x y z) =
+    let i = length r + length s in
+    let j = i + length u in
+    let k = j + length v in
+    let all = length (r ++ (s ++ (u ++ (v ++ w)))) in
     record {
       at = refl;
-      init_from = length s;
-      tele_from = length s + length u;
-      check_from = length s + length u + length v;
-      decls = wider_decls list 0 (0 + length s) (length s) (omega arith) (decls_rise ds);
+      init_from = i;
+      tele_from = j;
+      check_from = k;
+      decls = wider_decls list (length r) i 0 i (omega arith) (omega arith) (decls_rise ds);
       init = block_rises x;
       tele = block_rises y;
-      check = wider_block c (length s + length u + length v) (length s + length u + length v + length w) (length s + length u + length v) (length (s ++ (u ++ (v ++ w)))) (omega arith) (omega (arith, length-append s (u ++ (v ++ w)), length-append u (v ++ w), length-append v w)) (block_rises z);
+      check = wider_block c k (k + length w) k all (omega arith) (omega (arith, length-append r (s ++ (u ++ (v ++ w))), length-append s (u ++ (v ++ w)), length-append u (v ++ w), length-append v w)) (block_rises z);
     }

@@ -1,7 +1,8 @@
 -- Which lexemes spell a statement, a block and a property.
 use Rattle.std.specs.Prelude.{ℕ, ◌+◌, List, [], ◌∷◌, ◌++◌, length, codes}
-use Rattle.lex_words.specs.Seen.{Lexeme, name, key}
-use Rattle.lex_words.specs.declared.key.Key.TheVariants.{If, Else, For, In, Reject, Report, BraceOpen, BraceClose, Open, Close, SquareOpen, SquareClose, Semicolon, Comma, Dot, Assign}
+use Rattle.lex_text.specs.declared.literal.Literal.{Literal}
+use Rattle.lex_words.specs.Seen.{Lexeme, name, number, key}
+use Rattle.lex_words.specs.declared.key.Key.TheVariants.{Edition, If, Else, For, In, Reject, Report, BraceOpen, BraceClose, Open, Close, SquareOpen, SquareClose, Semicolon, Comma, Dot, Assign}
 use Rattle.indus_tree.specs.Tree.{Expr, Exprs, none, Stmt, Stmts, assign, cell, push, choice, loop, reject, report, done, next, Decl, Property}
 use Rattle.indus_spelling.specs.Operators.{top}
 use Rattle.indus_spelling.specs.Expressions.{Spells, SpellsAll}
@@ -74,11 +75,21 @@ mutual
 
 -- ---- properties
 
--- a property, which has no edition line
-abbrev pub property : List Decl → (init tele check : Stmts) → Property
-property ds a b c = record { at = 0; edition = 1; decls = ds; init = a; tele = b; check = c }
+-- the number of the second edition, which has no written width
+abbrev pub two : Literal
+two = record { width = 0; value = 2 }
 
--- The lexemes spell the property: declarations, and three blocks.
+-- the edition line, or nothing in the first edition
+pub data SpellsEdition : ℕ → List Lexeme → Type 0 where
+  first_edition : SpellsEdition 1 []
+  second_edition : SpellsEdition 2 (key Edition ∷ number two ∷ key Semicolon ∷ [])
+
+-- a property; its first lexeme is that of the text, whatever its edition
+abbrev pub property : (edition : ℕ) → List Decl → (init tele check : Stmts) → Property
+property e ds a b c = record { at = 0; edition = e; decls = ds; init = a; tele = b; check = c }
+
+-- The lexemes spell the property: its edition, declarations, and three blocks, whose reports are numbered one behind the other.
 pub data SpellsProperty : Property → List Lexeme → Type 0 where
-  a_property : {ds : List Decl} {a b c : Stmts} {s u v w : List Lexeme} → SpellsDecls 0 ds s → SpellsBlock (length s) 0 a u → SpellsBlock (length s + length u) (block_reports a) b v
-      → SpellsBlock (length s + length u + length v) (block_reports a + block_reports b) c w → SpellsProperty (property ds a b c) (s ++ (u ++ (v ++ w)))
+  a_property : {e : ℕ} {ds : List Decl} {a b c : Stmts} {r s u v w : List Lexeme} → SpellsEdition e r → SpellsDecls (length r) ds s → SpellsBlock (length r + length s) 0 a u
+      → SpellsBlock (length r + length s + length u) (block_reports a) b v → SpellsBlock (length r + length s + length u + length v) (block_reports a + block_reports b) c w
+      → SpellsProperty (property e ds a b c) (r ++ (s ++ (u ++ (v ++ w))))

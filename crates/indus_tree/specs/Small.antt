@@ -1,4 +1,5 @@
--- The first small grammar: what its trees keep to.
+-- The small properties: what their trees keep to. That a name is no reserved word and no built-in name is left to the
+-- readers and the rules of types.
 use Rattle.std.specs.Prelude.{◌≡◌, ◌≤◌, ◌<◌, Bool, true, false, List, [], length, map, None}
 use Rattle.std.specs.List.{All, IsDistinct}
 use Rattle.lex_text.specs.Names.{same_text}
@@ -7,9 +8,9 @@ use Rattle.indus_tree.specs.Tree.{one, Expr, num, read, binary, Stmt, Stmts, ass
 use Rattle.indus_tree.specs.declared.tree.DeclKind.TheVariants as kind
 use Rattle.indus_tree.specs.declared.tree.Op.TheVariants as op
 use Rattle.indus_tree.specs.declared.tree.Ty.TheVariants as ty
-use Rattle.indus_tree.specs.Names.{is_declared, is_keyword, is_built_in}
+use Rattle.indus_tree.specs.Names.{is_declared}
 
--- a declaration of 8 bits that travel with the packet, by a name that is free
+-- a declaration of 8 bits that travel with the packet
 pub record IsByteDecl (d : Decl) : Type 0 where
   pub kind : d.kind ≡ kind.Tele
   pub shape : d.shape ≡ one (ty.Bit 8)
@@ -17,8 +18,6 @@ pub record IsByteDecl (d : Decl) : Type 0 where
   pub path : d.path ≡ []
   pub valid : d.valid ≡ false
   pub is_name : is_name d.name ≡ true
-  pub no_keyword : is_keyword d.name ≡ false
-  pub not_built_in : is_built_in d.name ≡ false
   pub short : length d.name ≤ 4096
 
 -- sums of declared names and of numbers below 256

@@ -74,7 +74,7 @@ pub record Decl : Type 0 where
   pub path : List (List ℕ)
   pub valid : Bool
 
--- a property
+-- a property, with the edition of the language in which it is written, 1 or 2
 pub record Property : Type 0 where
   pub at : ℕ
   pub edition : ℕ

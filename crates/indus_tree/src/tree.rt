@@ -145,7 +145,7 @@ pub enum Stmt {
 #[derive(Debug, Drop)]
 pub struct Property {
     pub at: u32,
-    /// The edition of the language, 1.
+    /// The edition of the language: 2 where the text begins with `edition 2;`, and else 1.
     pub edition: u8,
     pub decls: Vec<Decl>,
     /// Runs at the packet's first hop.

@@ -28,7 +28,7 @@ fine_new before [] f = tt
 fine_new before (d ∷ ds) f = ((neither (is_some (lookup before d.name)) (is_some (builtin_of d.name)) (f.0.0 NameTwice)).0, fine_new (before ++ d ∷ []) ds f.1)
 
 pub typed_new : (p : Property) → IsWellTyped p → AreNew [] p.decls
-typed_new p h = fine_new [] p.decls (each_fine p h).0
+typed_new p h = fine_new [] p.decls (each_fine p h).1.0
 
 -- ---- the table
 

@@ -1,16 +1,16 @@
 -- The width that the meaning hands to each part of an expression or a statement serves what the rules want there.
-use Rattle.std.proofs.Common.{◌≡◌, ℕ, List, zero, suc, true, false, ◌||◌, Option, Some, None, refl, sym, ap, ◌∙◌}
+use Rattle.std.proofs.Common.{◌≡◌, ℕ, List, zero, suc, Bool, true, false, ◌||◌, Option, Some, None, refl, sym, ap, ◌∙◌}
 use Rattle.bit_values.specs.Widths.{either_width}
 use Rattle.indus_tree.specs.Tree.{Expr, inversion, binary, cast, assign, cell, push, Shape, one, list, set, dict, Decl}
 use Rattle.indus_tree.specs.State.{lookup, shape_width, held_width}
-use Rattle.bit_values.specs.Operators.{left_place, right_place}
+use Rattle.bit_values.specs.Operators.{Class, like, shift, joined, compare, logic, left_place, right_place}
 use Rattle.indus_tree.specs.Operators.{class_of}
 use Rattle.indus_tree.specs.Reads.{Seen}
 use Rattle.indus_tree.specs.Value.{own_width}
 use Rattle.indus_tree.specs.declared.tree.Op.{Op}
 use Rattle.indus_tree.specs.declared.tree.DeclKind.{DeclKind}
 use Rattle.indus_tree.specs.declared.tree.DeclKind.TheVariants.{Tele, Sensor, Header, Control}
-use Rattle.indus_scopes.specs.Kinds.{is_open, join, as_number, kinds_differ, manner_of, left_want, right_want, binary_kind}
+use Rattle.indus_scopes.specs.Kinds.{is_open, join, as_number, kinds_differ, takes_either, left_want, right_want, class_left, class_right, class_kind}
 use Rattle.indus_scopes.specs.Scopes.{Sight, role_of, role_from, read_kind, index_kind, element_kind, shape_item, item_of, builtin_of, own}
 use Rattle.indus_scopes.specs.Uses.{is_missing, is_array, is_dict, is_list, reads, counts, may_index, writable}
 use Rattle.indus_rules.specs.Sites.{push_want, expr_sites, stmt_sites}
@@ -18,20 +18,18 @@ use Rattle.indus_rules.specs.Rules.{Fine}
 use Rattle.indus_rules.specs.declared.rule.Rule.TheVariants.{NoSuchName, KindDiffers, NotWritable}
 use Rattle.indus_scopes.specs.declared.kind.Kind.{Kind}
 use Rattle.indus_scopes.specs.declared.kind.Kind.TheVariants.{Number, Truth, Unknown}
-use Rattle.indus_scopes.specs.declared.kind.Manner.{Manner}
-use Rattle.indus_scopes.specs.declared.kind.Manner.TheVariants.{Like, Shift, Same, Order, Logic}
 use Rattle.indus_types.specs.Fits.{kind_width, Fits}
 use Rattle.indus_types.specs.StaticWidths.{Serves, PartsAreServed}
-use Rattle.indus_types.proofs.Widths.{twice_not, kind_of_width, not_truth, class_for, class_is, kind_fine, own_static}
+use Rattle.indus_types.proofs.Widths.{twice_not, kind_of_width, not_truth, kind_fine, own_static}
 use Rattle.indus_types.proofs.StaticWidthsLemmas.{is_plain, want_plain, pick_plain, twice, join_any, join_plain, scalar_width}
 
 -- ---- operands
 
 -- the wanted width of the left operand of an operator whose operands have these kinds
-left_given : (m : Manner) (a b want : Kind) (w : ℕ) → kinds_differ (binary_kind m a b) want ≡ false → kinds_differ a (left_want m a b want) ≡ false → kinds_differ b (right_want m a b want) ≡ false
-    → either_width (kind_width (binary_kind m a b)) w ≡ either_width (kind_width (binary_kind m a b)) (kind_width want)
-    → either_width (kind_width a) (left_place (class_for m) (kind_width a) (kind_width b) w) ≡ either_width (kind_width a) (kind_width (left_want m a b want))
-left_given Like a b want w h k l s =
+left_given : (c : Class) (t : Bool) (a b want : Kind) (w : ℕ) → kinds_differ (class_kind c a b) want ≡ false → kinds_differ a (class_left c t a b want) ≡ false → kinds_differ b (class_right c t a b want) ≡ false
+    → either_width (kind_width (class_kind c a b)) w ≡ either_width (kind_width (class_kind c a b)) (kind_width want)
+    → either_width (kind_width a) (left_place c (kind_width a) (kind_width b) w) ≡ either_width (kind_width a) (kind_width (class_left c t a b want))
+left_given like t a b want w h k l s =
     let pa = is_plain a _ k in
     let pb = is_plain b _ l in
     let pw = want_plain (join a b) want h in
@@ -39,20 +37,21 @@ left_given Like a b want w h k l s =
     let place = join_plain (join a b) want (pick_plain (is_open a) a b pa pb) pw ∙ ap (λ v. either_width v (kind_width want)) (join_any a b) in
     let same = ap (λ v. either_width v w) (sym own_is) ∙ s ∙ ap (λ v. either_width v (kind_width want)) own_is in
     ap (either_width (kind_width a)) (same ∙ sym place)
-left_given Shift a b want w h k l s =
+left_given shift t a b want w h k l s =
     let pa = is_plain a _ k in
     let pw = want_plain a want h in
     let own_is = not_truth a Unknown pa in
     let same = ap (λ v. either_width v w) (sym own_is) ∙ s ∙ ap (λ v. either_width v (kind_width want)) own_is in
     ap (either_width (kind_width a)) (same ∙ sym (join_plain a want pa pw))
-left_given Same a b want w h k l s = ap (either_width (kind_width a)) (sym (join_any a b))
-left_given Order a b want w h k l s = ap (either_width (kind_width a)) (sym (join_plain a b (is_plain a _ k) (is_plain b _ l)))
-left_given Logic a b want w h k l s = refl
+left_given joined t a b want w h k l s = ap (either_width (kind_width a)) (sym (not_truth a _ k))
+left_given compare true a b want w h k l s = ap (either_width (kind_width a)) (sym (join_any a b))
+left_given compare false a b want w h k l s = ap (either_width (kind_width a)) (sym (join_plain a b (is_plain a _ k) (is_plain b _ l)))
+left_given logic t a b want w h k l s = refl
 
-right_given : (m : Manner) (a b want : Kind) (w : ℕ) → kinds_differ (binary_kind m a b) want ≡ false → kinds_differ a (left_want m a b want) ≡ false → kinds_differ b (right_want m a b want) ≡ false
-    → either_width (kind_width (binary_kind m a b)) w ≡ either_width (kind_width (binary_kind m a b)) (kind_width want)
-    → either_width (kind_width b) (right_place (class_for m) (kind_width a) (kind_width b) w) ≡ either_width (kind_width b) (kind_width (right_want m a b want))
-right_given Like a b want w h k l s =
+right_given : (c : Class) (t : Bool) (a b want : Kind) (w : ℕ) → kinds_differ (class_kind c a b) want ≡ false → kinds_differ a (class_left c t a b want) ≡ false → kinds_differ b (class_right c t a b want) ≡ false
+    → either_width (kind_width (class_kind c a b)) w ≡ either_width (kind_width (class_kind c a b)) (kind_width want)
+    → either_width (kind_width b) (right_place c (kind_width a) (kind_width b) w) ≡ either_width (kind_width b) (kind_width (class_right c t a b want))
+right_given like t a b want w h k l s =
     let pa = is_plain a _ k in
     let pb = is_plain b _ l in
     let pw = want_plain (join a b) want h in
@@ -60,31 +59,30 @@ right_given Like a b want w h k l s =
     let place = join_plain (join a b) want (pick_plain (is_open a) a b pa pb) pw ∙ ap (λ v. either_width v (kind_width want)) (join_any a b) in
     let same = ap (λ v. either_width v w) (sym own_is) ∙ s ∙ ap (λ v. either_width v (kind_width want)) own_is in
     ap (either_width (kind_width b)) (same ∙ sym place)
-right_given Shift a b want w h k l s = ap (either_width (kind_width b)) (sym (join_plain b (Number 128) (is_plain b _ l) refl))
-right_given Same a b want w h k l s = ap (either_width (kind_width b)) (sym (join_any a b))
-right_given Order a b want w h k l s = ap (either_width (kind_width b)) (sym (join_plain a b (is_plain a _ k) (is_plain b _ l)))
-right_given Logic a b want w h k l s = refl
+right_given shift t a b want w h k l s = ap (either_width (kind_width b)) (sym (join_plain b (Number 128) (is_plain b _ l) refl))
+right_given joined t a b want w h k l s = ap (either_width (kind_width b)) (sym (not_truth b _ l))
+right_given compare true a b want w h k l s = ap (either_width (kind_width b)) (sym (join_any a b))
+right_given compare false a b want w h k l s = ap (either_width (kind_width b)) (sym (join_plain a b (is_plain a _ k) (is_plain b _ l)))
+right_given logic t a b want w h k l s = refl
 
 module _ (g : Sight) (s : Seen) (fit : Fits g s) (want : Kind) (p : ℕ) (op : Op) (a b : Expr) (f : Fine (expr_sites g want (binary p op a b))) (w : ℕ) (serves : Serves g want (binary p op a b) w) where
   own_left : own_width s a ≡ kind_width (own g a)
-  own_left = own_static g s fit a (left_want (manner_of op) (own g a) (own g b) want) f.1.0
+  own_left = own_static g s fit a (left_want op (own g a) (own g b) want) f.1.0
 
   own_right : own_width s b ≡ kind_width (own g b)
-  own_right = own_static g s fit b (right_want (manner_of op) (own g a) (own g b) want) f.1.1
+  own_right = own_static g s fit b (right_want op (own g a) (own g b) want) f.1.1
 
-  left_served : Serves g (left_want (manner_of op) (own g a) (own g b) want) a (left_place (class_of op) (own_width s a) (own_width s b) w)
+  left_served : Serves g (left_want op (own g a) (own g b) want) a (left_place (class_of op) (own_width s a) (own_width s b) w)
   left_served =
-      ap (λ c. either_width (kind_width (own g a)) (left_place c (own_width s a) (own_width s b) w)) (class_is op)
-      ∙ ap (λ v. either_width (kind_width (own g a)) (left_place (class_for (manner_of op)) v (own_width s b) w)) own_left
-      ∙ ap (λ v. either_width (kind_width (own g a)) (left_place (class_for (manner_of op)) (kind_width (own g a)) v w)) own_right
-      ∙ left_given (manner_of op) (own g a) (own g b) want w (kind_fine g want (binary p op a b) f) (kind_fine g _ a f.1.0) (kind_fine g _ b f.1.1) serves
+      ap (λ v. either_width (kind_width (own g a)) (left_place (class_of op) v (own_width s b) w)) own_left
+      ∙ ap (λ v. either_width (kind_width (own g a)) (left_place (class_of op) (kind_width (own g a)) v w)) own_right
+      ∙ left_given (class_of op) (takes_either op) (own g a) (own g b) want w (kind_fine g want (binary p op a b) f) (kind_fine g _ a f.1.0) (kind_fine g _ b f.1.1) serves
 
-  right_served : Serves g (right_want (manner_of op) (own g a) (own g b) want) b (right_place (class_of op) (own_width s a) (own_width s b) w)
+  right_served : Serves g (right_want op (own g a) (own g b) want) b (right_place (class_of op) (own_width s a) (own_width s b) w)
   right_served =
-      ap (λ c. either_width (kind_width (own g b)) (right_place c (own_width s a) (own_width s b) w)) (class_is op)
-      ∙ ap (λ v. either_width (kind_width (own g b)) (right_place (class_for (manner_of op)) v (own_width s b) w)) own_left
-      ∙ ap (λ v. either_width (kind_width (own g b)) (right_place (class_for (manner_of op)) (kind_width (own g a)) v w)) own_right
-      ∙ right_given (manner_of op) (own g a) (own g b) want w (kind_fine g want (binary p op a b) f) (kind_fine g _ a f.1.0) (kind_fine g _ b f.1.1) serves
+      ap (λ v. either_width (kind_width (own g b)) (right_place (class_of op) v (own_width s b) w)) own_left
+      ∙ ap (λ v. either_width (kind_width (own g b)) (right_place (class_of op) (kind_width (own g a)) v w)) own_right
+      ∙ right_given (class_of op) (takes_either op) (own g a) (own g b) want w (kind_fine g want (binary p op a b) f) (kind_fine g _ a f.1.0) (kind_fine g _ b f.1.1) serves
 
 turned_served : (g : Sight) (want : Kind) (p : ℕ) (a : Expr) → Fine (expr_sites g want (inversion p a)) → (w : ℕ) → Serves g want (inversion p a) w → Serves g (as_number (join (own g a) want)) a w
 turned_served g want p a f w serves =

@@ -28,4 +28,4 @@ mutual
 pub reports_short : ReportsAreShort
 reports_short p h =
     let f = each_fine p h in
-    record { init = block_short p.init (sight p block.Init) f.1.0; tele = block_short p.tele (sight p block.Tele) f.1.1.0; check = block_short p.check (sight p block.Check) f.1.1.1 }
+    record { init = block_short p.init (sight p block.Init) f.1.1.0; tele = block_short p.tele (sight p block.Tele) f.1.1.1.0; check = block_short p.check (sight p block.Check) f.1.1.1.1 }

@@ -83,13 +83,13 @@ pub block_sound : (p : Property) → IsWellTyped p → (b : Block) → IsSound (
 block_sound p h b =
     let f = each_fine p h in
     record {
-      decls = λ x d e. (decl_good x d p.decls [] f.0 e).width;
-      apart = λ x d e. (decl_good x d p.decls [] f.0 e).apart;
+      decls = λ x d e. (decl_good x d p.decls [] f.1.0 e).width;
+      apart = λ x d e. (decl_good x d p.decls [] f.1.0 e).apart;
       items = λ x k e. no_items k e;
     }
 
 -- of an initial value nothing is in sight
-pub nothing_sound : (b : Block) → IsSound (record { decls = []; loops = []; block = b })
+pub nothing_sound : (b : Block) → IsSound (record { edition = 1; decls = []; loops = []; block = b })
 nothing_sound b =
     record {
       decls = λ x d e. absurd (let c : (let n : Option Decl = None in n) ≡ Some d = e in cc);

@@ -1,13 +1,17 @@
 -- The static width of a fine expression can be a width, by induction on the expression: what is read has a declared
 -- width, a number takes that of its place, and an operator's is that of an operand.
-use Rattle.std.proofs.Common.{◌≡◌, ℕ, zero, suc, List, Bool, true, false, cond, not, ◌||◌, ◌&&◌, Option, Some, None, refl, sym, ap, ◌∙◌, subst, nat_eq, nat_lt, arith}
-use Rattle.std.specs.Prelude.{codes}
+use Rattle.std.proofs.Common.{◌≡◌, ℕ, ◌+◌, zero, suc, List, Bool, true, false, cond, not, ◌||◌, ◌&&◌, Option, Some, None, refl, sym, ap, ◌∙◌, subst, nat_eq, nat_lt, min, inl, inr, ◌≤◌, arith}
+use Rattle.std.specs.Prelude.{codes, nat_le, ◌⊎◌}
 use Rattle.std.proofs.lemmas.Bool.{le-leb}
+use Rattle.std.proofs.lemmas.Bool.Decides.{nat_tests}
+use Rattle.std.proofs.Math.Nat.{min-eq_left, min-eq_right}
 use Rattle.bit_values.specs.Widths.{either_width, sound_width}
+use Rattle.bit_values.specs.Operators.{Class, like, shift, joined, compare, logic}
 use Rattle.lex_text.specs.Names.{same_text}
 use Rattle.indus_tree.specs.Tree.{Expr, Exprs, num, flag, read, count, index, member, negation, inversion, binary, cast, Shape, one, list, set, dict, Decl}
 use Rattle.indus_tree.specs.State.{lookup, shape_width}
-use Rattle.indus_scopes.specs.Kinds.{is_open, join, as_number, width_in, kinds_differ, manner_of, left_want, right_want, binary_kind}
+use Rattle.indus_tree.specs.Operators.{class_of}
+use Rattle.indus_scopes.specs.Kinds.{is_open, join, as_number, width_in, kinds_differ, takes_either, class_left, class_right, class_kind}
 use Rattle.indus_scopes.specs.Scopes.{Sight, role_of, role_from, scalar_kind, read_kind, index_kind, item_of, builtin_of, own}
 use Rattle.indus_scopes.specs.Uses.{is_missing, is_scalar, reads, indexed}
 use Rattle.indus_rules.specs.Sites.{expr_sites}
@@ -15,8 +19,6 @@ use Rattle.indus_rules.specs.Rules.{Fine, number_width, too_wide}
 use Rattle.indus_rules.specs.declared.rule.Rule.TheVariants.{NoSuchName, KindDiffers, BadSize}
 use Rattle.indus_scopes.specs.declared.kind.Kind.{Kind}
 use Rattle.indus_scopes.specs.declared.kind.Kind.TheVariants.{Number, Truth, Unknown}
-use Rattle.indus_scopes.specs.declared.kind.Manner.{Manner}
-use Rattle.indus_scopes.specs.declared.kind.Manner.TheVariants.{Like, Shift, Same, Order, Logic}
 use Rattle.indus_types.specs.Fits.{kind_width}
 use Rattle.indus_types.specs.StaticWidths.{static_width, IsWidth, IsSound}
 use Rattle.indus_types.proofs.Widths.{neither, twice_not, kind_of_width, element_width, not_truth, nonzero, kind_fine}
@@ -137,9 +139,27 @@ shift_step a want h k is =
     (ap (either_width (kind_width a)) (join_plain a want pa pw) ∙ twice (kind_width a) (kind_width want) ∙ sym (ap (λ v. either_width v (kind_width want)) (not_truth a Unknown pa)))
     is
 
+-- so has a concatenation
+below_step : (a b : ℕ) (t : Bool) → nat_le a b ≡ t → (a ≤ b) ⊎ (b ≤ a)
+below_step a b true e = inl (grind (arith, nat_tests))
+below_step a b false e = inr (grind (arith, nat_tests))
+
+capped_step : (n : ℕ) → (128 ≤ n) ⊎ (n ≤ 128) → 1 ≤ n → IsWidth (min 128 n)
+capped_step n (inl h) k = subst IsWidth (sym (min-eq_left h)) (record { least = omega arith; most = omega arith })
+capped_step n (inr h) k = subst IsWidth (sym (min-eq_right h)) (record { least = k; most = h })
+
+joined_wide : (v u : ℕ) → IsWidth v → IsWidth (min 128 (v + u))
+joined_wide v u is = capped_step (v + u) (below_step 128 (v + u) (nat_le 128 (v + u)) refl) (let least = is.least in omega arith)
+
+joined_place : (a : Kind) → kinds_differ a (as_number a) ≡ false → either_width (kind_width a) (kind_width (as_number a)) ≡ width_in a
+joined_place (Number zero) h = refl
+joined_place (Number (suc w)) h = refl
+joined_place Truth h = absurd (let c : true ≡ false = h in cc)
+joined_place Unknown h = refl
+
 -- an operator has a width where its left operand has
-left_step : (m : Manner) (a b want : Kind) → kinds_differ (binary_kind m a b) want ≡ false → kinds_differ a (left_want m a b want) ≡ false → kinds_differ b (right_want m a b want) ≡ false → IsWidth (either_width (kind_width a) (kind_width (left_want m a b want))) → IsWidth (either_width (kind_width (binary_kind m a b)) (kind_width want))
-left_step Like a b want h k l is =
+left_step : (c : Class) (t : Bool) (a b want : Kind) → kinds_differ (class_kind c a b) want ≡ false → kinds_differ a (class_left c t a b want) ≡ false → kinds_differ b (class_right c t a b want) ≡ false → IsWidth (either_width (kind_width a) (kind_width (class_left c t a b want))) → IsWidth (either_width (kind_width (class_kind c a b)) (kind_width want))
+left_step like t a b want h k l is =
     let pa = is_plain a _ k in
     let pb = is_plain b _ l in
     let pw = want_plain (join a b) want h in
@@ -147,10 +167,10 @@ left_step Like a b want h k l is =
     subst IsWidth
     (ap (either_width (kind_width a)) place ∙ both_given (kind_width a) (kind_width b) (kind_width want) ∙ sym (ap (λ v. either_width v (kind_width want)) (join_plain a b pa pb)))
     is
-left_step Shift a b want h k l is = shift_step a want h k is
-left_step Same a b want h k l is = given 1 (kind_width want) one_bit
-left_step Order a b want h k l is = given 1 (kind_width want) one_bit
-left_step Logic a b want h k l is = given 1 (kind_width want) one_bit
+left_step shift t a b want h k l is = shift_step a want h k is
+left_step joined t a b want h k l is = given _ (kind_width want) (joined_wide (width_in a) (width_in b) (subst IsWidth (joined_place a k) is))
+left_step compare t a b want h k l is = given 1 (kind_width want) one_bit
+left_step logic t a b want h k l is = given 1 (kind_width want) one_bit
 
 -- ---- expressions
 
@@ -166,5 +186,5 @@ static_sound g is (member p ks x) want f = given 1 (kind_width want) one_bit
 static_sound g is (negation p a) want f = given 1 (kind_width want) one_bit
 static_sound g is (inversion p a) want f = shift_step (own g a) want (kind_fine g want (inversion p a) f) (kind_fine g _ a f.1) (static_sound g is a _ f.1)
 static_sound g is (binary p op a b) want f =
-    left_step (manner_of op) (own g a) (own g b) want (kind_fine g want (binary p op a b) f) (kind_fine g _ a f.1.0) (kind_fine g _ b f.1.1) (static_sound g is a _ f.1.0)
+    left_step (class_of op) (takes_either op) (own g a) (own g b) want (kind_fine g want (binary p op a b) f) (kind_fine g _ a f.1.0) (kind_fine g _ b f.1.1) (static_sound g is a _ f.1.0)
 static_sound g is (cast p v a) want f = given v (kind_width want) (good_bits v (f.0 BadSize))

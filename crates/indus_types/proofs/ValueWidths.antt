@@ -134,7 +134,7 @@ mutual
 
 each_start : (o : Option Expr) (h : Shape) → Fine (start_sites o h) → EachExpr HasStaticWidth (start_sites o h)
 each_start None h f = tt
-each_start (Some e) h f = each_part (record { decls = []; loops = []; block = block.Init }) (nothing_sound block.Init) e _ f
+each_start (Some e) h f = each_part (record { edition = 1; decls = []; loops = []; block = block.Init }) (nothing_sound block.Init) e _ f
 
 each_in_decls : (ds before : List Decl) → Fine (decl_sites before ds) → EachExpr HasStaticWidth (decl_sites before ds)
 each_in_decls [] before f = tt
@@ -143,7 +143,7 @@ each_in_decls (d ∷ ds) before f = ((tt, each_start d.start d.shape f.0.1), eac
 each_in_property : (p : Property) → IsWellTyped p → EachExpr HasStaticWidth (property_sites p)
 each_in_property p h =
     let f = each_fine p h in
-    (each_in_decls p.decls [] f.0, (each_in_block p.init (sight p block.Init) (block_sound p h block.Init) f.1.0, (each_in_block p.tele (sight p block.Tele) (block_sound p h block.Tele) f.1.1.0, each_in_block p.check (sight p block.Check) (block_sound p h block.Check) f.1.1.1)))
+    (tt, (each_in_decls p.decls [] f.1.0, (each_in_block p.init (sight p block.Init) (block_sound p h block.Init) f.1.1.0, (each_in_block p.tele (sight p block.Tele) (block_sound p h block.Tele) f.1.1.1.0, each_in_block p.check (sight p block.Check) (block_sound p h block.Check) f.1.1.1.1))))
 
 pub have_static : ValuesHaveStaticWidths
 have_static = record { fine = fine_has_static; each = each_in_property }

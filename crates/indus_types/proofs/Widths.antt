@@ -1,19 +1,17 @@
 -- The widths that the meaning finds are those of the rules, by induction on the expression.
-use Rattle.std.proofs.Common.{◌≡◌, ℕ, zero, suc, Bool, true, false, cond, not, ◌||◌, Option, Some, None, refl, sym, ap, ◌∙◌, nat_eq, arith}
+use Rattle.std.proofs.Common.{◌≡◌, ℕ, ◌+◌, zero, suc, Bool, true, false, cond, not, ◌||◌, Option, Some, None, refl, sym, ap, ap₂, ◌∙◌, nat_eq, min, arith}
 use borrow.Author.Tests.{eqb-true}
 use Rattle.bit_values.specs.Widths.{either_width}
 use Rattle.indus_tree.specs.Tree.{Expr, Exprs, num, flag, read, count, index, member, negation, inversion, binary, cast, Shape, one, list, set, dict, Decl}
 use Rattle.indus_tree.specs.declared.tree.Ty.{Ty}
 use Rattle.indus_tree.specs.declared.tree.Ty.TheVariants as ty
-use Rattle.indus_tree.specs.declared.tree.Op.{Op}
-use Rattle.indus_tree.specs.declared.tree.Op.TheVariants.{Mul, Add, Sub, Shl, Shr, BitAnd, BitXor, BitOr, Less, LessEq, More, MoreEq, Equal, Differ, Both, Either}
 use Rattle.indus_tree.specs.declared.tree.DeclKind.{DeclKind}
 use Rattle.indus_tree.specs.declared.tree.DeclKind.TheVariants.{Tele, Sensor, Header, Control}
 use Rattle.indus_tree.specs.State.{lookup, width_of, shape_width, held_width}
-use Rattle.bit_values.specs.Operators.{Class, like, shift, compare, logic, own_of}
+use Rattle.bit_values.specs.Operators.{Class, like, shift, joined, compare, logic, own_of}
 use Rattle.indus_tree.specs.Operators.{class_of}
 use Rattle.indus_tree.specs.Value.{own_width}
-use Rattle.indus_scopes.specs.Kinds.{kind_of, join, as_number, kinds_differ, manner_of, left_want, right_want, binary_kind}
+use Rattle.indus_scopes.specs.Kinds.{kind_of, join, as_number, width_in, kinds_differ, class_left, class_right, class_kind, takes_either}
 use Rattle.indus_scopes.specs.Scopes.{Sight, role_from, index_kind, element_kind, item_of, builtin_of, own}
 use Rattle.indus_scopes.specs.Uses.{is_missing, indexed, shape_indexed}
 use Rattle.indus_rules.specs.Sites.{at_expr, expr_sites}
@@ -22,8 +20,6 @@ use Rattle.indus_rules.specs.declared.rule.Rule.{Rule}
 use Rattle.indus_rules.specs.declared.rule.Rule.TheVariants.{NoSuchName, KindDiffers}
 use Rattle.indus_scopes.specs.declared.kind.Kind.{Kind}
 use Rattle.indus_scopes.specs.declared.kind.Kind.TheVariants.{Number, Truth, Unknown}
-use Rattle.indus_scopes.specs.declared.kind.Manner.{Manner}
-use Rattle.indus_scopes.specs.declared.kind.Manner.TheVariants.{Like, Shift, Same, Order, Logic}
 use Rattle.indus_types.specs.Fits.{kind_width, KnowsWidths}
 
 -- neither side of a false `or` holds
@@ -106,38 +102,20 @@ join_width (Number w) b want want' h k = open_step w b want' k
 join_width Truth b want want' h k = absurd (let d : kinds_differ Truth (as_number want) ≡ true = truth_differs want in let c : true ≡ false = sym d ∙ h in cc)
 join_width Unknown b want want' h k = sym (not_truth b want' k)
 
--- how the meaning takes an operator's operands
-abbrev pub class_for : Manner → Class
-class_for Like = like
-class_for Shift = shift
-class_for Same = compare
-class_for Order = compare
-class_for Logic = logic
+-- what is no truth value has the width that it is written with
+pub width_of_number : (k want : Kind) → kinds_differ k (as_number want) ≡ false → width_in k ≡ kind_width k
+width_of_number (Number w) want h = refl
+width_of_number Truth (Number w) h = absurd (let c : true ≡ false = h in cc)
+width_of_number Truth Truth h = absurd (let c : true ≡ false = h in cc)
+width_of_number Truth Unknown h = absurd (let c : true ≡ false = h in cc)
+width_of_number Unknown want h = refl
 
-pub class_is : (op : Op) → class_of op ≡ class_for (manner_of op)
-class_is Mul = refl
-class_is Add = refl
-class_is Sub = refl
-class_is Shl = refl
-class_is Shr = refl
-class_is BitAnd = refl
-class_is BitXor = refl
-class_is BitOr = refl
-class_is Less = refl
-class_is LessEq = refl
-class_is More = refl
-class_is MoreEq = refl
-class_is Equal = refl
-class_is Differ = refl
-class_is Both = refl
-class_is Either = refl
-
-binary_step : (m : Manner) (a b want : Kind) (v u : ℕ) → v ≡ kind_width a → u ≡ kind_width b → kinds_differ a (left_want m a b want) ≡ false → kinds_differ b (right_want m a b want) ≡ false → own_of (class_for m) v u ≡ kind_width (binary_kind m a b)
-binary_step Like a b want v u p q h k = ap (λ n. either_width n u) p ∙ ap (either_width (kind_width a)) q ∙ join_width a b _ _ h k
-binary_step Shift a b want v u p q h k = p ∙ sym (not_truth a _ h)
-binary_step Same a b want v u p q h k = refl
-binary_step Order a b want v u p q h k = refl
-binary_step Logic a b want v u p q h k = refl
+class_step : (c : Class) (t : Bool) (a b want : Kind) (v u : ℕ) → v ≡ kind_width a → u ≡ kind_width b → kinds_differ a (class_left c t a b want) ≡ false → kinds_differ b (class_right c t a b want) ≡ false → own_of c v u ≡ kind_width (class_kind c a b)
+class_step like t a b want v u p q h k = ap (λ n. either_width n u) p ∙ ap (either_width (kind_width a)) q ∙ join_width a b _ _ h k
+class_step shift t a b want v u p q h k = p ∙ sym (not_truth a _ h)
+class_step joined t a b want v u p q h k = ap₂ (λ n m. min 128 (n + m)) (p ∙ sym (width_of_number a _ h)) (q ∙ sym (width_of_number b _ k))
+class_step compare t a b want v u p q h k = refl
+class_step logic t a b want v u p q h k = refl
 
 pub own_static : KnowsWidths
 own_static g s fit (num p n) want f = refl
@@ -149,6 +127,5 @@ own_static g s fit (member p ks x) want f = refl
 own_static g s fit (negation p a) want f = refl
 own_static g s fit (inversion p a) want f = own_static g s fit a _ f.1 ∙ sym (not_truth (own g a) _ (kind_fine g _ a f.1))
 own_static g s fit (binary p op a b) want f =
-    ap (λ c. own_of c (own_width s a) (own_width s b)) (class_is op)
-    ∙ binary_step (manner_of op) (own g a) (own g b) want (own_width s a) (own_width s b) (own_static g s fit a _ f.1.0) (own_static g s fit b _ f.1.1) (kind_fine g _ a f.1.0) (kind_fine g _ b f.1.1)
+    class_step (class_of op) (takes_either op) (own g a) (own g b) want (own_width s a) (own_width s b) (own_static g s fit a _ f.1.0) (own_static g s fit b _ f.1.1) (kind_fine g _ a f.1.0) (kind_fine g _ b f.1.1)
 own_static g s fit (cast p v a) want f = refl

@@ -15,9 +15,9 @@ use Rattle.indus_tree.specs.Value.{own_width, value_of}
 use Rattle.indus_tree.specs.Meaning.{seen_by, named, turns_of}
 use Rattle.indus_tree.specs.Shapes.{HasWidth, AreShaped}
 use Rattle.indus_tree.specs.declared.tree.DeclKind.TheVariants.{Tele, Sensor, Header, Control}
-use Rattle.indus_scopes.specs.Kinds.{kind_of, join, as_number, manner_of, left_want, right_want}
+use Rattle.indus_scopes.specs.Kinds.{kind_of, join, as_number, left_want, right_want}
 use Rattle.indus_scopes.specs.Scopes.{Sight, role_of, read_kind, index_kind, item_of, builtin_of, own}
-use Rattle.indus_rules.specs.Sites.{Site, at_expr, at_stmt, at_decl, push_want, expr_sites, stmt_sites, property_sites, sight}
+use Rattle.indus_rules.specs.Sites.{Site, at_expr, at_stmt, at_decl, at_edition, push_want, expr_sites, stmt_sites, property_sites, sight}
 use Rattle.indus_scopes.specs.Items.{within}
 use Rattle.indus_rules.specs.Rules.{Fine, IsWellTyped}
 use Rattle.indus_scopes.specs.declared.kind.Kind.{Kind}
@@ -105,6 +105,7 @@ EachExpr P nowhere = Unit {0}
 EachExpr P (here (at_expr g want e)) = P g want e
 EachExpr P (here (at_stmt g c)) = Unit {0}
 EachExpr P (here (at_decl b d)) = Unit {0}
+EachExpr P (here (at_edition p)) = Unit {0}
 EachExpr P (both a b) = EachExpr P a × EachExpr P b
 
 -- a fine expression has its static width, and so has each expression of a well-typed property
@@ -117,8 +118,8 @@ pub record ValuesHaveStaticWidths : Type 0 where
 -- the width that the meaning hands to each part of a fine expression or statement serves what is wanted of the part. A
 -- test's and a negation's place has 1 and a reported value's 0, as is wanted there, by definition
 pub record PartsAreServed : Type 0 where
-  pub left : (g : Sight) (s : Seen) → Fits g s → (want : Kind) (p : ℕ) (op : Op) (a b : Expr) → Fine (expr_sites g want (binary p op a b)) → (w : ℕ) → Serves g want (binary p op a b) w → Serves g (left_want (manner_of op) (own g a) (own g b) want) a (left_place (class_of op) (own_width s a) (own_width s b) w)
-  pub right : (g : Sight) (s : Seen) → Fits g s → (want : Kind) (p : ℕ) (op : Op) (a b : Expr) → Fine (expr_sites g want (binary p op a b)) → (w : ℕ) → Serves g want (binary p op a b) w → Serves g (right_want (manner_of op) (own g a) (own g b) want) b (right_place (class_of op) (own_width s a) (own_width s b) w)
+  pub left : (g : Sight) (s : Seen) → Fits g s → (want : Kind) (p : ℕ) (op : Op) (a b : Expr) → Fine (expr_sites g want (binary p op a b)) → (w : ℕ) → Serves g want (binary p op a b) w → Serves g (left_want op (own g a) (own g b) want) a (left_place (class_of op) (own_width s a) (own_width s b) w)
+  pub right : (g : Sight) (s : Seen) → Fits g s → (want : Kind) (p : ℕ) (op : Op) (a b : Expr) → Fine (expr_sites g want (binary p op a b)) → (w : ℕ) → Serves g want (binary p op a b) w → Serves g (right_want op (own g a) (own g b) want) b (right_place (class_of op) (own_width s a) (own_width s b) w)
   pub turned : (g : Sight) (want : Kind) (p : ℕ) (a : Expr) → Fine (expr_sites g want (inversion p a)) → (w : ℕ) → Serves g want (inversion p a) w → Serves g (as_number (join (own g a) want)) a w
   pub cast_from : (g : Sight) (want : Kind) (p v : ℕ) (a : Expr) → Fine (expr_sites g want (cast p v a)) → Serves g (as_number (own g a)) a 0
   -- the width that a target is declared with is the one that is wanted of its value

@@ -14,8 +14,6 @@
 #![tactic(auto)]
 
 mod law;
-#[cfg(test)]
-mod rows;
 
 pub use law::{
     LinkedHalves, LinkedNetwork, edges_stay_where_nothing_is_rejected, over_every_schedule,

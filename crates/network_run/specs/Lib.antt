@@ -6,6 +6,5 @@ pub mod NetworkRun
 pub mod PathMeaning
 pub mod World
 pub mod Hop
--- What serves the proofs: the words of the small laws, and the examples of the worked rows.
+-- What serves the proofs: the words of the small laws.
 pub mod RunLaws
-pub mod Example

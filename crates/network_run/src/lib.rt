@@ -14,8 +14,6 @@
 #![tactic(auto)]
 
 mod laws;
-#[cfg(test)]
-mod rows;
 
 pub use laws::{
     a_passage_is_a_hop, closing_ends_every_packet, each_packet_ends_once,

@@ -14,8 +14,6 @@ mod captured;
 mod fault;
 mod form;
 mod reading;
-#[cfg(test)]
-mod tests;
 mod writing;
 
 pub use captured::Captured;

@@ -10,6 +10,8 @@ mod network;
 #[cfg(test)]
 mod nodes;
 #[cfg(test)]
+mod parts;
+#[cfg(test)]
 mod printing;
 #[cfg(test)]
 mod statements;

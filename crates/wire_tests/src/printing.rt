@@ -70,8 +70,10 @@ fn operators(rt: HostRuntime) -> Result<(), AllocError> {
     let signs = "* + - ++ << >> & ^ | < <= > >= == != && ||".split(' ');
     for (op, sign) in OPERATORS.into_iter().zip(signs) {
         let s = set(alloc, "x", operation(alloc, op)?)?;
-        let line = format!(in alloc; "x = ( a {sign} b ) ;")?;
-        assert!(rt; gives(alloc, s, line.as_str())?, "{line}");
+        let mut line = String::from_str(alloc, "x = ( a ")?;
+        line.push_str(sign)?;
+        line.push_str(" b ) ;")?;
+        assert!(rt; gives(alloc, s, line.as_str())?);
     }
     Ok(())
 }

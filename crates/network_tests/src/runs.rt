@@ -5,7 +5,7 @@ ghost use Rattle.network_run.specs.Events.{Enter, Leave, Set, Hop, Update, halve
 ghost use Rattle.network_run.specs.NetworkRun.{longest_frame};
 ghost use Rattle.network_run.specs.PathMeaning.{path_meaning};
 ghost use Rattle.network_run.specs.World.{net_after, first_net};
-ghost use Rattle.network_run.specs.Example.{alone, line2, line3, ring2, world, one_packet, two_packets, framed, to_port_2, counting, watching, flagging, rejecting, ended, said, report_at};
+ghost use Rattle.network_tests.specs.Networks.{alone, line2, line3, ring2, world, one_packet, two_packets, framed, to_port_2, counting, watching, flagging, rejecting, ended, said, report_at};
 
 /// One packet in a ring of two switches with a hop limit of 64 is lost after 64 passages, 32 at
 /// each switch.

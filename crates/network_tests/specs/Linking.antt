@@ -7,7 +7,7 @@ use Rattle.network_run.specs.Network.{Wiring, at_edge, Net, one_if}
 use Rattle.network_run.specs.Events.{Event}
 use Rattle.network_run.specs.PathMeaning.{Property, Path, path_meaning}
 use Rattle.network_run.specs.World.{World, net_at_end}
-use Rattle.network_run.specs.Example.{arrivals, report_of}
+use Rattle.network_tests.specs.Networks.{arrivals, report_of}
 use Rattle.linkage.specs.Linkage.{Telemetry, RegisterReading, report_digest}
 
 -- the forwarding program counts the packets that come, tells the control plane the port of each,

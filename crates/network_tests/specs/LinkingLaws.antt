@@ -8,10 +8,10 @@ use Rattle.network_run.specs.Machine.{Entered, Leaving, Going}
 use Rattle.network_run.specs.Network.{Wiring, at_edge}
 use Rattle.network_run.specs.NetworkRun.{put}
 use Rattle.network_run.specs.PathMeaning.{reads_at, Doing, entry_part, exit_part}
-use Rattle.network_run.specs.Example.{report_of}
+use Rattle.network_tests.specs.Networks.{report_of}
 use Rattle.linkage.specs.Linkage.{xor_with}
 use Rattle.linkage.specs.HalvesLaws.{carried, EnterAgrees, GoAgrees, LeaveAgrees, HalvesLaws}
-use Rattle.linkage.specs.Example.{is_dropped, plain_leave, forwarding, limited, two_bytes, Keeps, Parked, linked_enter, checked_leave, linked_leave, linked, registers, AnyEntries, IsLimit, AnyContents, KeptBy, HeldBy, AnyTele}
+use Rattle.network_tests.specs.Linking.{is_dropped, plain_leave, forwarding, limited, two_bytes, Keeps, Parked, linked_enter, checked_leave, linked_leave, linked, registers, AnyEntries, IsLimit, AnyContents, KeptBy, HeldBy, AnyTele}
 
 all_one : {X : Type 0} (P : X → Type 0) (x : X) → P x → All P (x ∷ [])
 all_one P x h = All-cons P x [] h (All-nil P)

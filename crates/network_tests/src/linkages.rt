@@ -5,12 +5,12 @@ ghost use Rattle.bit_values.specs.Bits.{word};
 ghost use Rattle.network_run.specs.Network.{IsWiring};
 ghost use Rattle.network_run.specs.World.{IsValid};
 ghost use Rattle.network_run.specs.Events.{Enter, Leave, Set, Hop, Update, halves_of};
-ghost use Rattle.network_run.specs.Example.{alone, line2, line3};
+ghost use Rattle.network_tests.specs.Networks.{alone, line2, line3};
 ghost use Rattle.linkage.specs.Linkage.{Linkage, is_report};
-ghost use Rattle.linkage.specs.Example.{Given, forwarding, limited, two_bytes, Keeps, Parked, linked, registers, register_of, AnyEntries, IsLimit, AnyContents, with_limit, framed, plain_end, linked_end, path_end, KeptBy, HeldBy, AnyTele};
-ghost use Rattle.linkage.specs.ExampleLaws.{laws};
+ghost use Rattle.network_tests.specs.Linking.{Given, forwarding, limited, two_bytes, Keeps, Parked, linked, registers, register_of, AnyEntries, IsLimit, AnyContents, with_limit, framed, plain_end, linked_end, path_end, KeptBy, HeldBy, AnyTele};
+ghost use Rattle.network_tests.specs.LinkingLaws.{laws};
 
-use crate::law::{LinkedHalves, LinkedNetwork, over_every_schedule};
+use linkage::{LinkedHalves, LinkedNetwork, over_every_schedule};
 
 /// The programs that are linked by hand: on any network whose links join ports of its switches, and for
 /// any initial value of the property's sensor.

@@ -1,0 +1,4 @@
+-- Small networks, programs and properties, and programs that are linked by hand.
+pub mod Networks
+pub mod Linking
+pub mod LinkingLaws
