@@ -41,7 +41,8 @@ fn linked_program_has_these_parts(rt: HostRuntime) -> Result<(), Fail> {
     for (state, name) in parts.states.iter().zip(states) {
         assert!(rt; state.name.as_str() == name);
     }
-    assert!(rt; parts.ingress.len() == 2 && parts.egress.len() == 1);
-    assert!(rt; parts.metadata.is_empty() && parts.verify.is_empty() && parts.compute.is_empty());
+    assert!(rt; parts.ingress.body.len() == 2 && parts.egress.body.len() == 1);
+    assert!(rt; parts.metadata.is_empty() && parts.verify.body.is_empty());
+    assert!(rt; parts.compute.body.is_empty());
     Ok(())
 }

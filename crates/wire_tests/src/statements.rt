@@ -7,16 +7,18 @@ use lex_text::Name;
 use p4_tree::{Expr, Op, PTy, Stmt};
 use std::alloc::{AllocError, Global};
 use std::test::Fail;
+use wire_parts::parts_of;
+use wire_program::wire_program;
 use wire_statements::{
     Fields, Flow, Run, assign, cells_of, run_stmts, standard_path, value_of, values_of,
 };
 
-fn byte(value: u128) -> Bits {
+pub fn byte(value: u128) -> Bits {
     Bits::new(128, value).cast(8)
 }
 
 /// A header that is not valid, words of metadata, and a register of two cells.
-fn start(alloc: Global) -> Result<Run, AllocError> {
+pub fn start(alloc: Global) -> Result<Run, AllocError> {
     let mut fields = Fields::new(alloc);
     fields.set_valid(alloc, &path(alloc, "h.one")?, false)?;
     let header = path(alloc, "h.one")?;
