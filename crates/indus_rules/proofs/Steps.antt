@@ -1,12 +1,12 @@
 -- Steps of the walk: the first rule at an expression is the first of its sites, and behind a declaration that breaks
 -- none the walk goes on with the next, whose table has one name more.
-use Rattle.std.proofs.Common.{◌≡◌, ℕ, suc, ◌+◌, ◌<◌, Bool, true, false, ◌||◌, List, [], ◌∷◌, ◌++◌, map, length, Option, Some, None, is_some, String, Global, string_bytes, get_or, take, drop, drop-cons, refl, sym, ap, ◌∙◌, inl, subst, arith}
+use Rattle.std.proofs.Common.{◌≡◌, ℕ, suc, ◌+◌, ◌<◌, Bool, true, false, ◌||◌, List, [], ◌∷◌, ◌++◌, map, length, Option, Some, None, is_some, String, Global, string_bytes, get_or, take, drop, drop-cons, refl, sym, ap, ◌∙◌, inl, arith}
 use Rattle.std.proofs.Math.Seq.{take-suc}
 use Rattle.std.proofs.lemmas.List.{map-append}
 use Rattle.std.specs.List.{list_any}
 use Rattle.std.specs.Option.{option_map}
 use Rattle.std.specs.Str.{bytes_eq}
-use Rattle.rule_sites.specs.Sites.{Sites, or_else, at_place}
+use Rattle.rule_sites.specs.Sites.{or_else, at_place}
 use Rattle.rule_sites.proofs.FirstBroken.{rule_none}
 use Rattle.indus_tree.specs.Tree.{Expr, num, flag, read, count, index, member, negation, inversion, binary, cast, Decl}
 use Rattle.indus_tree.specs.State.{lookup}

@@ -1,6 +1,6 @@
 -- The rules: each is a test of a site, `broken`. A property is well typed where no rule is broken at any of its sites.
 -- Read `Sites` and `Uses` before it.
-use Rattle.std.specs.Prelude.{ℕ, ◌+◌, ◌^◌, List, [], ◌∷◌, Bool, true, false, not, ◌&&◌, ◌||◌, nat_eq, nat_lt, Option, Some, None, is_some, if◌then◌else◌, length, codes}
+use Rattle.std.specs.Prelude.{ℕ, ◌^◌, List, [], ◌∷◌, Bool, true, false, not, ◌&&◌, ◌||◌, nat_eq, nat_lt, Option, Some, None, is_some, if◌then◌else◌, length, codes}
 use Rattle.lex_text.specs.Names.{same_text}
 use Rattle.lex_text.specs.declared.literal.Literal.{Literal}
 use Rattle.rule_sites.specs.Sites.{Sites, BreaksAt, AllFine, first_rule, first_broken}

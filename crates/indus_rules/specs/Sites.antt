@@ -1,6 +1,6 @@
 -- The places of a property at which a rule may be broken, from left to right, each with what is wanted there. Read
 -- `Scopes` before it and `Rules` after it.
-use Rattle.std.specs.Prelude.{ℕ, List, [], ◌∷◌, ◌++◌, Option, Some, None}
+use Rattle.std.specs.Prelude.{List, [], ◌∷◌, ◌++◌, Option, Some, None}
 use Rattle.rule_sites.specs.Sites.{Sites, nowhere, here, both}
 use Rattle.indus_tree.specs.Tree.{Expr, Exprs, none, more, num, flag, read, count, index, member, negation, inversion, binary, cast, Stmt, Stmts, done, next, assign, cell, push, choice, loop, reject, report, Shape, one, list, set, dict, Decl, Property}
 use Rattle.indus_tree.specs.declared.tree.Ty.{Ty}
