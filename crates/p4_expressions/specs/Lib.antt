@@ -1,0 +1,3 @@
+-- Reading expressions.
+pub mod Reading
+pub mod Laws
