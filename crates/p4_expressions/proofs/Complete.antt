@@ -14,14 +14,13 @@ use Rattle.lex_words.proofs.Spelled.{left-split, plain_step}
 use Rattle.p4_tree.specs.Tree.{Expr, num, flag, path, valid, applied, error_name, negation, inversion, opposite, binary, conditional, slice, cast}
 use Rattle.p4_tree.specs.Height.{expr_height}
 use Rattle.p4_tree.specs.declared.statement.Op.{Op}
-use Rattle.p4_tree.specs.declared.statement.PTy.{PTy}
 use Rattle.p4_spelling.specs.Words.{valid_name}
 use Rattle.p4_spelling.specs.Operators.{top, op_at}
-use Rattle.p4_spelling.specs.Expressions.{SpellsPath, SpellsPostfix, a_number, a_true, a_false, an_error, a_path, a_validity, an_application, in_brackets, a_slice, Spells, a_postfix, a_not, an_inversion, an_opposite, a_cast, tighter, joined, a_conditional}
-use Rattle.p4_expressions.specs.Reading.{Reader, op_in, is_scalar, leaf_at, path_at, slices_at, right_at, chain, behind_at, conditional_at, expr_at, inside_of, below_of}
+use Rattle.p4_spelling.specs.Expressions.{SpellsPostfix, a_number, a_true, a_false, an_error, a_path, a_validity, an_application, in_brackets, a_slice, Spells, a_postfix, a_not, an_inversion, an_opposite, a_cast, tighter, joined, a_conditional}
+use Rattle.p4_expressions.specs.Reading.{Reader, op_in, is_scalar, slices_at, right_at, chain, behind_at, conditional_at, expr_at, inside_of, below_of}
 use Rattle.p4_expressions.proofs.Layers.{below_is, expr_zero, expr_suc, inside_suc}
 use Rattle.p4_expressions.proofs.Turns.{chain_ends, chain_goes_on, slices_end, slices_go_on, expr_tall}
-use Rattle.p4_expressions.proofs.Behind.{Calm, Ends, Free, ends_free, free_below, key_ends, ends_at, free_at, op-low, op-calm, op_free, op-plain}
+use Rattle.p4_expressions.proofs.Behind.{Ends, Free, ends_free, free_below, key_ends, ends_at, free_at, op-low, op_free, op-plain}
 use Rattle.p4_expressions.proofs.Balanced.{scalar_left, path_left, valid_end, slice_end, balanced, balanced_postfix}
 use Rattle.p4_expressions.proofs.CompleteSteps.{goes_on, path_first, path_read, validity_read, application_read, number_leaf, true_leaf, false_leaf, error_leaf, path_leaf, bounds_read, Operand, leaf_read, negation_read, inversion_read, opposite_read, cast_read, brackets_read, conditional_ends, conditional_read}
 

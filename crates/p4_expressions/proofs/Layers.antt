@@ -1,9 +1,8 @@
 -- The equations of the reader.
 use Rattle.std.proofs.Common.{◌≡◌, ℕ, zero, suc, ◌-◌, ◌<◌, ◌≢◌, List, refl, sym, ap, ◌∙◌, arith}
 use Rattle.lex_words.specs.Seen.{Lexeme}
-use Rattle.lex_words.specs.Reading.{Read, ◌>>=◌}
+use Rattle.lex_words.specs.Reading.{◌>>=◌}
 use Rattle.lex_words.proofs.Loops.{less_is}
-use Rattle.p4_tree.specs.Tree.{Expr}
 use Rattle.p4_expressions.specs.Reading.{Reader, layer, with_brackets, expr_at, inside_of, below_of, operand_at, behind_at}
 
 module _ (ws : List Lexeme) (n : ℕ) where

@@ -1,5 +1,5 @@
 -- What is read rests on the lexemes up to the place where reading ends, and on no other.
-use Rattle.std.proofs.Common.{◌≡◌, ℕ, zero, suc, ◌+◌, ◌≤◌, Bool, true, false, cond, List, Option, Some, None, Ok, Err, refl, sym, ap, arith}
+use Rattle.std.proofs.Common.{◌≡◌, ℕ, zero, suc, ◌+◌, ◌≤◌, Bool, true, false, cond, List, Option, Some, None, Ok, Err, arith}
 use Rattle.std.proofs.Math.Nat.{suc_inj}
 use Rattle.std.specs.Prelude.{slice_get, is_some, length, nat_lt, nat_le, ◌==◌}
 use Rattle.lex_text.specs.Names.{same_text, parent}
@@ -7,9 +7,9 @@ use Rattle.lex_text.specs.declared.literal.Literal.{Literal}
 use Rattle.lex_words.specs.declared.key.Key.TheVariants.{True, False, Bit, Error, Not, Tilde, Minus, Question, Colon, Dot, Open, Close, SquareOpen, SquareClose, Less, More}
 use Rattle.lex_words.specs.declared.key.Key.TheVariants as k
 use Rattle.lex_words.specs.Seen.{Lexeme, name_in, number_in, at_key}
-use Rattle.lex_words.specs.Reading.{wrong, Read, ◌>>=◌, look, expect_at, room_at, named_at}
+use Rattle.lex_words.specs.Reading.{wrong, Read, ◌>>=◌, look, room_at, named_at}
 use Rattle.lex_words.proofs.Joins as joins
-use Rattle.lex_words.proofs.Locality.{Agree, Follows, Follows-bind, Follows-later, Follows-cond, Follows-wrong, Follows-spent, Follows-ok, Follows-look, Follows-expect, Follows-more, Follows-named, Follows-numbered, Follows-room, Follows-open}
+use Rattle.lex_words.proofs.Locality.{Follows, Follows-bind, Follows-cond, Follows-wrong, Follows-spent, Follows-ok, Follows-look, Follows-expect, Follows-more, Follows-named, Follows-numbered, Follows-room, Follows-open}
 use Rattle.p4_tree.specs.Tree.{Expr, path}
 use Rattle.p4_tree.specs.Height.{expr_height}
 use Rattle.p4_tree.specs.declared.statement.Op.{Op}

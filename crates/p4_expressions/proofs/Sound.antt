@@ -1,5 +1,5 @@
 -- Expressions: what is read is spelled so, and what was read up to a fault begins an expression.
-use Rattle.std.proofs.Common.{◌≡◌, ℕ, zero, suc, ◌≤◌, List, [], refl, subst, arith}
+use Rattle.std.proofs.Common.{◌≡◌, ℕ, zero, suc, ◌≤◌, List, [], subst, arith}
 use Rattle.std.proofs.lemmas.List.{append-nil}
 use Rattle.std.proofs.Math.Nat.{suc_inj}
 use Rattle.lex_words.specs.Seen.{Lexeme}

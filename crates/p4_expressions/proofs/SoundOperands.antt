@@ -22,7 +22,6 @@ use Rattle.p4_spelling.specs.Operators.{top}
 use Rattle.p4_spelling.specs.Types.{SpellsScalar, a_bit, a_bool}
 use Rattle.p4_spelling.specs.Expressions.{last_name, SpellsPostfix, a_number, a_true, a_false, an_error, a_path, in_brackets, a_slice, Spells, a_postfix, a_not, an_inversion, an_opposite, a_cast}
 use Rattle.p4_expressions.specs.Reading.{Reader, square_at, is_scalar, flag_at, numeral_at, error_at, leaf_at, bounds_at, slices_at, postfix_at, negation_at, inversion_at, opposite_at, cast_at, bracket_at, opened_at, operand_at}
-use Rattle.p4_expressions.proofs.Turns.{expr_tall}
 use Rattle.p4_expressions.proofs.Behind.{square-plain}
 use Rattle.p4_expressions.proofs.SoundSteps.{zero_lexeme, some_name, Any, a_number_up, Reads-small, Reads-scalar}
 use Rattle.p4_expressions.proofs.SoundPaths.{Reads-path}

@@ -1,13 +1,12 @@
 -- Paths and calls: what is read is spelled so.
-use Rattle.std.proofs.Common.{◌≡◌, ℕ, zero, suc, ◌+◌, ◌≤◌, Bool, true, false, cond, List, [], ◌∷◌, ◌++◌, length, Option, Some, None, Ok, Err, refl, sym, ap, subst, ◌∙◌, arith, append_assoc}
+use Rattle.std.proofs.Common.{◌≡◌, ℕ, zero, suc, ◌+◌, ◌≤◌, Bool, true, List, [], ◌∷◌, ◌++◌, length, Option, Some, None, refl, sym, ap, subst, ◌∙◌, arith, append_assoc}
 use Rattle.std.proofs.lemmas.List.{append-nil}
 use Rattle.std.proofs.lemmas.Bool.{eqb-true, ltb-false}
 use Rattle.std.specs.Prelude.{slice_get, nat_lt, ◌==◌}
 use Rattle.lex_text.specs.Names.{same_text, parent}
 use Rattle.lex_words.specs.declared.key.Key.TheVariants.{Dot, Open, Close}
 use Rattle.lex_words.specs.Seen.{Lexeme, name, key, at_key}
-use Rattle.lex_words.specs.Reading.{Read, ◌>>=◌, more_of, named_at}
-use Rattle.lex_words.proofs.KeyCodes.{at_key-is}
+use Rattle.lex_words.specs.Reading.{more_of, named_at}
 use Rattle.lex_words.proofs.Spelled.{Reads, Reads-bind, Reads-wrong, Reads-ok, Reads-spent, Reads-cond, Reads-either, Reads-expect, Reads-named, Reads-open}
 use Rattle.p4_tree.specs.Tree.{Expr, path, valid, applied}
 use Rattle.p4_tree.specs.Height.{expr_height}

@@ -12,7 +12,6 @@ use Rattle.lex_words.specs.Reading.{wrong, Read, ◌>>=◌}
 use Rattle.lex_words.proofs.KeyCodes.{name_lexeme, number_lexeme}
 use Rattle.lex_words.proofs.Spelled.{Ends, Reads, Reads-lexeme, Reads-wrong, Reads-ok, Reads-cond, Reads-expect}
 use Rattle.p4_tree.specs.Tree.{Expr, num}
-use Rattle.p4_tree.specs.declared.statement.PTy.{PTy}
 use Rattle.p4_tree.specs.declared.statement.PTy.TheVariants as type
 use Rattle.p4_spelling.specs.Words.{outcome_name}
 use Rattle.p4_spelling.specs.Types.{SpellsScalar, a_bool, a_bit, bits}

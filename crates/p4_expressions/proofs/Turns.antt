@@ -1,5 +1,5 @@
 -- The turns of the code's loops.
-use Rattle.std.proofs.Common.{◌≡◌, ℕ, ◌+◌, ◌-◌, ◌≤◌, ◌<◌, Bool, true, false, List, [], ◌∷◌, ◌++◌, Option, Some, None, Ok, Err, refl, sym, ap, ◌∙◌, arith}
+use Rattle.std.proofs.Common.{◌≡◌, ℕ, ◌+◌, ◌-◌, ◌≤◌, ◌<◌, true, false, List, [], ◌∷◌, Option, Some, None, Ok, Err, refl, ap, ◌∙◌, arith}
 use Rattle.std.specs.Prelude.{slice_get}
 use Rattle.lex_words.specs.declared.key.Key.TheVariants.{Dot, SquareOpen}
 use Rattle.lex_words.specs.Seen.{Lexeme, name, number, key, quoted, include, strange, key_in, at_key}
@@ -11,7 +11,7 @@ use Rattle.lex_words.proofs.Joins as joins
 use Rattle.p4_tree.specs.Tree.{Expr, num, flag, path, valid, applied, error_name, negation, inversion, opposite, binary, conditional, slice, cast}
 use Rattle.p4_tree.specs.Height.{expr_height}
 use Rattle.p4_tree.specs.declared.statement.Op.{Op}
-use Rattle.p4_spelling.specs.Operators.{top, op_at}
+use Rattle.p4_spelling.specs.Operators.{op_at}
 use Rattle.p4_expressions.specs.Reading.{Reader, op_in, square_at, right_at, bounds_at, slices_at, more_names_at, chain, expr_at, below_of}
 use Rattle.p4_expressions.proofs.Layers.{below_is}
 

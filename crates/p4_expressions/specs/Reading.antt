@@ -1,5 +1,5 @@
 -- Reading expressions from left to right, with one lexeme of choice. A reader gets the lexemes, how many turns each loop may make, how high a tree may be and how many more round brackets may be open.
-use Rattle.std.specs.Prelude.{◌≡◌, ℕ, zero, suc, ◌+◌, ◌-◌, ◌≤◌, Bool, true, false, ◌||◌, ◌==◌, nat_le, nat_lt, List, [], ◌∷◌, length, Option, Some, None, is_some, Ok, Err, if◌then◌else◌, slice_get}
+use Rattle.std.specs.Prelude.{◌≡◌, ℕ, zero, suc, ◌+◌, ◌≤◌, Bool, true, false, ◌||◌, ◌==◌, nat_le, nat_lt, List, [], ◌∷◌, length, Option, Some, None, is_some, Ok, Err, if◌then◌else◌, slice_get}
 use Rattle.lex_text.specs.Names.{same_text, parent}
 use Rattle.lex_text.specs.declared.literal.Literal.{Literal}
 use Rattle.lex_words.specs.declared.key.Key.{Key}
