@@ -8,7 +8,7 @@
 //! Follows: P4_16 and v1model, this project's subset; Hydra, "Hydra: Effective Runtime Network
 //! Verification", SIGCOMM 2023.
 //!
-//! Not promised: tables, `return` and `exit`, the packet's length, and checksums.
+//! Not promised: that actions and tables do anything, `return` and `exit`, and the packet's length.
 #![tactic(auto)]
 
 ghost use Rattle.linked_halves.specs.Given.{Given, IsGiven, KeepsHalves, IsLinked};
