@@ -1,7 +1,8 @@
 //! The parts of a P4 program that a switch runs.
 //!
 //! The layers above get `parts_of`: headers, registers, parser states and controls, found by the
-//! names that `main` and the parameters give, in trees whose paths begin with fixed roots.
+//! names that `main` and the parameters give, in trees whose paths begin with fixed roots; and which
+//! paths a program declares.
 //!
 //! Follows: P4_16 Language Specification and v1model, this project's subset.
 //!
