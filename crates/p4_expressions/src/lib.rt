@@ -1,8 +1,9 @@
 //! The reader of P4 expressions.
 //!
 //! The layers above get `expr`, and for types and paths `scalar`, `small` and `names`. `expr` gives
-//! what `specs/Reading` reads, which is what is spelled (`laws`); what a fault says of the lexemes is in
-//! `proofs/Sound`, and what stands behind an expression in `proofs/Complete`.
+//! what `specs/Reading` reads; of lexemes that are one expression as a whole, that is what they spell
+//! (`laws`). What is read or faulted in longer lists is in `proofs/Sound`, and what may stand behind an
+//! expression in `proofs/Complete` and `proofs/Behind`.
 //!
 //! Follows: P4_16 Language Specification, grammar, this project's subset.
 #![tactic(auto)]

@@ -18,6 +18,7 @@ use Rattle.p4_spelling.specs.Statements.{SpellsVar, SpellsConst, SpellsBlock}
 
 -- ---- actions
 
+-- an action: its parameters and its block
 pub data SpellsAction : (p : ℕ) → Action → List Lexeme → Type 0 where
   an_action : {p : ℕ} {ps : List (PTy × List ℕ)} {ss : Stmts} {u v : List Lexeme} (x : List ℕ) → SpellsSome SpellsArgument (p + 1 + 1 + 1) ps u
       → SpellsBlock (p + 1 + 1 + 1 + length u + 1) ss v
@@ -51,6 +52,7 @@ pub data SpellsFixed : Bool → List Lexeme → Type 0 where
   fixed : SpellsFixed true (key k.Const ∷ [])
   free : SpellsFixed false []
 
+-- a property of a table, with the name that begins it
 pub data SpellsTableProp : (p : ℕ) → TableProp → List Lexeme → Type 0 where
   the_keys : {p : ℕ} {es : List (Expr × List ℕ)} {u : List Lexeme} → SpellsEach SpellsKey (p + 1 + 1 + 1) es u
       → SpellsTableProp p (keys es) (name key_name ∷ key k.Assign ∷ key k.BraceOpen ∷ (u ++ key k.BraceClose ∷ []))
@@ -121,7 +123,7 @@ is_apply (type.Bit w) = false
 is_apply type.Bool = false
 is_apply (type.Named x) = same_text x apply_name
 
--- a declaration inside a control; where one may stand, `apply` is no type
+-- a declaration inside a control; none begins with `apply`, which begins the statements there
 pub data SpellsLocal : (p : ℕ) → Local → List Lexeme → Type 0 where
   an_action : {p : ℕ} {d : Action} {u : List Lexeme} → SpellsAction p d u → SpellsLocal p (local_action p d) u
   a_table : {p : ℕ} {d : Table} {u : List Lexeme} → SpellsTable p d u → SpellsLocal p (local_table p d) u
@@ -129,6 +131,7 @@ pub data SpellsLocal : (p : ℕ) → Local → List Lexeme → Type 0 where
   a_const : {p : ℕ} {t : PTy} {x : List ℕ} {e : Expr} {u : List Lexeme} → SpellsConst p t x e u → SpellsLocal p (local_const p t x e) u
   a_var : {p : ℕ} {t : PTy} {x : List ℕ} {e : Option Expr} {u : List Lexeme} → is_apply t ≡ false → SpellsVar p t x e u → SpellsLocal p (local_var p t x e) u
 
+-- a control: its parameters, its declarations, and the block behind `apply`
 pub data SpellsControl : (p : ℕ) → Control → List Lexeme → Type 0 where
   a_control : {p : ℕ} {ps : List Param} {ds : List Local} {ss : Stmts} {u v w : List Lexeme} (x : List ℕ) → SpellsList SpellsParam (p + 1 + 1 + 1) ps u
       → SpellsEach SpellsLocal (p + 1 + 1 + 1 + length u + 1 + 1) ds v → SpellsBlock (p + 1 + 1 + 1 + length u + 1 + 1 + length v + 1) ss w

@@ -51,10 +51,12 @@ pub data SpellsNext : (p : ℕ) → Transition → List Lexeme → Type 0 where
 
 -- ---- states and parsers
 
+-- a state: its statements, and how it goes on
 pub data SpellsState : (p : ℕ) → ParserState → List Lexeme → Type 0 where
   a_state : {p : ℕ} {ss : List Stmt} {t : Transition} {u v : List Lexeme} (x : List ℕ) → SpellsEach SpellsParserStmt (p + 1 + 1 + 1) ss u → SpellsNext (p + 1 + 1 + 1 + length u) t v
       → SpellsState p (record { at = p; name = x; body = ss; next = t }) (key k.State ∷ name x ∷ key k.BraceOpen ∷ (u ++ (v ++ key k.BraceClose ∷ [])))
 
+-- a parser: its parameters and its states
 pub data SpellsParser : (p : ℕ) → Parser → List Lexeme → Type 0 where
   a_parser : {p : ℕ} {ps : List Param} {ss : List ParserState} {u v : List Lexeme} (x : List ℕ) → SpellsList SpellsParam (p + 1 + 1 + 1) ps u
       → SpellsEach SpellsState (p + 1 + 1 + 1 + length u + 1 + 1) ss v

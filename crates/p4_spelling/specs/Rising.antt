@@ -101,7 +101,7 @@ KeyRises p q x = Rises p q x.0
 abbrev pub DefaultRises : (p q : ℕ) → List ℕ × List Expr → Type 0
 DefaultRises p q x = EachRises Rises p q x.1
 
--- keys may stand before the default, or behind it
+-- keys may stand before the default or behind it; nothing is said of which
 abbrev pub TableRises : (p q : ℕ) → Table → Type 0
 TableRises p q d = (p ≤ d.at) × (d.at < q) × EachRises KeyRises (d.at + 1) q d.keys × MayRise DefaultRises (d.at + 1) q d.default
 

@@ -58,6 +58,7 @@ mutual
   pub data SpellsBlock : (p : ℕ) → Stmts → List Lexeme → Type 0 where
     in_braces : {p : ℕ} {ss : Stmts} {u : List Lexeme} → SpellsMany (p + 1) ss u → SpellsBlock p ss (key BraceOpen ∷ (u ++ key BraceClose ∷ []))
 
+  -- what stands between the braces of a block
   pub data SpellsMany : (p : ℕ) → Stmts → List Lexeme → Type 0 where
     no_more : {p : ℕ} → SpellsMany p done []
     then_var : {p : ℕ} {t : PTy} {x : List ℕ} {e : Option Expr} {rest : Stmts} {u v : List Lexeme} → SpellsVar p t x e u → SpellsMany (p + length u) rest v
