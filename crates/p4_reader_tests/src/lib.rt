@@ -1,0 +1,7 @@
+//! Tests of the readers of P4: texts with their trees, and texts that spell none.
+#![tactic(auto)]
+
+#[cfg(test)]
+mod expressions;
+#[cfg(test)]
+mod show;
