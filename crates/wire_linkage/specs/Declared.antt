@@ -1,6 +1,6 @@
 -- The names that a program declares.
 use Rattle.std.specs.Prelude.{ℕ, List, [], ◌∷◌, ◌++◌, map}
-use Rattle.p4_tree.specs.Tree.{Stmt, Stmts, MaybeStmt, nothing, block, var, assign, choice, return_, exit_, call, done, next, without, otherwise, stmts_from, ParserState, Local, local_var, Top, header_type, struct_type, register, parser, control, Program}
+use Rattle.p4_tree.specs.Tree.{Stmt, Stmts, MaybeStmt, nothing, block, var, assign, choice, return_, exit_, call, done, next, without, otherwise, stmts_from, ParserState, Action, Local, local_action, local_table, local_register, local_const, local_var, Top, constant, typedef, header_type, struct_type, register, parser, control, Program}
 
 abbrev mutual
   -- of a statement and its parts
@@ -22,9 +22,17 @@ abbrev mutual
   names_in done = []
   names_in (next s ss) = names_in_stmt s ++ names_in ss
 
+-- of an action: its parameters and variables among them
+abbrev pub names_of_action : Action → List (List ℕ)
+names_of_action a = a.name ∷ (map (λ f. f.1) a.params ++ names_in a.body)
+
 -- of a control's own declarations
 abbrev pub names_of_locals : List Local → List (List ℕ)
 names_of_locals [] = []
+names_of_locals (local_action p a ∷ ls) = names_of_action a ++ names_of_locals ls
+names_of_locals (local_table p t ∷ ls) = t.name ∷ names_of_locals ls
+names_of_locals (local_register p r ∷ ls) = r.name ∷ names_of_locals ls
+names_of_locals (local_const p ty x e ∷ ls) = x ∷ names_of_locals ls
 names_of_locals (local_var p ty x e ∷ ls) = x ∷ names_of_locals ls
 
 -- of a parser's states
@@ -34,6 +42,8 @@ names_of_states (s ∷ ss) = (s.name ∷ names_in (stmts_from s.body)) ++ names_
 
 -- of a declaration at top level, its fields and parameters among them
 abbrev pub names_of_top : Top → List (List ℕ)
+names_of_top (constant p ty x e) = x ∷ []
+names_of_top (typedef p ty x) = x ∷ []
 names_of_top (header_type p x fields) = x ∷ map (λ f. f.1) fields
 names_of_top (struct_type p x fields) = x ∷ map (λ f. f.1) fields
 names_of_top (register p r) = r.name ∷ []
