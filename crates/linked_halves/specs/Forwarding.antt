@@ -1,5 +1,6 @@
--- Which forwarding programs are linked: they use no name of the monitor's, and `return` and `exit` are taken out of
--- them before. Read `Regions` before.
+-- Which forwarding programs are linked: they use no name of the monitor's, do not read the packet's length, write of
+-- the standard metadata at most `egress_spec` and `checksum_error`, and tell no reports. `return` and `exit` are taken
+-- out of them before. Read `Regions` before.
 use Rattle.std.specs.Prelude.{◌≡◌, ℕ, List, [], ◌∷◌, Bool, true, false, Option, Some, None, nat_eq}
 use Rattle.std.specs.List.{AllByRecursion}
 use Rattle.p4_tree.specs.Tree.{Expr, num, flag, path, valid, applied, error_name, negation, inversion, opposite, binary, conditional, slice, cast, Arg, one, Stmt, Stmts, MaybeStmt, nothing, block, var, assign, choice, return_, exit_, call, done, next, without, otherwise, Keyset, any, only, masked, Case, Transition, nowhere, to, select, ParserState}

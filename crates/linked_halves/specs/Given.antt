@@ -22,8 +22,8 @@ pub record Given : Type 0 where
   pub property : Property
   pub network : Wiring
 
--- the program uses no name of the monitor's, the property is of the small grammar, and the links join ports of
--- switches, which have 9 bits
+-- the program is one that is linked, the property is of the small grammar, and the links join ports of switches, which
+-- have 9 bits
 pub record IsGiven (g : Given) : Type 0 where
   pub forwarding : IsForwarding g.forwarding
   pub property : IsSmall g.property

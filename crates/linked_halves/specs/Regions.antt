@@ -14,7 +14,7 @@ begins (a ∷ as') (b ∷ bs) = nat_eq a b && begins as' bs
 abbrev pub is_mine : List ℕ → Bool
 is_mine x = begins (codes "hydra_") x
 
--- the path is not one of the monitor's
+-- the path is not one of the monitor's, which its first two names tell
 abbrev pub is_free : List (List ℕ) → Bool
 is_free [] = true
 is_free (x ∷ []) = not (is_mine x)
