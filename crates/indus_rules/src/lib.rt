@@ -16,6 +16,5 @@ mod property;
 mod rule;
 mod stmt_rules;
 
-pub use indus_scopes::scope::same;
 pub use property::first_fault;
 pub use rule::Rule;

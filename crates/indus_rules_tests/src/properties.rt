@@ -107,8 +107,8 @@ fn properties(rt: HostRuntime) -> Result<(), Fail> {
     agree(&rt, rt.alloc(), PROPERTIES)
 }
 
-/// Refusals, each with its place, and of several that which is answered: the first place in the text, and at one
-/// place the first rule in their order.
+/// Refusals, each with its place, and of several that which is answered: the first in the text, at one token that of
+/// the larger node, and of one node the first rule in their order.
 const REFUSALS: &str = "\
 tele bit<8> n {} => Syntax { at: 6 }
 tele bit<8> => Syntax { at: 5 }
@@ -133,6 +133,7 @@ tele bit<8> n; {} {} {if (n) {reject;}} => 14 KindDiffers
 tele bit<8>[4] l; {} {l = 1;} {} => 13 KindDiffers
 {} {} {if (1 == 1) {reject;}} => 7 KindDiffers
 {} {} {if (1 == m) {reject;}} => 7 KindDiffers
+tele bit<8> n; {} {} {if (m in n) {reject;}} => 14 KindDiffers
 header bool t = hdr.tcp.valid(); {} {} {} => 0 KindDiffers
 tele bool f; {f = first_hop;} {} {} => 7 WrongBlock
 tele bit<129> n; {} {} {} => 0 BadSize

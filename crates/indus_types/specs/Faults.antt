@@ -7,8 +7,8 @@ use Rattle.indus_rules.specs.declared.rule.Rule.{Rule}
 use Rattle.indus_types.specs.declared.fault.TypeFault.{TypeFault}
 use Rattle.indus_types.specs.declared.fault.TypeFault.TheVariants.{Type_, NoMemory}
 
--- of the places at which a rule is broken the first in the text is answered, and of several rules that are broken there
--- the first in the order of `Rule`; want of memory says nothing
+-- of the sites at which a rule is broken the first is answered, a node before its parts, and of several rules that are
+-- broken at one site the first in the order of `Rule`; want of memory says nothing
 abbrev pub HasCause : Property → TypeFault → Type 0
 HasCause property (Type_ at rule) = first (property_sites property) ≡ Some (at, rule)
 HasCause property NoMemory = Unit {0}
