@@ -6,8 +6,8 @@ use Rattle.bit_values.specs.Bits.{Word, cast}
 use Rattle.indus_tree.specs.Tree.{Property}
 use Rattle.indus_tree.specs.Small.{IsSmall}
 use Rattle.p4_tree.specs.Tree.{Program}
-use Rattle.p4_tree.specs.Parts.{parts_of}
-use Rattle.p4_tree.specs.Statements.{Digest, cell_at}
+use Rattle.p4_meaning.specs.Parts.{parts_of}
+use Rattle.p4_meaning.specs.Statements.{Digest, cell_at}
 use Rattle.p4_tree.specs.View.{program_of}
 use Rattle.network_run.specs.NetworkRun.{longest_frame}
 use Rattle.linkage.specs.Linkage.{is_report, report_receiver}

@@ -3,7 +3,7 @@
 -- linkage after it, and `World`, `NetworkRun` and `PathMeaning` of the network's run.
 use Rattle.std.specs.Prelude.{◌≡◌, ℕ, ◌+◌, ◌<◌, List, ◌++◌, map, filter, not}
 use Rattle.p4_tree.specs.Tree.{Program}
-use Rattle.p4_tree.specs.Parts.{parts_of}
+use Rattle.p4_meaning.specs.Parts.{parts_of}
 use Rattle.indus_tree.specs.Tree.{Property}
 use Rattle.indus_tree.specs.State.{Contents, Held}
 use Rattle.indus_tree.specs.Law.{law_of}

@@ -2,8 +2,8 @@
 use Rattle.std.specs.Prelude.{ℕ, ◌+◌, length, min}
 use Rattle.indus_tree.specs.Tree.{Property}
 use Rattle.p4_tree.specs.Tree.{Program}
-use Rattle.p4_tree.specs.Parts.{parts_of}
-use Rattle.p4_tree.specs.Pass.{registers_before}
+use Rattle.p4_meaning.specs.Parts.{parts_of}
+use Rattle.p4_meaning.specs.Pass.{registers_before}
 use Rattle.wire_machine.specs.Machine.{Machine}
 
 -- a switch that runs a program, with registers that are 0

@@ -4,8 +4,8 @@ use Rattle.std.specs.Fmt.{decimal}
 use Rattle.bit_values.specs.Bits.{cast}
 use Rattle.indus_tree.specs.State.{Contents}
 use Rattle.p4_tree.specs.Tree.{Program}
-use Rattle.p4_tree.specs.Statements.{cell_at}
-use Rattle.p4_tree.specs.Pass.{Registers, Queued}
+use Rattle.p4_meaning.specs.Statements.{cell_at}
+use Rattle.p4_meaning.specs.Pass.{Registers, Queued}
 use Rattle.network_run.specs.Network.{Net}
 use Rattle.linkage.specs.Linkage.{is_report}
 use Rattle.linked_halves.specs.Monitor.{rejects_register}

@@ -2,7 +2,7 @@
 use Rattle.std.proofs.Common.{◌≡◌, ℕ, List, [], ◌∷◌, ◌++◌, Bool, true, false, not, ◌&&◌, refl, ap, ◌∙◌, subst, Decides}
 use Rattle.std.proofs.lemmas.Slice.Eq.{slice_eq-Decides, bytes_eq-Decides}
 use Rattle.lex_text.specs.Names.{same_text, same_path, parent}
-use Rattle.p4_tree.specs.Standard.{headers_root, standard_root, metadata_root, egress_spec, packet_length}
+use Rattle.p4_meaning.specs.Standard.{headers_root, standard_root, metadata_root, egress_spec, packet_length}
 use Rattle.linked_halves.specs.Monitor.{tele_header}
 use Rattle.linked_halves.specs.Regions.{is_mine, is_free, is_readable, is_writable, is_own_header}
 

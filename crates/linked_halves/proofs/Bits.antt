@@ -6,9 +6,9 @@ use Rattle.bit_values.specs.BitLists.{AreBits, number_bits, number_of}
 use Rattle.bit_values.specs.Bytes.{bits_of}
 use Rattle.bit_values.proofs.BitsLemmas.{cast_of_small}
 use Rattle.bit_values.proofs.BitListsLemmas.{AreBits-number_bits, length-number_bits, number_back, bits_back}
-use Rattle.p4_tree.specs.Store.{Store, set_value}
+use Rattle.p4_meaning.specs.Store.{Store, set_value}
 use Rattle.bit_writer.specs.Bytes.{words_bits, bytes_of}
-use Rattle.p4_tree.specs.Parsing.{Field, Reading, width_sum, field_taken, fields_taken, fields_bits}
+use Rattle.p4_meaning.specs.Parsing.{Field, Reading, width_sum, field_taken, fields_taken, fields_bits}
 
 -- ---- whole bytes
 

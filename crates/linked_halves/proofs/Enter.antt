@@ -5,13 +5,13 @@ use Rattle.std.specs.List.{filter, AllByRecursion}
 use Rattle.bit_values.specs.Bits.{Word, word, cast}
 use Rattle.bit_values.specs.Widths.{bit, holds}
 use Rattle.p4_tree.specs.Tree.{assign, next}
-use Rattle.p4_tree.specs.Standard.{standard_root, ingress_port, egress_spec, egress_port, parser_error}
-use Rattle.p4_tree.specs.Store.{Store, shown, zero_of, set_value, set_valid, zeroed, made}
-use Rattle.p4_tree.specs.Statements.{no_calls, Go, Run, Ended, after, in_store, meaning_of, meaning_of_stmt}
-use Rattle.p4_tree.specs.Parsing.{ParserEnd}
-use Rattle.p4_tree.specs.Parts.{Parts, whole}
-use Rattle.p4_tree.specs.Pass as pass
-use Rattle.p4_tree.specs.Pass.{Registers, Queued, error_number, store_behind, run_from, is_dropped, unless_dropped, to_egress, entered_from, parts_enter}
+use Rattle.p4_meaning.specs.Standard.{standard_root, ingress_port, egress_spec, egress_port, parser_error}
+use Rattle.p4_meaning.specs.Store.{Store, shown, zero_of, set_value, set_valid, zeroed, made}
+use Rattle.p4_meaning.specs.Statements.{no_calls, Go, Run, Ended, after, in_store, meaning_of, meaning_of_stmt}
+use Rattle.p4_meaning.specs.Parsing.{ParserEnd}
+use Rattle.p4_meaning.specs.Parts.{Parts, whole}
+use Rattle.p4_meaning.specs.Pass as pass
+use Rattle.p4_meaning.specs.Pass.{Registers, Queued, error_number, store_behind, run_from, is_dropped, unless_dropped, to_egress, entered_from, parts_enter}
 use Rattle.indus_tree.specs.Tree.{Decl, Property}
 use Rattle.indus_tree.specs.State.{Contents, Held}
 use Rattle.indus_tree.specs.Start.{tele_start}
@@ -32,7 +32,7 @@ use Rattle.linked_halves.specs.Relations.{is_report, bare, Alike, IsPort, Others
 use Rattle.linked_halves.proofs.Apart.{readable_free, free_apart, free_above}
 use Rattle.linked_halves.proofs.Own.{Ran, stays_then, set_alike, AreAlikeCalls, no_calls_alike, all_ran}
 use Rattle.linked_halves.proofs.ExitRuns.{unless_port}
-use Rattle.p4_tree.proofs.Sequences.{then_runs}
+use Rattle.p4_meaning.proofs.Sequences.{then_runs}
 use Rattle.linked_halves.proofs.Lower.{Stands, assignment, lowers}
 use Rattle.linked_halves.proofs.Fill.{is_in, one_of_is, start_fits, start_is_zero}
 use Rattle.linked_halves.proofs.QueuedStores.{egress_alike, egress_monitor}

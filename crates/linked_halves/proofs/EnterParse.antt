@@ -12,13 +12,13 @@ use Rattle.bit_values.proofs.BitsLemmas.{cast_of_small}
 use Rattle.bit_values.proofs.BytesLemmas.{bits_of-append}
 use Rattle.lex_text.specs.Names.{same_text, same_path}
 use Rattle.p4_tree.specs.Tree.{to, ParserState}
-use Rattle.p4_tree.specs.Standard.{metadata_root, standard_root, ingress_port, egress_spec, egress_port, packet_length, checksum_error, parser_error}
-use Rattle.p4_tree.specs.Store.{Store, blank, shown, set_value, set_valid}
-use Rattle.p4_tree.specs.Statements.{Run}
-use Rattle.p4_tree.specs.Parsing.{Field, Header, PacketTooShort, Reading, goes_on, stops, width_sum, with_valid, fields_taken, extracted, unless_stopped, chosen, ParserEnd, leads, led, turned, first_fit, body_parsed, on_turned, turns_of, parse_of}
-use Rattle.p4_tree.specs.Parts.{Parts}
+use Rattle.p4_meaning.specs.Standard.{metadata_root, standard_root, ingress_port, egress_spec, egress_port, packet_length, checksum_error, parser_error}
+use Rattle.p4_meaning.specs.Store.{Store, blank, shown, set_value, set_valid}
+use Rattle.p4_meaning.specs.Statements.{Run}
+use Rattle.p4_meaning.specs.Parsing.{Field, Header, PacketTooShort, Reading, goes_on, stops, width_sum, with_valid, fields_taken, extracted, unless_stopped, chosen, ParserEnd, leads, led, turned, first_fit, body_parsed, on_turned, turns_of, parse_of}
+use Rattle.p4_meaning.specs.Parts.{Parts}
 use Rattle.bit_writer.specs.Bytes.{words_bits}
-use Rattle.p4_tree.specs.Pass.{zero_fields, no_headers, with_standard, store_before}
+use Rattle.p4_meaning.specs.Pass.{zero_fields, no_headers, with_standard, store_before}
 use Rattle.indus_tree.specs.Tree.{Decl, Property}
 use Rattle.indus_tree.specs.Names.{is_declared}
 use Rattle.linked_halves.specs.Monitor.{tele_header, mark_path, tele_path}
@@ -34,7 +34,7 @@ use Rattle.linked_halves.proofs.Own.{stays_same, stays_then, set_alike, set_stay
 use Rattle.linked_halves.proofs.Bits.{length-words, reading_at, words_taken, bits_of_bytes}
 use Rattle.linked_halves.proofs.Fill.{tele_fill, fill_headers, fill_other, free_other, fill_got, zero_tele, zero_is, tele_for, tele_whole, is_in, case_is}
 use Rattle.linked_halves.proofs.Parse.{runs_both, passed_over}
-use Rattle.p4_tree.proofs.Turns.{one_turn_more}
+use Rattle.p4_meaning.proofs.Turns.{one_turn_more}
 
 -- the linked store of a frame that came by an edge port, before the telemetry header is made
 pub record Begun (ds : List Decl) (port : ℕ) (s : Store) : Type 0 where

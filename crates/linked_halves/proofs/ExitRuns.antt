@@ -8,12 +8,12 @@ use Rattle.bit_values.specs.Bits.{Word, word, add, cast}
 use Rattle.bit_values.specs.Widths.{bit, holds, either_width, sound_width, cast_word}
 use Rattle.p4_tree.specs.Tree.{Expr, path, negation, binary, Stmt, Stmts, done, next, and_then}
 use Rattle.p4_tree.specs.declared.statement.Op.TheVariants as p4
-use Rattle.p4_tree.specs.Standard.{standard_root, egress_spec, egress_port}
-use Rattle.p4_tree.specs.Store.{shown, set_value, set_valid, made}
-use Rattle.p4_tree.specs.Value.{value_of}
-use Rattle.p4_tree.proofs.Sequences.{then_runs}
-use Rattle.p4_tree.specs.Statements.{no_calls, Flow, Go, Return, Exit, Run, Ended, after, in_store, cell_at, cell_set, put_cells, meaning_of_stmt, meaning_of}
-use Rattle.p4_tree.specs.Pass.{is_dropped}
+use Rattle.p4_meaning.specs.Standard.{standard_root, egress_spec, egress_port}
+use Rattle.p4_meaning.specs.Store.{shown, set_value, set_valid, made}
+use Rattle.p4_meaning.specs.Value.{value_of}
+use Rattle.p4_meaning.proofs.Sequences.{then_runs}
+use Rattle.p4_meaning.specs.Statements.{no_calls, Flow, Go, Return, Exit, Run, Ended, after, in_store, cell_at, cell_set, put_cells, meaning_of_stmt, meaning_of}
+use Rattle.p4_meaning.specs.Pass.{is_dropped}
 use Rattle.indus_tree.specs.Tree.{Property}
 use Rattle.indus_tree.specs.State.{Contents, Held}
 use Rattle.indus_tree.specs.Meaning.{run_of}

@@ -9,10 +9,10 @@ use Rattle.bit_values.specs.Widths.{bit, holds, either_width, sound_width, cast_
 use Rattle.bit_values.specs.BitLists.{number_bits}
 use Rattle.lex_text.specs.Names.{same_text, same_path}
 use Rattle.p4_tree.specs.Tree.{path, binary}
-use Rattle.p4_tree.specs.Store.{Store, read, set_value}
-use Rattle.p4_tree.specs.Value.{value_of}
-use Rattle.p4_tree.specs.Parsing.{first_fit}
-use Rattle.p4_tree.specs.Pass.{zero_fields}
+use Rattle.p4_meaning.specs.Store.{Store, read, set_value}
+use Rattle.p4_meaning.specs.Value.{value_of}
+use Rattle.p4_meaning.specs.Parsing.{first_fit}
+use Rattle.p4_meaning.specs.Pass.{zero_fields}
 use Rattle.bit_writer.specs.Bytes.{words_bits, bytes_of}
 use Rattle.p4_tree.specs.declared.statement.Op.TheVariants.{Equal}
 use Rattle.indus_tree.specs.Tree.{Decl}

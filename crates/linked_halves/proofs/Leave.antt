@@ -8,14 +8,14 @@ use Rattle.std.specs.List.{filter, AllByRecursion}
 use Rattle.std.proofs.Math.Nat.{mod-eq_of_lt}
 use Rattle.bit_values.specs.Bits.{Word, word, cast}
 use Rattle.p4_tree.specs.Tree.{Stmts, done, next, and_then}
-use Rattle.p4_tree.specs.Standard.{egress_spec, egress_port}
-use Rattle.p4_tree.specs.Statements as p4
-use Rattle.p4_tree.specs.Statements.{no_calls, Run, Ended, after, meaning_of_stmt, meaning_of}
-use Rattle.p4_tree.specs.Parsing.{fields_bits, if_valid, deparse_of}
-use Rattle.p4_tree.specs.Parts.{Parts, whole}
-use Rattle.p4_tree.specs.Pass as pass
+use Rattle.p4_meaning.specs.Standard.{egress_spec, egress_port}
+use Rattle.p4_meaning.specs.Statements as p4
+use Rattle.p4_meaning.specs.Statements.{no_calls, Run, Ended, after, meaning_of_stmt, meaning_of}
+use Rattle.p4_meaning.specs.Parsing.{fields_bits, if_valid, deparse_of}
+use Rattle.p4_meaning.specs.Parts.{Parts, whole}
+use Rattle.p4_meaning.specs.Pass as pass
 use Rattle.bit_writer.specs.Bytes.{words_bits, bytes_of}
-use Rattle.p4_tree.specs.Pass.{Registers, Queued, run_from, is_dropped, unless_dropped, left_behind, parts_leave}
+use Rattle.p4_meaning.specs.Pass.{Registers, Queued, run_from, is_dropped, unless_dropped, left_behind, parts_leave}
 use Rattle.indus_tree.specs.Tree.{Property}
 use Rattle.indus_tree.specs.State.{Contents, Held}
 use Rattle.indus_tree.specs.Meaning.{run_of}
@@ -41,7 +41,7 @@ use Rattle.linked_halves.proofs.Fill.{tele_for, tele_has, tele_whole, is_in}
 use Rattle.linked_halves.proofs.Parse.{deparsed_same}
 use Rattle.linked_halves.proofs.EnterParse.{monitor_stays}
 use Rattle.linked_halves.proofs.ExitRuns.{last_run, run_unless, raised, counted, closed, flagged, unflagged, updated, telemetry_part, exit_test, check_test, telemetry_runs, exit_runs, flag_stands, check_runs, end_runs}
-pub use Rattle.p4_tree.proofs.Sequences.{then_runs}
+pub use Rattle.p4_meaning.proofs.Sequences.{then_runs}
 
 -- own statements behind own statements
 own_then : (x y : Stmts) → AreOwnStmts x → AreOwnStmts y → AreOwnStmts (and_then x y)

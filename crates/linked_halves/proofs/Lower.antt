@@ -9,12 +9,12 @@ use Rattle.bit_values.specs.Bits.{Word, word, cast}
 use Rattle.bit_values.specs.Widths.{bit, holds, either_width, sound_width, cast_word}
 use Rattle.lex_text.specs.Names.{same_text, same_path, parent}
 use Rattle.p4_tree.specs.Tree.{Expr, flag, Stmt, MaybeStmt, block, assign}
-use Rattle.p4_tree.specs.Standard.{is_assignable}
-use Rattle.p4_tree.specs.Store.{Store, read, shown, set_value, written, write}
+use Rattle.p4_meaning.specs.Standard.{is_assignable}
+use Rattle.p4_meaning.specs.Store.{Store, read, shown, set_value, written, write}
 use Rattle.p4_tree.specs.Operators.{operate}
-use Rattle.p4_tree.specs.Value.{value_of, own_width}
+use Rattle.p4_meaning.specs.Value.{value_of, own_width}
 use Rattle.p4_tree.specs.declared.statement.Op.TheVariants as p4
-use Rattle.p4_tree.specs.Statements.{no_calls, application, tested_by, Go, Run, Ended, after, in_store, meaning_of_stmt, meaning_of, meaning_of_else}
+use Rattle.p4_meaning.specs.Statements.{no_calls, application, tested_by, Go, Run, Ended, after, in_store, meaning_of_stmt, meaning_of, meaning_of_else}
 use Rattle.indus_tree.specs.Tree as indus
 use Rattle.network_run.specs.PathMeaning.{Doing}
 use Rattle.indus_tree.specs.State.{Hop, Held, lookup, held_width, shape_width, put, put_cell, set_by_kind, set_cell}

@@ -8,10 +8,10 @@ use Rattle.bit_values.specs.BitLists.{number_bits, number_of}
 use Rattle.bit_values.specs.Widths.{sound_width, cast_word}
 use Rattle.lex_text.specs.Names.{same_text, same_path}
 use Rattle.p4_tree.specs.Tree.{Expr, path, Arg, one, Stmt, assign, call, Keyset, any, only, masked, Case, Transition, nowhere, to, select, ParserState}
-use Rattle.p4_tree.specs.Store.{Store}
-use Rattle.p4_tree.specs.Value.{value_of}
-use Rattle.p4_tree.specs.Statements.{Run}
-use Rattle.p4_tree.specs.Parsing.{Field, Header, ParserError, NoError, PacketTooShort, Reading, width_sum, field_taken, fields_taken, with_valid, Parsed, goes_on, stops, extracted, extracted_at, unless_stopped, call_parsed, stmt_parsed, body_parsed, fits, fits_each, fits_all, first_fit, chosen, state_after, ParserEnd, parser_end, Turned, ends, leads, led, turned, ends_parser, found_state, passed_state, on_turned, turns_of, fields_bits, if_valid, header_bits, deparse_of}
+use Rattle.p4_meaning.specs.Store.{Store}
+use Rattle.p4_meaning.specs.Value.{value_of}
+use Rattle.p4_meaning.specs.Statements.{Run}
+use Rattle.p4_meaning.specs.Parsing.{Field, Header, ParserError, NoError, PacketTooShort, Reading, width_sum, field_taken, fields_taken, with_valid, Parsed, goes_on, stops, extracted, extracted_at, unless_stopped, call_parsed, stmt_parsed, body_parsed, fits, fits_each, fits_all, first_fit, chosen, state_after, ParserEnd, parser_end, Turned, ends, leads, led, turned, ends_parser, found_state, passed_state, on_turned, turns_of, fields_bits, if_valid, header_bits, deparse_of}
 use Rattle.indus_tree.specs.Tree.{Decl}
 use Rattle.linked_halves.specs.Monitor.{tele_header}
 use Rattle.linked_halves.specs.Regions.{is_mine, is_own_header}

@@ -2,11 +2,11 @@
 use Rattle.std.proofs.Common.{◌≡◌, ℕ, List, [], ◌∷◌, ◌++◌, map, Bool, true, false, cond, ◌||◌, Option, None, refl, sym, ap, ap₂, ◌∙◌}
 use Rattle.bit_values.specs.Bits.{Word, word, cast}
 use Rattle.lex_text.specs.Names.{same_text, same_path}
-use Rattle.p4_tree.specs.Standard.{metadata_root, standard_root, egress_spec, egress_port, standard_paths}
-use Rattle.p4_tree.specs.Store.{Store, set_value}
-use Rattle.p4_tree.specs.Parsing.{Field}
-use Rattle.p4_tree.specs.Parts.{Parts}
-use Rattle.p4_tree.specs.Pass.{is_field_of, is_header_field, is_one_path, is_declared_path, is_declared_header, declared, to_egress}
+use Rattle.p4_meaning.specs.Standard.{metadata_root, standard_root, egress_spec, egress_port, standard_paths}
+use Rattle.p4_meaning.specs.Store.{Store, set_value}
+use Rattle.p4_meaning.specs.Parsing.{Field}
+use Rattle.p4_meaning.specs.Parts.{Parts}
+use Rattle.p4_meaning.specs.Pass.{is_field_of, is_header_field, is_one_path, is_declared_path, is_declared_header, declared, to_egress}
 use Rattle.indus_tree.specs.Tree.{Decl, Property}
 use Rattle.indus_tree.specs.Names.{is_declared}
 use Rattle.indus_tree.specs.State.{Held}

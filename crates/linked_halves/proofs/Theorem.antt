@@ -4,8 +4,8 @@ use Rattle.std.specs.List.{AllByRecursion}
 use Rattle.std.specs.Prelude.{if◌then◌else◌, is_none, is_some, nat_eq, All}
 use Rattle.std.proofs.lemmas.List.Elements.{All-head, All-tail, All-cons, All-nil}
 use Rattle.bit_values.specs.Bits.{Word}
-use Rattle.p4_tree.specs.Parts.{Cells}
-use Rattle.p4_tree.specs.Pass.{Registers, parts_enter, zero_cells, start_cells}
+use Rattle.p4_meaning.specs.Parts.{Cells}
+use Rattle.p4_meaning.specs.Pass.{Registers, parts_enter, zero_cells, start_cells}
 use Rattle.indus_tree.specs.State.{Contents, Held}
 use Rattle.indus_tree.specs.Start.{tele_start}
 use Rattle.indus_tree.specs.Law.{law_of}

@@ -1,7 +1,7 @@
 -- What is linked, and what is said of it: the laws of the two halves, and linkage.
 use Rattle.std.specs.Prelude.{ℕ, ◌≤◌}
-use Rattle.p4_tree.specs.Parts.{Parts}
-use Rattle.p4_tree.specs.Pass.{Registers, Queued}
+use Rattle.p4_meaning.specs.Parts.{Parts}
+use Rattle.p4_meaning.specs.Pass.{Registers, Queued}
 use Rattle.indus_tree.specs.Tree.{Property}
 use Rattle.indus_tree.specs.State.{Contents}
 use Rattle.indus_tree.specs.Law.{law_of}

@@ -2,8 +2,8 @@
 use Rattle.std.specs.Prelude.{codes, ℕ, List, ◌∷◌, map, if◌then◌else◌}
 use Rattle.lex_text.specs.Names.{same_text}
 use Rattle.p4_tree.specs.Tree.{done, next, Case, Transition, nowhere, to, select, ParserState, and_then}
-use Rattle.p4_tree.specs.Parsing.{Field, Header}
-use Rattle.p4_tree.specs.Parts.{Cells, Parts}
+use Rattle.p4_meaning.specs.Parsing.{Field, Header}
+use Rattle.p4_meaning.specs.Parts.{Cells, Parts}
 use Rattle.indus_tree.specs.Tree.{Decl, Property}
 use Rattle.linked_halves.specs.Monitor.{tele_header, tele_name, rejects_register, entry_stmt, exit_stmt}
 use Rattle.linked_halves.specs.ParserStates.{first_state, taken_state}

@@ -2,7 +2,7 @@
 -- adds begins with `hydra_`. All places are 0.
 use Rattle.std.specs.Prelude.{codes, ℕ, List, [], ◌∷◌, ◌++◌, true, false, Some, None}
 use Rattle.p4_tree.specs.Tree.{Expr, num, flag, path, negation, binary, one, Stmt, Stmts, MaybeStmt, block, var, assign, choice, call, done, next, without, otherwise, and_then}
-use Rattle.p4_tree.specs.Standard.{headers_root, standard_root, ingress_port, egress_spec, egress_port}
+use Rattle.p4_meaning.specs.Standard.{headers_root, standard_root, ingress_port, egress_spec, egress_port}
 use Rattle.p4_tree.specs.declared.statement.PTy.TheVariants as type
 use Rattle.p4_tree.specs.declared.statement.Op as p4_op
 use Rattle.p4_tree.specs.declared.statement.Op.TheVariants as p4

@@ -1,10 +1,10 @@
 -- Programs, as the network law takes them.
 use Rattle.std.specs.Prelude.{ℕ, List, [], ◌∷◌, ◌++◌, map, Option, Some, None, if◌then◌else◌, nat_eq}
 use Rattle.bit_values.specs.Bits.{Word}
-use Rattle.p4_tree.specs.Statements as p4
-use Rattle.p4_tree.specs.Parts.{Parts}
-use Rattle.p4_tree.specs.Pass as pass
-use Rattle.p4_tree.specs.Pass.{Registers, Queued, parts_enter, parts_leave, start_cells}
+use Rattle.p4_meaning.specs.Statements as p4
+use Rattle.p4_meaning.specs.Parts.{Parts}
+use Rattle.p4_meaning.specs.Pass as pass
+use Rattle.p4_meaning.specs.Pass.{Registers, Queued, parts_enter, parts_leave, start_cells}
 use Rattle.indus_tree.specs.State.{Contents, Held}
 use Rattle.network_run.specs.Machine.{Digest, Entered, Going, Leaving, Machine}
 use Rattle.network_run.specs.Network.{Link}

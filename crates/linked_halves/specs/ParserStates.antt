@@ -2,7 +2,7 @@
 -- it stands. All places are 0.
 use Rattle.std.specs.Prelude.{codes, ℕ, List, [], ◌∷◌}
 use Rattle.p4_tree.specs.Tree.{path, one, call, any, only, Case, select, to, ParserState}
-use Rattle.p4_tree.specs.Standard.{ingress_port}
+use Rattle.p4_meaning.specs.Standard.{ingress_port}
 use Rattle.linked_halves.specs.Monitor.{number, tele_header}
 
 -- a frame that came by a link begins with the telemetry

@@ -2,7 +2,7 @@
 -- read and write is told by regions of paths.
 use Rattle.std.specs.Prelude.{codes, ℕ, List, [], ◌∷◌, Bool, true, false, ◌&&◌, ◌||◌, nat_eq, not, if◌then◌else◌}
 use Rattle.lex_text.specs.Names.{same_text, same_path}
-use Rattle.p4_tree.specs.Standard.{headers_root, standard_root, packet_length}
+use Rattle.p4_meaning.specs.Standard.{headers_root, standard_root, packet_length}
 
 -- a text begins with another
 abbrev pub begins : List ℕ → List ℕ → Bool

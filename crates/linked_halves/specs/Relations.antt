@@ -2,10 +2,10 @@
 use Rattle.std.specs.Prelude.{◌≡◌, ℕ, ◌%◌, ◌^◌, ◌<◌, List, [], ◌∷◌, Bool, true, false, not, Some, None, nat_eq}
 use Rattle.std.specs.List.{filter}
 use Rattle.bit_values.specs.Bits.{Word, word}
-use Rattle.p4_tree.specs.Standard.{standard_root, egress_spec, egress_port}
-use Rattle.p4_tree.specs.Store.{Store}
-use Rattle.p4_tree.specs.Statements.{Digest, Run}
-use Rattle.p4_tree.specs.Pass.{Registers, Queued}
+use Rattle.p4_meaning.specs.Standard.{standard_root, egress_spec, egress_port}
+use Rattle.p4_meaning.specs.Store.{Store}
+use Rattle.p4_meaning.specs.Statements.{Digest, Run}
+use Rattle.p4_meaning.specs.Pass.{Registers, Queued}
 use Rattle.indus_tree.specs.Tree.{Decl}
 use Rattle.indus_tree.specs.Names.{is_declared}
 use Rattle.linkage.specs.Linkage.{report_receiver}

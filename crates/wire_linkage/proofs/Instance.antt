@@ -4,8 +4,8 @@ use Rattle.std.specs.Prelude.{if◌then◌else◌}
 use Rattle.std.specs.List.{AllByRecursion}
 use Rattle.lex_text.specs.Names.{same_text}
 use Rattle.p4_tree.specs.Tree.{Expr, num, path, flag, binary, negation, Stmt, assign, choice, block, Stmts, MaybeStmt, otherwise, Case, ParserState, and_then, next, done, without}
-use Rattle.p4_tree.specs.Parsing.{Field}
-use Rattle.p4_tree.specs.Parts.{Roots, Parts, path_under, expr_under, stmt_under, stmts_under, else_under, case_under, field_of, parts_of}
+use Rattle.p4_meaning.specs.Parsing.{Field}
+use Rattle.p4_meaning.specs.Parts.{Roots, Parts, path_under, expr_under, stmt_under, stmts_under, else_under, case_under, field_of, parts_of}
 use Rattle.p4_tree.specs.declared.statement.Op.TheVariants as p4
 use Rattle.indus_tree.specs.Tree as indus
 use Rattle.lex_text.specs.Marks.{is_one_of as is_name_of}
@@ -62,16 +62,16 @@ joined_same a b e = joined_under (lowered_block a) b ∙ ap₂ and_then (block_s
 entry_same : (p : indus.Property) (linked_ports : List ℕ) → stmt_under roots (entry_stmt p linked_ports) ≡ entry_stmt p linked_ports
 entry_same p linked_ports =
     ap₂ (λ t b. choice 0 (negation 0 t) (block 0 (next (Rattle.linked_halves.specs.Monitor.on_header (codes "setValid")) (next (assign 0 Rattle.linked_halves.specs.Monitor.mark_path (number 8 72)) b))) without)
-    (one_of_same Rattle.p4_tree.specs.Standard.ingress_port refl linked_ports) (block_same p.init)
+    (one_of_same Rattle.p4_meaning.specs.Standard.ingress_port refl linked_ports) (block_same p.init)
 
 check_same : (p : indus.Property) (linked_ports : List ℕ) → stmt_under roots (check_stmt p linked_ports) ≡ check_stmt p linked_ports
 check_same p linked_ports =
     ap₂ (λ t b. choice 0 (negation 0 t) (block 0 (next (Rattle.p4_tree.specs.Tree.var 0 Rattle.p4_tree.specs.declared.statement.PTy.TheVariants.Bool rejected_name (Rattle.std.specs.Prelude.Some (flag 0 false))) b)) without)
-    (one_of_same Rattle.p4_tree.specs.Standard.egress_port refl linked_ports) (joined_same p.check end_stmts refl)
+    (one_of_same Rattle.p4_meaning.specs.Standard.egress_port refl linked_ports) (joined_same p.check end_stmts refl)
 
 exit_same : (p : indus.Property) (linked_ports : List ℕ) → stmt_under roots (exit_stmt p linked_ports) ≡ exit_stmt p linked_ports
 exit_same p linked_ports =
-    ap (λ b. choice 0 (binary 0 p4.Differ (path 0 Rattle.p4_tree.specs.Standard.egress_spec) (number 0 511)) (block 0 b) without)
+    ap (λ b. choice 0 (binary 0 p4.Differ (path 0 Rattle.p4_meaning.specs.Standard.egress_spec) (number 0 511)) (block 0 b) without)
     (joined_same p.tele (next (check_stmt p linked_ports) done) (ap (λ s. next s done) (check_same p linked_ports)))
 
 cases_same : (linked_ports : List ℕ) → map (case_under roots) (link_cases linked_ports) ≡ link_cases linked_ports
@@ -90,7 +90,7 @@ built fields cases entry exit =
       headers = record { path = tele_header; fields = record { name = codes "hydra_mark"; width = 8 } ∷ fields } ∷ [];
       metadata = [];
       states =
-          record { at = 0; name = codes "start"; body = []; next = Rattle.p4_tree.specs.Tree.select 0 (path 0 Rattle.p4_tree.specs.Standard.ingress_port ∷ []) cases }
+          record { at = 0; name = codes "start"; body = []; next = Rattle.p4_tree.specs.Tree.select 0 (path 0 Rattle.p4_meaning.specs.Standard.ingress_port ∷ []) cases }
           ∷ taken_state
           ∷ Rattle.wire_program.specs.WireProgram.passing_state (codes "hydra_start") (codes "accept")
           ∷ [];

@@ -1,7 +1,7 @@
 -- The linked wire programs are a linkage.
 use Rattle.std.proofs.Common.{◌≡◌, sym, ap, subst, arith}
-use Rattle.p4_tree.specs.Parts.{parts_of}
-use Rattle.p4_tree.specs.Pass.{Registers, Queued}
+use Rattle.p4_meaning.specs.Parts.{parts_of}
+use Rattle.p4_meaning.specs.Pass.{Registers, Queued}
 use Rattle.indus_tree.specs.Tree.{Property}
 use Rattle.indus_tree.specs.Law.{law_of}
 use Rattle.indus_tree.specs.State.{Contents}

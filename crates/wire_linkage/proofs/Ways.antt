@@ -4,10 +4,10 @@ use Rattle.std.specs.Prelude.{nat_eq, nat_lt, nat_le, slice_get, slice_set, ◌=
 use Rattle.std.proofs.lemmas.List.{map-append}
 use Rattle.std.proofs.lemmas.Bool.Decides.{nat_tests}
 use Rattle.std.proofs.lemmas.List.Elements.{All-cons, All-nil}
-use Rattle.p4_tree.specs.Parts.{Parts, parts_of}
-use Rattle.p4_tree.specs.Statements.{Digest}
-use Rattle.p4_tree.specs.Pass as pass
-use Rattle.p4_tree.specs.Pass.{Registers, Queued, parts_enter, parts_leave, start_cells}
+use Rattle.p4_meaning.specs.Parts.{Parts, parts_of}
+use Rattle.p4_meaning.specs.Statements.{Digest}
+use Rattle.p4_meaning.specs.Pass as pass
+use Rattle.p4_meaning.specs.Pass.{Registers, Queued, parts_enter, parts_leave, start_cells}
 use Rattle.indus_tree.specs.Tree.{Property}
 use Rattle.indus_tree.specs.State.{Contents}
 use Rattle.network_run.specs.Machine as law_machine

@@ -2,8 +2,8 @@
 -- `wire_program`'s `Network` before it.
 use Rattle.std.specs.Prelude.{ℕ, List, [], ◌∷◌}
 use Rattle.p4_tree.specs.Tree.{Program}
-use Rattle.p4_tree.specs.Parts.{parts_of}
-use Rattle.p4_tree.specs.Pass.{Registers, Queued}
+use Rattle.p4_meaning.specs.Parts.{parts_of}
+use Rattle.p4_meaning.specs.Pass.{Registers, Queued}
 use Rattle.indus_tree.specs.Tree.{Property}
 use Rattle.indus_tree.specs.State.{Contents, members}
 use Rattle.network_run.specs.Machine.{Machine}

@@ -2,7 +2,7 @@
 use Rattle.std.specs.Prelude.{◌≡◌, ℕ, ◌∷◌, true, ◌||◌}
 use Rattle.std.specs.List.{AllByRecursion}
 use Rattle.p4_tree.specs.Tree.{Program}
-use Rattle.p4_tree.specs.Parts.{parts_of}
+use Rattle.p4_meaning.specs.Parts.{parts_of}
 use Rattle.indus_tree.specs.Tree.{Property}
 use Rattle.indus_tree.specs.Law.{law_of}
 use Rattle.indus_tree.specs.State.{Contents}

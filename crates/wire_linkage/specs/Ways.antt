@@ -1,8 +1,8 @@
 -- The way of one packet that the program computes, beside the run of the network law.
 use Rattle.std.specs.Prelude.{◌≡◌, ℕ, List, [], ◌∷◌, map}
-use Rattle.p4_tree.specs.Parts.{Parts, parts_of}
-use Rattle.p4_tree.specs.Pass.{Registers, Queued, start_cells}
-use Rattle.p4_tree.specs.Statements.{Digest}
+use Rattle.p4_meaning.specs.Parts.{Parts, parts_of}
+use Rattle.p4_meaning.specs.Pass.{Registers, Queued, start_cells}
+use Rattle.p4_meaning.specs.Statements.{Digest}
 use Rattle.indus_tree.specs.Tree.{Property}
 use Rattle.indus_tree.specs.State.{Contents}
 use Rattle.network_run.specs.Network as law

@@ -11,7 +11,7 @@
 #![tactic(auto)]
 
 ghost use Rattle.std.specs.Prelude.{ℕ, ◌+◌, ◌≤◌, List, length};
-ghost use Rattle.p4_tree.specs.Parts.{parts_of};
+ghost use Rattle.p4_meaning.specs.Parts.{parts_of};
 ghost use Rattle.indus_tree.specs.Small.{IsSmall};
 ghost use Rattle.indus_tree.specs.Tree.{Property};
 ghost use Rattle.network_run.specs.NetworkRun.{longest_frame};

@@ -4,10 +4,10 @@ use Rattle.std.specs.Prelude.{codes}
 use Rattle.std.proofs.lemmas.List.{drop-drop}
 use Rattle.bit_values.specs.Bytes.{bits_of}
 use Rattle.p4_tree.specs.Tree.{ParserState}
-use Rattle.p4_tree.specs.Store.{Store}
-use Rattle.p4_tree.specs.Parsing.{Header, ParserEnd, turns_of}
-use Rattle.p4_tree.specs.Parts.{Parts}
-use Rattle.p4_tree.specs.Pass.{store_before}
+use Rattle.p4_meaning.specs.Store.{Store}
+use Rattle.p4_meaning.specs.Parsing.{Header, ParserEnd, turns_of}
+use Rattle.p4_meaning.specs.Parts.{Parts}
+use Rattle.p4_meaning.specs.Pass.{store_before}
 use Rattle.wire_machine.specs.Halves.{parser_ends}
 
 -- the parser that was run is that of the parts

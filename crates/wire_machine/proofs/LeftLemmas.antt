@@ -5,7 +5,7 @@ use Rattle.std.proofs.lemmas.List.{length-map, get_or-map, map-append, take-map,
 use Rattle.std.proofs.Math.Seq.{drop-cons, take-suc}
 use Rattle.lex_text.specs.Names.{same_text}
 use Rattle.p4_tree.specs.Tree.{ParserState}
-use Rattle.p4_tree.specs.Parsing.{found_state}
+use Rattle.p4_meaning.specs.Parsing.{found_state}
 
 -- what is found behind some states
 abbrev pub behind : List ParserState → Option (ParserState × List ParserState) → Option (ParserState × List ParserState)

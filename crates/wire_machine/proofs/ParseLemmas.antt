@@ -5,8 +5,8 @@ use Rattle.bit_values.specs.Bits.{word}
 use Rattle.bit_values.specs.Bytes.{bits_of, number_at}
 use Rattle.bit_values.proofs.BytesLemmas.{length-bits_of}
 use Rattle.p4_tree.specs.Tree.{ParserState}
-use Rattle.p4_tree.specs.Store.{Store, set_value}
-use Rattle.p4_tree.specs.Parsing.{Reading, Field, Header, goes_on, stops, PacketTooShort, field_taken, fields_taken, width_sum, extracted, with_valid, ParserEnd, Turned, ends, leads, on_turned, turns_of}
+use Rattle.p4_meaning.specs.Store.{Store, set_value}
+use Rattle.p4_meaning.specs.Parsing.{Reading, Field, Header, goes_on, stops, PacketTooShort, field_taken, fields_taken, width_sum, extracted, with_valid, ParserEnd, Turned, ends, leads, on_turned, turns_of}
 use Rattle.wire_machine.specs.Places.{IsTurn}
 
 abbrev pub at_place : Store → List ℕ → ℕ → Reading

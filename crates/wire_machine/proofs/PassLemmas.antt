@@ -1,13 +1,13 @@
 -- The two halves of a pass, from what their steps give.
 use Rattle.std.proofs.Common.{◌≡◌, ℕ, List, ◌++◌, true, false, Option, Some, None, sym, ap, ap₂, ◌∙◌}
 use Rattle.bit_values.specs.Bits.{cast}
-use Rattle.p4_tree.specs.Standard.{egress_port}
-use Rattle.p4_tree.specs.Store.{Store}
-use Rattle.p4_tree.specs.Statements.{Digest}
+use Rattle.p4_meaning.specs.Standard.{egress_port}
+use Rattle.p4_meaning.specs.Store.{Store}
+use Rattle.p4_meaning.specs.Statements.{Digest}
 use Rattle.bit_writer.specs.Bytes.{bytes_of}
-use Rattle.p4_tree.specs.Parsing.{deparse_of}
-use Rattle.p4_tree.specs.Parts.{Parts}
-use Rattle.p4_tree.specs.Pass.{Registers, Queued, Going, is_dropped, to_egress, unless_dropped, store_behind, parts_enter, parts_leave}
+use Rattle.p4_meaning.specs.Parsing.{deparse_of}
+use Rattle.p4_meaning.specs.Parts.{Parts}
+use Rattle.p4_meaning.specs.Pass.{Registers, Queued, Going, is_dropped, to_egress, unless_dropped, store_behind, parts_enter, parts_leave}
 use Rattle.wire_machine.specs.Machine.{goes_to}
 use Rattle.wire_machine.specs.Halves.{parser_ends, ingress_run, egress_run, computed}
 

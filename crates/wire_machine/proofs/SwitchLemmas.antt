@@ -2,8 +2,8 @@
 use Rattle.std.proofs.Common.{◌≡◌, ℕ, zero, suc, ◌+◌, List, [], ◌∷◌, ◌++◌, map, refl, sym, ap, ◌∙◌, add-one, if◌then◌else◌}
 use Rattle.bit_values.specs.Bits.{Word, word}
 use Rattle.lex_text.specs.Names.{same_text}
-use Rattle.p4_tree.specs.Parts.{Cells}
-use Rattle.p4_tree.specs.Pass.{zero_cells, start_cells}
+use Rattle.p4_meaning.specs.Parts.{Cells}
+use Rattle.p4_meaning.specs.Pass.{zero_cells, start_cells}
 use Rattle.wire_statements.specs.Runs.{Rows, cells_in}
 use Rattle.wire_machine.specs.Rows.{row_of, row_at_start}
 

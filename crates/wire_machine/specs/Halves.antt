@@ -1,11 +1,11 @@
 -- The two halves of a pass, step by step.
 use Rattle.std.specs.Prelude.{ℕ, List, [], length}
 use Rattle.bit_values.specs.Bytes.{bits_of}
-use Rattle.p4_tree.specs.Statements.{Run, no_calls, meaning_of}
-use Rattle.p4_tree.specs.Store.{Store}
-use Rattle.p4_tree.specs.Parsing.{ParserEnd, parse_of}
-use Rattle.p4_tree.specs.Parts.{Parts, whole}
-use Rattle.p4_tree.specs.Pass.{Registers, store_before, run_from}
+use Rattle.p4_meaning.specs.Statements.{Run, no_calls, meaning_of}
+use Rattle.p4_meaning.specs.Store.{Store}
+use Rattle.p4_meaning.specs.Parsing.{ParserEnd, parse_of}
+use Rattle.p4_meaning.specs.Parts.{Parts, whole}
+use Rattle.p4_meaning.specs.Pass.{Registers, store_before, run_from}
 
 -- how the parser ends on a frame
 abbrev pub parser_ends : Parts → (port : ℕ) → (frame : List ℕ) → ParserEnd

@@ -1,8 +1,8 @@
 -- What a switch keeps, and where its packets go. Read `Pass` of the program trees before.
 use Rattle.std.specs.Prelude.{ℕ, List, Option, Some, None}
 use Rattle.std.specs.Option.{option_map}
-use Rattle.p4_tree.specs.Parts.{Parts}
-use Rattle.p4_tree.specs.Pass.{Registers, Queued, Going}
+use Rattle.p4_meaning.specs.Parts.{Parts}
+use Rattle.p4_meaning.specs.Pass.{Registers, Queued, Going}
 use Rattle.wire_parts.specs.PartsIn.{parts_in}
 use Rattle.wire_statements.specs.Fields.{store_of}
 use Rattle.wire_machine.specs.Rests.{rest_in}

@@ -3,8 +3,8 @@ use Rattle.std.specs.Prelude.{◌≡◌, ℕ, suc, List, drop, ◌≤◌, Option
 use Rattle.std.proofs.Common.{Bor}
 use Rattle.bit_values.specs.Bytes.{bits_of}
 use Rattle.p4_tree.specs.Tree.{ParserState}
-use Rattle.p4_tree.specs.Parsing as parsing
-use Rattle.p4_tree.specs.Parsing.{Header, on_turned, turns_of, Reading, Parsed, goes_on, stops, ParserEnd, parser_end, Turned, ends, leads}
+use Rattle.p4_meaning.specs.Parsing as parsing
+use Rattle.p4_meaning.specs.Parsing.{Header, on_turned, turns_of, Reading, Parsed, goes_on, stops, ParserEnd, parser_end, Turned, ends, leads}
 use Rattle.wire_statements.specs.Fields.{store_of}
 use Rattle.wire_statements.specs.declared.fields.Fields.{Fields}
 use Rattle.wire_machine.specs.declared.parse.ParserError as code_error

@@ -3,8 +3,8 @@ use Rattle.std.specs.Prelude.{ℕ, List}
 use Rattle.std.specs.Global.{Vec}
 use Rattle.bit_values.specs.Bits.{Word}
 use Rattle.bit_values.specs.Widths.{sound_width}
-use Rattle.p4_tree.specs.Parts.{Cells}
-use Rattle.p4_tree.specs.Pass.{zero_cells}
+use Rattle.p4_meaning.specs.Parts.{Cells}
+use Rattle.p4_meaning.specs.Pass.{zero_cells}
 
 -- a register with its cells
 abbrev pub row_of : List ℕ × Vec Word → List ℕ × List Word

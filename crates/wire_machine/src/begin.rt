@@ -2,9 +2,9 @@
 
 ghost use Rattle.std.specs.Prelude.{◌≡◌, ◌≤◌, ◌∷◌, [], IfOk, OnOk, map};
 ghost use Rattle.bit_values.specs.Bits.{word, cast};
-ghost use Rattle.p4_tree.specs.Standard.{standard_root, metadata_root, egress_spec};
-ghost use Rattle.p4_tree.specs.Store.{blank, set_value};
-ghost use Rattle.p4_tree.specs.Pass.{zero_fields, no_headers, with_standard, store_before, to_egress, store_behind};
+ghost use Rattle.p4_meaning.specs.Standard.{standard_root, metadata_root, egress_spec};
+ghost use Rattle.p4_meaning.specs.Store.{blank, set_value};
+ghost use Rattle.p4_meaning.specs.Pass.{zero_fields, no_headers, with_standard, store_before, to_egress, store_behind};
 ghost use Rattle.wire_statements.specs.Fields.{store_of};
 ghost use Rattle.wire_parts.specs.Headers.{field_in, header_in};
 ghost use Rattle.wire_parts.specs.PartsIn.{parts_in};

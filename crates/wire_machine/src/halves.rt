@@ -3,9 +3,9 @@
 ghost use Rattle.std.specs.Prelude.{◌≡◌, ◌≤◌, ◌*◌, ◌++◌, length, drop, IfOk, OnOk, map};
 ghost use Rattle.bit_values.specs.Bits.{cast};
 ghost use Rattle.bit_values.specs.Bytes.{bits_of};
-ghost use Rattle.p4_tree.specs.Statements.{no_calls, meaning_of};
-ghost use Rattle.p4_tree.specs.Parts.{whole};
-ghost use Rattle.p4_tree.specs.Pass.{is_dropped, store_behind, run_from, error_number};
+ghost use Rattle.p4_meaning.specs.Statements.{no_calls, meaning_of};
+ghost use Rattle.p4_meaning.specs.Parts.{whole};
+ghost use Rattle.p4_meaning.specs.Pass.{is_dropped, store_behind, run_from, error_number};
 ghost use Rattle.wire_parts.specs.PartsIn.{parts_in};
 ghost use Rattle.wire_statements.specs.Fields.{store_of};
 ghost use Rattle.wire_machine.specs.Places.{error_of};

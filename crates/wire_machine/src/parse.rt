@@ -2,7 +2,7 @@
 
 ghost use Rattle.std.specs.Prelude.{◌≡◌, ◌≤◌, ◌*◌, ◌+◌, length, nat_le, IfOk, OnOk, map};
 ghost use Rattle.p4_tree.specs.View.{arg_of, stmt_of};
-ghost use Rattle.p4_tree.specs.Parsing.{width_sum, field_taken, fields_taken, extracted, extracted_at, call_parsed, stmt_parsed, body_parsed};
+ghost use Rattle.p4_meaning.specs.Parsing.{width_sum, field_taken, fields_taken, extracted, extracted_at, call_parsed, stmt_parsed, body_parsed};
 ghost use Rattle.wire_statements.specs.Fields.{store_of};
 ghost use Rattle.wire_parts.specs.Headers.{field_in, header_in};
 ghost use Rattle.wire_machine.specs.Places.{reading_of, parsed_of, StepsWithin};

@@ -2,7 +2,7 @@
 
 ghost use Rattle.std.specs.Prelude.{◌≡◌, ◌≤◌, ◌*◌, length, drop, IfOk};
 ghost use Rattle.bit_values.specs.Bytes.{bits_of};
-ghost use Rattle.p4_tree.specs.Pass.{is_dropped, to_egress, unless_dropped};
+ghost use Rattle.p4_meaning.specs.Pass.{is_dropped, to_egress, unless_dropped};
 ghost use Rattle.wire_parts.specs.PartsIn.{parts_in};
 ghost use Rattle.wire_statements.specs.Fields.{store_of};
 ghost use Rattle.wire_machine.specs.Rests.{rest_in};

@@ -2,8 +2,8 @@
 
 ghost use Rattle.std.specs.Prelude.{◌≡◌, IfOk, map};
 ghost use Rattle.p4_tree.specs.View.{expr_of, keyset_of, case_of, transition_of};
-ghost use Rattle.p4_tree.specs.Value.{value_of};
-ghost use Rattle.p4_tree.specs.Parsing.{chosen, fits, fits_each, fits_all, first_fit, state_after};
+ghost use Rattle.p4_meaning.specs.Value.{value_of};
+ghost use Rattle.p4_meaning.specs.Parsing.{chosen, fits, fits_each, fits_all, first_fit, state_after};
 ghost use Rattle.wire_statements.specs.Fields.{store_of};
 ghost use Rattle.wire_machine.specs.Places.{name_of, led_of};
 

@@ -2,7 +2,7 @@
 
 ghost use Rattle.std.specs.Prelude.{◌≡◌, ◌≤◌, ◌*◌, length, IfOk, map};
 ghost use Rattle.p4_tree.specs.View.{state_of};
-ghost use Rattle.p4_tree.specs.Parsing.{body_parsed, found_state, turned, turns_of, parser_end};
+ghost use Rattle.p4_meaning.specs.Parsing.{body_parsed, found_state, turned, turns_of, parser_end};
 ghost use Rattle.wire_parts.specs.Headers.{header_in};
 ghost use Rattle.wire_machine.specs.Left.{states_in, found_in};
 ghost use Rattle.wire_machine.specs.Places.{error_of, reading_of, turned_of, TurnsWithin, IsTurn};

@@ -2,8 +2,8 @@
 
 ghost use Rattle.std.specs.Prelude.{◌≡◌, ◌≤◌, ◌++◌, length, slice_get, IfOk, OnOk, map};
 ghost use Rattle.p4_tree.specs.View.{program_of};
-ghost use Rattle.p4_tree.specs.Parts.{parts_of};
-ghost use Rattle.p4_tree.specs.Pass.{parts_enter, parts_leave, registers_before, start_cells, zero_cells};
+ghost use Rattle.p4_meaning.specs.Parts.{parts_of};
+ghost use Rattle.p4_meaning.specs.Pass.{parts_enter, parts_leave, registers_before, start_cells, zero_cells};
 ghost use Rattle.wire_parts.specs.PartsIn.{cells_decl};
 ghost use Rattle.bit_values.specs.Bits.{cast};
 ghost use Rattle.wire_machine.specs.Machine.{goes_to, machine_of, passed_of, queued_of};

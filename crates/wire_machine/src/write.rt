@@ -3,7 +3,7 @@
 ghost use Rattle.std.specs.Prelude.{◌≡◌, ◌++◌, IfOk, OnOk, map};
 ghost use Rattle.bit_writer.specs.Bytes.{bytes_of};
 ghost use Rattle.bit_writer.specs.Written.{bits_in};
-ghost use Rattle.p4_tree.specs.Parsing.{fields_bits, header_bits, deparse_of};
+ghost use Rattle.p4_meaning.specs.Parsing.{fields_bits, header_bits, deparse_of};
 ghost use Rattle.wire_statements.specs.Fields.{store_of};
 ghost use Rattle.wire_parts.specs.Headers.{field_in, header_in};
 ghost use Rattle.wire_parts.specs.Paths.{path_in};

@@ -1,8 +1,8 @@
 -- What becomes of a packet, as the code answers it.
 use Rattle.std.specs.Prelude.{ℕ, List, map, Option, Some, None}
 use Rattle.std.specs.Global.{Vec}
-use Rattle.p4_tree.specs.Statements.{Digest}
-use Rattle.p4_tree.specs.Parts.{Parts}
+use Rattle.p4_meaning.specs.Statements.{Digest}
+use Rattle.p4_meaning.specs.Parts.{Parts}
 use Rattle.wire_machine.specs.Machine.{Machine}
 use Rattle.wire_statements.specs.Runs.{digest_of}
 use Rattle.wire_network.specs.Travel as travel

@@ -1,8 +1,8 @@
 -- The way of one packet through a network. Read `Machine` of the switch, and `Pass` of the trees before.
 use Rattle.std.specs.Prelude.{ℕ, zero, suc, ◌<◌, List, [], ◌∷◌, ◌++◌, length, map, Bool, ◌&&◌, if◌then◌else◌, nat_le, nat_eq, Option, Some, None, slice_get, slice_set}
 use Rattle.p4_tree.specs.Tree.{done}
-use Rattle.p4_tree.specs.Statements.{Digest}
-use Rattle.p4_tree.specs.Pass.{Registers, Queued, parts_enter, parts_leave}
+use Rattle.p4_meaning.specs.Statements.{Digest}
+use Rattle.p4_meaning.specs.Pass.{Registers, Queued, parts_enter, parts_leave}
 use Rattle.wire_machine.specs.Machine.{Machine, goes_to}
 use Rattle.wire_network.specs.declared.link.Link.{Link}
 

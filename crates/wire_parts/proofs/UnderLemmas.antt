@@ -1,7 +1,7 @@
 -- Lists of statements, under fixed roots.
 use Rattle.std.proofs.Common.{◌≡◌, List, [], ◌∷◌, map, refl, ap}
 use Rattle.p4_tree.specs.Tree.{Stmt, stmts_from, next, Local, local_action, local_table, local_register, local_const, local_var, var}
-use Rattle.p4_tree.specs.Parts.{Roots, stmt_under, stmts_under, settings_of}
+use Rattle.p4_meaning.specs.Parts.{Roots, stmt_under, stmts_under, settings_of}
 use Rattle.wire_parts.specs.Locals.{settings}
 
 -- a list of statements one by one

@@ -1,6 +1,6 @@
 -- Headers and fields of the machine.
 use Rattle.std.specs.Prelude.{map}
-use Rattle.p4_tree.specs.Parsing as parsing
+use Rattle.p4_meaning.specs.Parsing as parsing
 use Rattle.wire_parts.specs.declared.header.Field as code_field
 use Rattle.wire_parts.specs.declared.header.Header as code_header
 

@@ -1,7 +1,7 @@
 -- What is lent of a program.
 use Rattle.std.specs.Prelude.{Option, Some, None}
 use Rattle.std.proofs.Common.{Bor}
-use Rattle.p4_tree.specs.Parts as parts
+use Rattle.p4_meaning.specs.Parts as parts
 use Rattle.wire_parts.specs.declared.roots.Roots as code_roots
 
 -- what is lent

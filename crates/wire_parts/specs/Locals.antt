@@ -1,8 +1,8 @@
 -- The variables of a control, and a register.
 use Rattle.std.specs.Prelude.{List, [], ◌∷◌}
 use Rattle.p4_tree.specs.Tree.{Local, local_var, Stmt, var}
-use Rattle.p4_tree.specs.Value.{width_of}
-use Rattle.p4_tree.specs.Parts.{Cells}
+use Rattle.p4_meaning.specs.Value.{width_of}
+use Rattle.p4_meaning.specs.Parts.{Cells}
 use Rattle.p4_tree.specs.declared.program.Register.{Register}
 
 -- the statements that set a control's variables

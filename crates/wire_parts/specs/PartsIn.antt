@@ -1,8 +1,8 @@
 -- The parts of a program, as a switch keeps them.
 use Rattle.std.specs.Prelude.{map}
 use Rattle.p4_tree.specs.View.{state_of, stmts_of}
-use Rattle.p4_tree.specs.Parts as parts
-use Rattle.p4_tree.specs.Parts.{whole}
+use Rattle.p4_meaning.specs.Parts as parts
+use Rattle.p4_meaning.specs.Parts.{whole}
 use Rattle.wire_parts.specs.Headers.{field_in, header_in}
 use Rattle.wire_parts.specs.Paths.{path_in}
 use Rattle.wire_parts.specs.declared.parts.Body as code_body

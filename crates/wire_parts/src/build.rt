@@ -3,9 +3,9 @@
 ghost use Rattle.std.specs.Prelude.{◌≡◌, ◌++◌, ◌∷◌, [], IfOk, OnOk, Some, map};
 ghost use Rattle.std.specs.Option.{option_map};
 ghost use Rattle.p4_tree.specs.Tree.{var};
-ghost use Rattle.p4_tree.specs.Standard.{headers_root};
+ghost use Rattle.p4_meaning.specs.Standard.{headers_root};
 ghost use Rattle.p4_tree.specs.View.{top_of, expr_of, stmt_of, stmts_of, control_of, parser_of, state_of, arg_of, local_of, program_of};
-ghost use Rattle.p4_tree.specs.Parts.{field_of, header_of, registers_of, body_of, states_of, emitted, emits_of, parser_type, control_in, parser_in, parts_of, settings_of, stmt_under, stmts_under};
+ghost use Rattle.p4_meaning.specs.Parts.{field_of, header_of, registers_of, body_of, states_of, emitted, emits_of, parser_type, control_in, parser_in, parts_of, settings_of, stmt_under, stmts_under};
 ghost use Rattle.wire_parts.specs.Headers.{field_in, header_in};
 ghost use Rattle.wire_parts.specs.Lent.{lent, roots_in};
 ghost use Rattle.wire_parts.specs.Paths.{path_in};

@@ -2,8 +2,8 @@
 
 ghost use Rattle.std.specs.Prelude.{◌≡◌, ◌∷◌, ◌++◌, [], map};
 ghost use Rattle.lex_text.specs.Names.{same_path};
-ghost use Rattle.p4_tree.specs.Standard.{metadata_root, standard_root, standard_paths, is_assignable};
-ghost use Rattle.p4_tree.specs.Pass.{is_field_of, is_header_field, is_one_path, is_declared_path, is_declared_header};
+ghost use Rattle.p4_meaning.specs.Standard.{metadata_root, standard_root, standard_paths, is_assignable};
+ghost use Rattle.p4_meaning.specs.Pass.{is_field_of, is_header_field, is_one_path, is_declared_path, is_declared_header};
 ghost use Rattle.wire_parts.specs.Headers.{field_in, header_in};
 ghost use Rattle.wire_parts.specs.PartsIn.{parts_in};
 

@@ -3,7 +3,7 @@
 ghost use Rattle.std.specs.Prelude.{◌≡◌, map, [], Option};
 ghost use Rattle.std.specs.Option.{option_map};
 ghost use Rattle.p4_tree.specs.View.{top_of, parser_of, control_of};
-ghost use Rattle.p4_tree.specs.Parts.{parser_named, control_named, struct_fields, header_fields, named_in};
+ghost use Rattle.p4_meaning.specs.Parts.{parser_named, control_named, struct_fields, header_fields, named_in};
 ghost use Rattle.wire_parts.specs.Lent.{lent};
 
 use crate::names::same_text;

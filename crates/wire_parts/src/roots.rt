@@ -1,7 +1,7 @@
 //! The names that a parser or control gives to its parameters.
 
 ghost use Rattle.std.specs.Prelude.{◌≡◌, ◌++◌, IfOk, OnOk};
-ghost use Rattle.p4_tree.specs.Parts.{root_of, path_under, param_at, param_name, param_type, type_name, roots_of};
+ghost use Rattle.p4_meaning.specs.Parts.{root_of, path_under, param_at, param_name, param_type, type_name, roots_of};
 ghost use Rattle.wire_parts.specs.Lent.{roots_in, lent};
 
 use crate::names::same_text;

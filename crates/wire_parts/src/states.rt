@@ -2,7 +2,7 @@
 
 ghost use Rattle.std.specs.Prelude.{◌≡◌, IfOk, map};
 ghost use Rattle.p4_tree.specs.View.{stmt_of, keyset_of, case_of, transition_of, state_of};
-ghost use Rattle.p4_tree.specs.Parts.{stmt_under, keyset_under, case_under, transition_under, state_under};
+ghost use Rattle.p4_meaning.specs.Parts.{stmt_under, keyset_under, case_under, transition_under, state_under};
 ghost use Rattle.wire_parts.specs.Lent.{roots_in};
 
 use crate::roots::Roots;

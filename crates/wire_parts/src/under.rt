@@ -3,7 +3,7 @@
 ghost use Rattle.std.specs.Prelude.{◌≡◌, IfOk, map};
 ghost use Rattle.std.specs.Option.{option_map};
 ghost use Rattle.p4_tree.specs.View.{expr_of, arg_of, stmt_of, else_of, stmts_of};
-ghost use Rattle.p4_tree.specs.Parts.{expr_under, arg_under, stmt_under, else_under, stmts_under};
+ghost use Rattle.p4_meaning.specs.Parts.{expr_under, arg_under, stmt_under, else_under, stmts_under};
 ghost use Rattle.wire_parts.specs.Lent.{roots_in};
 
 use crate::roots::{Roots, path_under};

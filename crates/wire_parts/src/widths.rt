@@ -1,7 +1,7 @@
 //! Widths of types.
 
 ghost use Rattle.std.specs.Prelude.{◌≡◌};
-ghost use Rattle.p4_tree.specs.Value.{width_of};
+ghost use Rattle.p4_meaning.specs.Value.{width_of};
 
 use p4_tree::PTy;
 

@@ -7,9 +7,9 @@ use Rattle.std.proofs.Math.Seq.{drop-cons, take-suc, take-suc-set}
 use Rattle.bit_values.specs.Bits.{Word, word}
 use Rattle.lex_text.specs.Names.{same_path}
 use Rattle.lex_text.specs.Names.{parent}
-use Rattle.p4_tree.specs.Store.{Store, zero_of, zeroed}
-use Rattle.p4_tree.specs.Parts.{Parts}
-use Rattle.p4_tree.specs.Pass.{is_declared_path, is_declared_header, declared}
+use Rattle.p4_meaning.specs.Store.{Store, zero_of, zeroed}
+use Rattle.p4_meaning.specs.Parts.{Parts}
+use Rattle.p4_meaning.specs.Pass.{is_declared_path, is_declared_header, declared}
 use Rattle.wire_statements.specs.Fields.{Key, look, value_in, header_in, put_in, zero_under, at_key}
 
 pub path_decides : (p q : List (List ℕ)) → Decides (same_path p q) (p ≡ q)

@@ -5,7 +5,7 @@ use Rattle.std.specs.Prelude.{slice_set}
 use Rattle.std.specs.Global.{Vec}
 use Rattle.bit_values.specs.Bits.{Word}
 use Rattle.lex_text.specs.Names.{same_text}
-use Rattle.p4_tree.specs.Statements.{put_cells, cell_set}
+use Rattle.p4_meaning.specs.Statements.{put_cells, cell_set}
 use Rattle.wire_statements.specs.Runs.{Rows, cells_in, place_in}
 
 pub text_decides : (x y : List ℕ) → Decides (same_text x y) (x ≡ y)

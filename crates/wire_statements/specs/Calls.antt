@@ -2,8 +2,8 @@
 -- a checksum byte by byte.
 use Rattle.std.specs.Prelude.{◌≡◌, ℕ, List, [], ◌∷◌, Bool, Option, Some, None}
 use Rattle.p4_tree.specs.Tree.{Expr, path, Arg, one}
-use Rattle.p4_tree.specs.Checksum.{bytes_sum}
-use Rattle.p4_tree.specs.Statements.{Act, sums, idle, no_calls, done_by}
+use Rattle.p4_meaning.specs.Checksum.{bytes_sum}
+use Rattle.p4_meaning.specs.Statements.{Act, sums, idle, no_calls, done_by}
 use Rattle.wire_statements.specs.Runs.{run_of}
 use Rattle.wire_statements.specs.declared.run.Run as code_run
 

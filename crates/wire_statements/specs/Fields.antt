@@ -3,7 +3,7 @@ use Rattle.std.specs.Prelude.{ℕ, List, [], ◌∷◌, Bool, true, false, Optio
 use Rattle.std.specs.Global.{Vec}
 use Rattle.bit_values.specs.Bits.{Word, word}
 use Rattle.lex_text.specs.Names.{same_path, parent}
-use Rattle.p4_tree.specs.Store.{Store, zero_of}
+use Rattle.p4_meaning.specs.Store.{Store, zero_of}
 use Rattle.wire_statements.specs.declared.fields.Fields.{Fields}
 
 -- a path, as the lists keep it

@@ -3,7 +3,7 @@ use Rattle.std.specs.Prelude.{ℕ, suc, List, [], ◌∷◌, map, if◌then◌el
 use Rattle.std.specs.Global.{Vec}
 use Rattle.bit_values.specs.Bits.{Word}
 use Rattle.lex_text.specs.Names.{same_text}
-use Rattle.p4_tree.specs.Statements as meaning
+use Rattle.p4_meaning.specs.Statements as meaning
 use Rattle.wire_statements.specs.Fields.{store_of}
 use Rattle.wire_statements.specs.declared.run.Digest as code_digest
 use Rattle.wire_statements.specs.declared.run.Run as code_run

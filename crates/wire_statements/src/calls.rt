@@ -2,11 +2,11 @@
 
 ghost use Rattle.std.specs.Prelude.{◌≡◌, ◌∷◌, [], OnOk, IfOk, map, take};
 ghost use Rattle.p4_tree.specs.View.{arg_of, expr_of};
-ghost use Rattle.p4_tree.specs.Standard.{standard_root};
-ghost use Rattle.p4_tree.specs.Store.{made};
-ghost use Rattle.p4_tree.specs.Statements.{assigned, index_of, act_of, act_named, act_on, act_on_header, drops, reads, tells, sums, sum_of, read_of, write_of, digest_of, receiver_of, verified, updated};
+ghost use Rattle.p4_meaning.specs.Standard.{standard_root};
+ghost use Rattle.p4_meaning.specs.Store.{made};
+ghost use Rattle.p4_meaning.specs.Statements.{assigned, index_of, act_of, act_named, act_on, act_on_header, drops, reads, tells, sums, sum_of, read_of, write_of, digest_of, receiver_of, verified, updated};
 ghost use Rattle.wire_statements.specs.Fields.{store_of};
-ghost use Rattle.p4_tree.specs.Value.{value_of};
+ghost use Rattle.p4_meaning.specs.Value.{value_of};
 ghost use Rattle.wire_statements.specs.Runs.{run_of};
 ghost use Rattle.wire_statements.specs.Calls.{Does, sum_at, sum_behind};
 

@@ -4,7 +4,7 @@ ghost use Rattle.std.specs.Prelude.{◌≡◌, ℕ, List, ◌∷◌, ◌+◌, �
 ghost use Rattle.bit_writer.specs.Bytes.{words_bits};
 ghost use Rattle.bit_writer.specs.Written.{bits_in};
 ghost use Rattle.p4_tree.specs.View.{expr_of};
-ghost use Rattle.p4_tree.specs.Checksum.{ones_sum, bytes_sum, checksum_of, list_checksum};
+ghost use Rattle.p4_meaning.specs.Checksum.{ones_sum, bytes_sum, checksum_of, list_checksum};
 ghost use Rattle.wire_statements.specs.Calls.{sum_from};
 ghost use Rattle.wire_statements.specs.Fields.{store_of};
 

@@ -5,8 +5,8 @@ ghost use Rattle.std.specs.Option.{option_map};
 ghost use Rattle.bit_values.specs.Bits.{word};
 ghost use Rattle.bit_values.specs.Widths.{holds, sound_width, cast_word};
 ghost use Rattle.p4_tree.specs.View.{expr_of};
-ghost use Rattle.p4_tree.specs.Value.{own_width, value_of, error_of, negated};
-ghost use Rattle.p4_tree.specs.Statements.{start_of};
+ghost use Rattle.p4_meaning.specs.Value.{own_width, value_of, error_of, negated};
+ghost use Rattle.p4_meaning.specs.Statements.{start_of};
 ghost use Rattle.wire_statements.specs.Fields.{store_of};
 
 use crate::fields::Fields;

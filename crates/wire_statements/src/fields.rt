@@ -2,8 +2,8 @@
 
 ghost use Rattle.std.specs.Prelude.{◌≡◌, ◌∷◌, ◌++◌, [], false, IfOk, OnOk, map, filter};
 ghost use Rattle.lex_text.specs.Names.{parent};
-ghost use Rattle.p4_tree.specs.Store.{blank, read, set_value, set_valid, zero_of, zeroed, write};
-ghost use Rattle.p4_tree.specs.Pass.{declared, is_declared_path, is_declared_header};
+ghost use Rattle.p4_meaning.specs.Store.{blank, read, set_value, set_valid, zero_of, zeroed, write};
+ghost use Rattle.p4_meaning.specs.Pass.{declared, is_declared_path, is_declared_header};
 ghost use Rattle.wire_parts.specs.Headers as parts;
 ghost use Rattle.wire_parts.specs.PartsIn.{parts_in};
 ghost use Rattle.wire_statements.specs.Fields.{store_of, value_in, header_in, put_in, zero_under, at_key};

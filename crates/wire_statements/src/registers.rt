@@ -2,8 +2,8 @@
 
 ghost use Rattle.std.specs.Prelude.{◌≡◌, get_or};
 ghost use Rattle.bit_values.specs.Bits.{word};
-ghost use Rattle.p4_tree.specs.Store.{zero_of};
-ghost use Rattle.p4_tree.specs.Statements.{cell_at, cell_set, put_cells};
+ghost use Rattle.p4_meaning.specs.Store.{zero_of};
+ghost use Rattle.p4_meaning.specs.Statements.{cell_at, cell_set, put_cells};
 ghost use Rattle.wire_statements.specs.Runs.{cells_in, place_in};
 
 use crate::fields::zero_of;

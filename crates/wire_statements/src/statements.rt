@@ -3,8 +3,8 @@
 ghost use Rattle.std.specs.Prelude.{◌≡◌, not, IfOk};
 ghost use Rattle.std.specs.Option.{option_map};
 ghost use Rattle.p4_tree.specs.View.{expr_of, stmt_of, else_of, stmts_of};
-ghost use Rattle.p4_tree.specs.Statements.{Go, no_calls, application, tested, meaning_of_stmt, meaning_of_else, meaning_of};
-ghost use Rattle.p4_tree.specs.Parts.{whole};
+ghost use Rattle.p4_meaning.specs.Statements.{Go, no_calls, application, tested, meaning_of_stmt, meaning_of_else, meaning_of};
+ghost use Rattle.p4_meaning.specs.Parts.{whole};
 ghost use Rattle.wire_parts.specs.PartsIn.{body_in};
 ghost use Rattle.wire_statements.specs.Runs.{run_of, flow_of};
 

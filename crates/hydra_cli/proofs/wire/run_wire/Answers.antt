@@ -1,7 +1,7 @@
 -- The files and the summary are those of the run.
 use Rattle.std.proofs.Common.{List, ℕ, ◌++◌, ap₂, sym, subst, string_bytes, ◌∙◌}
 use Rattle.hydra_cli.specs.Job.{typed_of}
-use Rattle.p4_tree.specs.Parts.{parts_of}
+use Rattle.p4_meaning.specs.Parts.{parts_of}
 use Rattle.wire_linkage.specs.Line.{program_at, run_of_frame}
 use Rattle.wire_linkage.specs.Ways.{ShowsWay}
 use Rattle.wire_linkage.proofs.Theorem.{wire_linked}

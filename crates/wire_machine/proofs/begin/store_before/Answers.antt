@@ -1,7 +1,7 @@
 use Rattle.std.proofs.Common.{ℕ, List, [], ◌∷◌, map, ap, ◌∙◌}
-use Rattle.p4_tree.specs.Standard.{metadata_root}
-use Rattle.p4_tree.specs.Store.{Store}
-use Rattle.p4_tree.specs.Pass.{zero_fields, no_headers, with_standard}
+use Rattle.p4_meaning.specs.Standard.{metadata_root}
+use Rattle.p4_meaning.specs.Store.{Store}
+use Rattle.p4_meaning.specs.Pass.{zero_fields, no_headers, with_standard}
 use Rattle.wire_parts.specs.Headers.{field_in, header_in}
 use Rattle.wire_statements.specs.Fields.{store_of}
 use Rattle.wire_machine.proofs.begin.store_before.Goals as goal

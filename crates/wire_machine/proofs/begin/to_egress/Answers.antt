@@ -1,7 +1,7 @@
 use Rattle.std.proofs.Common.{ℕ, ap, ap₂, ◌∙◌}
 use Rattle.bit_values.specs.Bits.{Word, word, cast}
-use Rattle.p4_tree.specs.Standard.{egress_spec, egress_port}
-use Rattle.p4_tree.specs.Store.{Store, set_value}
+use Rattle.p4_meaning.specs.Standard.{egress_spec, egress_port}
+use Rattle.p4_meaning.specs.Store.{Store, set_value}
 use Rattle.wire_machine.proofs.begin.to_egress.Goals as goal
 
 pub returns : goal.returns

@@ -1,8 +1,8 @@
 use Rattle.std.proofs.Common.{ap, ◌∙◌}
 use Rattle.bit_values.specs.Bits.{word, cast}
-use Rattle.p4_tree.specs.Standard.{egress_spec, egress_port, packet_length, checksum_error}
-use Rattle.p4_tree.specs.Standard.{parser_error}
-use Rattle.p4_tree.specs.Store.{Store, set_value}
+use Rattle.p4_meaning.specs.Standard.{egress_spec, egress_port, packet_length, checksum_error}
+use Rattle.p4_meaning.specs.Standard.{parser_error}
+use Rattle.p4_meaning.specs.Store.{Store, set_value}
 use Rattle.wire_machine.proofs.begin.with_standard.Goals as goal
 
 pub returns : goal.returns

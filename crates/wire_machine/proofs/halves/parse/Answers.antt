@@ -2,10 +2,10 @@ use Rattle.std.proofs.Common.{◌≡◌, ◌+◌, suc, length, map, ap, ◌∙�
 use Rattle.std.proofs.lemmas.List.{length-map}
 use Rattle.bit_values.specs.Bits.{word}
 use Rattle.p4_tree.specs.View.{state_of}
-use Rattle.p4_tree.specs.Standard.{parser_error}
-use Rattle.p4_tree.specs.Store.{set_value}
-use Rattle.p4_tree.specs.Parsing.{ParserEnd, parser_end}
-use Rattle.p4_tree.specs.Pass.{store_behind}
+use Rattle.p4_meaning.specs.Standard.{parser_error}
+use Rattle.p4_meaning.specs.Store.{set_value}
+use Rattle.p4_meaning.specs.Parsing.{ParserEnd, parser_end}
+use Rattle.p4_meaning.specs.Pass.{store_behind}
 use Rattle.wire_parts.specs.Headers.{header_in}
 use Rattle.wire_parts.specs.PartsIn.{parts_in}
 use Rattle.wire_statements.specs.Fields.{store_of}

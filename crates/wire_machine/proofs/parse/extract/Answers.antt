@@ -1,8 +1,8 @@
 use Rattle.std.proofs.Common.{ap, ◌∙◌, sym, arith, ◌≤◌, ◌<◌, length, map, drop, true}
 use Rattle.std.proofs.lemmas.Bool.{lt-ltb, le-ltb, leb-true, leb-false}
 use Rattle.bit_values.specs.Bytes.{bits_of}
-use Rattle.p4_tree.specs.Store.{Store, set_valid}
-use Rattle.p4_tree.specs.Parsing.{Reading, width_sum, goes_on, with_valid, fields_taken}
+use Rattle.p4_meaning.specs.Store.{Store, set_valid}
+use Rattle.p4_meaning.specs.Parsing.{Reading, width_sum, goes_on, with_valid, fields_taken}
 use Rattle.wire_parts.specs.Headers.{field_in, header_in}
 use Rattle.wire_statements.specs.Fields.{store_of}
 use Rattle.wire_machine.specs.Places.{reading_of}

@@ -1,5 +1,5 @@
 use Rattle.std.proofs.Common.{◌++◌, ◌∷◌, [], ap, ◌∙◌}
-use Rattle.p4_tree.specs.Store.{set_value}
+use Rattle.p4_meaning.specs.Store.{set_value}
 use Rattle.wire_statements.specs.Fields.{store_of}
 use Rattle.wire_parts.specs.Headers.{field_in}
 use Rattle.wire_machine.proofs.ParseLemmas.{taken}

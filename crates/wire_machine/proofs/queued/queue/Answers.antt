@@ -1,7 +1,7 @@
 use Rattle.std.proofs.Common.{ℕ, List, Some, drop, ap, ap₂, sym, ◌∙◌}
 use Rattle.bit_values.specs.Bytes.{bits_of}
-use Rattle.p4_tree.specs.Store.{Store}
-use Rattle.p4_tree.specs.Pass.{Queued, to_egress, unless_dropped}
+use Rattle.p4_meaning.specs.Store.{Store}
+use Rattle.p4_meaning.specs.Pass.{Queued, to_egress, unless_dropped}
 use Rattle.wire_parts.specs.PartsIn.{parts_in}
 use Rattle.wire_statements.specs.Fields.{store_of}
 use Rattle.wire_machine.proofs.queued.queue.Goals as goal

@@ -1,6 +1,6 @@
 use Rattle.std.proofs.Common.{ap, ◌∙◌, map}
 use Rattle.p4_tree.specs.View.{case_of}
-use Rattle.p4_tree.specs.Parsing.{chosen, first_fit}
+use Rattle.p4_meaning.specs.Parsing.{chosen, first_fit}
 use Rattle.wire_statements.specs.Fields.{store_of}
 use Rattle.wire_machine.proofs.select.selected.Goals as goal
 

@@ -1,6 +1,6 @@
 use Rattle.std.proofs.Common.{◌≡◌, ◌-◌, ◌*◌, ◌≤◌, length, map}
 use Rattle.p4_tree.specs.View.{state_of}
-use Rattle.p4_tree.specs.Parsing.{turns_of}
+use Rattle.p4_meaning.specs.Parsing.{turns_of}
 use Rattle.wire_parts.specs.Headers.{header_in}
 use Rattle.wire_machine.specs.Left.{states_in}
 use Rattle.wire_machine.specs.Places.{reading_of}

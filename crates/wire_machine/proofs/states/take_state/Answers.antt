@@ -1,6 +1,6 @@
 use Rattle.std.proofs.Common.{◌≡◌, ◌<◌, length, get_or, ap, sym, ◌∙◌, arith, rules, Bor}
 use Rattle.lex_text.specs.Names.{same_text}
-use Rattle.p4_tree.specs.Parsing.{found_state}
+use Rattle.p4_meaning.specs.Parsing.{found_state}
 use Rattle.p4_tree.specs.View.{state_of}
 use Rattle.p4_tree.specs.declared.program.ParserState as code_state
 use Rattle.wire_machine.specs.Left.{states_in}

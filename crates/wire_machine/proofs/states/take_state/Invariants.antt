@@ -1,5 +1,5 @@
 use Rattle.std.proofs.Common.{◌≡◌, take, drop}
-use Rattle.p4_tree.specs.Parsing.{found_state}
+use Rattle.p4_meaning.specs.Parsing.{found_state}
 use Rattle.wire_machine.specs.Left.{states_in}
 use Rattle.wire_machine.proofs.LeftLemmas.{behind}
 use Rattle.wire_machine.proofs.states.take_state.Given as goal

@@ -1,5 +1,5 @@
 use Rattle.std.proofs.Common.{◌≡◌}
-use Rattle.p4_tree.specs.Pass.{zero_cells}
+use Rattle.p4_meaning.specs.Pass.{zero_cells}
 use Rattle.wire_machine.proofs.switch.zero_cells.Given as goal
 
 abbrev pub invariant-loop-i : goal.invariant-loop-i

@@ -1,7 +1,7 @@
 use Rattle.std.proofs.Common.{◌++◌, ℕ, List, map, ap, ap₂, ◌∙◌}
 use Rattle.std.specs.Prelude.{slice_set}
 use Rattle.std.proofs.lemmas.List.{map-set}
-use Rattle.p4_tree.specs.Statements.{Digest}
+use Rattle.p4_meaning.specs.Statements.{Digest}
 use Rattle.wire_machine.specs.Machine.{Machine, machine_of}
 use Rattle.wire_network.specs.Travel.{Net, passage}
 use Rattle.wire_network.specs.Fates.{told_of}

@@ -1,5 +1,5 @@
 use Rattle.std.proofs.Common.{◌≡◌, map, take}
-use Rattle.p4_tree.specs.Parts.{field_of}
+use Rattle.p4_meaning.specs.Parts.{field_of}
 use Rattle.wire_parts.specs.Headers.{field_in}
 use Rattle.wire_parts.proofs.build.fields_of.Given as goal
 

@@ -1,6 +1,6 @@
 use Rattle.std.proofs.Common.{◌≡◌, map, take}
 use Rattle.p4_tree.specs.View.{top_of}
-use Rattle.p4_tree.specs.Parts.{header_of}
+use Rattle.p4_meaning.specs.Parts.{header_of}
 use Rattle.wire_parts.specs.Headers.{header_in}
 use Rattle.wire_parts.proofs.build.headers_of.Given as goal
 

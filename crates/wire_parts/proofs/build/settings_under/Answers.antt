@@ -1,7 +1,7 @@
 use Rattle.std.proofs.Common.{◌++◌, ap, ◌∙◌, map}
 use Rattle.p4_tree.specs.Tree.{stmts_from}
 use Rattle.p4_tree.specs.View.{stmt_of, local_of}
-use Rattle.p4_tree.specs.Parts.{stmt_under}
+use Rattle.p4_meaning.specs.Parts.{stmt_under}
 use Rattle.wire_parts.specs.Lent.{roots_in}
 use Rattle.wire_parts.specs.Locals.{settings}
 use Rattle.wire_parts.proofs.UnderLemmas.{settings-list}

@@ -1,6 +1,6 @@
 use Rattle.std.proofs.Common.{◌≡◌, map, take}
 use Rattle.p4_tree.specs.View.{case_of}
-use Rattle.p4_tree.specs.Parts.{case_under}
+use Rattle.p4_meaning.specs.Parts.{case_under}
 use Rattle.wire_parts.specs.Lent.{roots_in}
 use Rattle.wire_parts.proofs.states.cases_under.Given as goal
 

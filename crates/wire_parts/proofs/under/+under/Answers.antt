@@ -2,7 +2,7 @@ use Rattle.std.proofs.Common.{ap, ◌∙◌, map, arith}
 use Rattle.std.proofs.lemmas.List.{take_all}
 use Rattle.p4_tree.specs.Tree.{stmts_from}
 use Rattle.p4_tree.specs.View.{stmt_of}
-use Rattle.p4_tree.specs.Parts.{stmt_under}
+use Rattle.p4_meaning.specs.Parts.{stmt_under}
 use Rattle.wire_parts.specs.Lent.{roots_in}
 use Rattle.wire_parts.proofs.UnderLemmas.{under-list}
 use Rattle.wire_parts.proofs.under.+under.Goals as goal

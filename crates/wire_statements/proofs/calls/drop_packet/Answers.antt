@@ -1,6 +1,6 @@
 use Rattle.std.proofs.Common.{ap, ap₂, ◌∙◌}
-use Rattle.p4_tree.specs.Store.{write}
-use Rattle.p4_tree.specs.Statements.{in_store}
+use Rattle.p4_meaning.specs.Store.{write}
+use Rattle.p4_meaning.specs.Statements.{in_store}
 use Rattle.wire_statements.specs.Fields.{store_of}
 use Rattle.wire_statements.specs.Runs.{run_of}
 use Rattle.wire_statements.proofs.calls.drop_packet.Goals as goal

@@ -1,5 +1,5 @@
 use Rattle.std.proofs.Common.{◌≡◌, drop}
-use Rattle.p4_tree.specs.Checksum.{bytes_sum}
+use Rattle.p4_meaning.specs.Checksum.{bytes_sum}
 use Rattle.wire_statements.specs.Calls.{sum_from}
 use Rattle.wire_statements.proofs.checksum.bytes_sum.Given as goal
 

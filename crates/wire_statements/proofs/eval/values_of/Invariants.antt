@@ -1,6 +1,6 @@
 use Rattle.std.proofs.Common.{◌≡◌, map, take}
 use Rattle.p4_tree.specs.View.{expr_of}
-use Rattle.p4_tree.specs.Value.{value_of}
+use Rattle.p4_meaning.specs.Value.{value_of}
 use Rattle.wire_statements.specs.Fields.{store_of}
 use Rattle.wire_statements.proofs.eval.values_of.Given as goal
 

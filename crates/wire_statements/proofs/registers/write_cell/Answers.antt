@@ -1,7 +1,7 @@
 use Rattle.std.proofs.Common.{◌≡◌, ℕ, List, ap, ◌∙◌, arith}
 use Rattle.std.specs.Global.{Vec}
 use Rattle.bit_values.specs.Bits.{Word}
-use Rattle.p4_tree.specs.Statements.{cell_set}
+use Rattle.p4_meaning.specs.Statements.{cell_set}
 use Rattle.wire_statements.specs.Runs.{place_in}
 use Rattle.wire_statements.proofs.RegistersLemmas.{cells_written, none_written}
 use Rattle.wire_statements.proofs.registers.write_cell.Goals as goal

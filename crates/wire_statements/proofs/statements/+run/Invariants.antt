@@ -1,6 +1,6 @@
 use Rattle.std.proofs.Common.{◌≡◌, drop}
 use Rattle.p4_tree.specs.View.{stmts_of}
-use Rattle.p4_tree.specs.Statements.{no_calls, meaning_of}
+use Rattle.p4_meaning.specs.Statements.{no_calls, meaning_of}
 use Rattle.wire_statements.specs.Runs.{run_of}
 use Rattle.wire_statements.proofs.statements.+run.Given as goal
 

@@ -1,6 +1,6 @@
 use Rattle.std.proofs.Common.{◌≡◌, IfOk, ap, sym, ◌∙◌, subst}
 use Rattle.p4_tree.specs.View.{stmts_of}
-use Rattle.p4_tree.specs.Statements.{Flow, Go, Return, Exit, Ended, no_calls, meaning_of}
+use Rattle.p4_meaning.specs.Statements.{Flow, Go, Return, Exit, Ended, no_calls, meaning_of}
 use Rattle.wire_parts.specs.PartsIn.{body_in}
 use Rattle.wire_statements.specs.Runs.{run_of, flow_of}
 use Rattle.wire_statements.proofs.BodyLemmas.{body_ends}

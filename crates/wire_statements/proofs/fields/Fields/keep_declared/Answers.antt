@@ -1,5 +1,5 @@
 use Rattle.std.proofs.Common.{map, ap, ◌∙◌, filter}
-use Rattle.p4_tree.specs.Pass.{is_declared_header}
+use Rattle.p4_meaning.specs.Pass.{is_declared_header}
 use Rattle.wire_parts.specs.Headers as parts
 use Rattle.wire_parts.specs.PartsIn.{parts_in}
 use Rattle.wire_statements.specs.Fields.{at_key}

@@ -2,8 +2,8 @@
 ghost use Rattle.std.specs.Prelude.{◌≡◌, ℕ, suc, ◌<◌, List, Bool, length};
 ghost use Rattle.bit_values.specs.Bits.{Word};
 ghost use Rattle.p4_tree.specs.Tree.{ParserState};
-ghost use Rattle.p4_tree.specs.Parsing.{Header, Reading, turns_of};
-ghost use Rattle.p4_tree.specs.Choice.{Entry, IsChosen, IsChoice, rank_of, choice_of};
+ghost use Rattle.p4_meaning.specs.Parsing.{Header, Reading, turns_of};
+ghost use Rattle.p4_meaning.specs.Choice.{Entry, IsChosen, IsChoice, rank_of, choice_of};
 
 /// A parser's turns are never used up: where there are more turns than states, one more changes
 /// nothing. Each turn takes one state away, so no premise on the states is needed.

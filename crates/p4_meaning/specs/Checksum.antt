@@ -2,8 +2,8 @@
 -- it and `Statements` after it.
 use Rattle.std.specs.Prelude.{ℕ, ◌+◌, ◌*◌, ◌-◌, ◌/◌, ◌%◌, ◌^◌, List, [], ◌∷◌, map}
 use Rattle.p4_tree.specs.Tree.{Expr}
-use Rattle.p4_tree.specs.Store.{Store}
-use Rattle.p4_tree.specs.Value.{value_of}
+use Rattle.p4_meaning.specs.Store.{Store}
+use Rattle.p4_meaning.specs.Value.{value_of}
 use Rattle.bit_writer.specs.Bytes.{words_bits, bytes_of}
 
 -- the one's complement sum of two numbers of 16 bits: what goes over is added at the lowest bit

@@ -1,7 +1,7 @@
 -- Statements behind others.
 use Rattle.std.proofs.Common.{◌≡◌, refl, ap, ◌∙◌}
 use Rattle.p4_tree.specs.Tree.{Stmts, done, next, and_then}
-use Rattle.p4_tree.specs.Statements.{Flow, Go, Return, Exit, Run, Ended, after, Calls, meaning_of_stmt, meaning_of}
+use Rattle.p4_meaning.specs.Statements.{Flow, Go, Return, Exit, Run, Ended, after, Calls, meaning_of_stmt, meaning_of}
 
 after_after : (fl : Flow) (r : Run) (g : Run → Ended) (k : Run → Ended) → after fl r (λ q. after (g q).1 (g q).0 k) ≡ after (after fl r g).1 (after fl r g).0 k
 after_after Go r g k = refl

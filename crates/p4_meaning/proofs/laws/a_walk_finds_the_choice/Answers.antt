@@ -1,5 +1,5 @@
-use Rattle.p4_tree.proofs.Choices.{choice_is, one_rank}
-use Rattle.p4_tree.proofs.laws.a_walk_finds_the_choice.Goals as goal
+use Rattle.p4_meaning.proofs.Choices.{choice_is, one_rank}
+use Rattle.p4_meaning.proofs.laws.a_walk_finds_the_choice.Goals as goal
 
 pub returns-clause-choice : goal.returns-clause-choice
 returns-clause-choice c = λ t entries keys. choice_is t keys entries

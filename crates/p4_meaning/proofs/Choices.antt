@@ -4,7 +4,7 @@ use Rattle.std.proofs.lemmas.Bool.Decides.{nat_tests}
 use Rattle.std.specs.Prelude.{nat_lt, slice_index_or}
 use Rattle.std.specs.List.{AllByRecursion, Contains}
 use Rattle.bit_values.specs.Bits.{Word}
-use Rattle.p4_tree.specs.Choice.{Entry, fits_keys, rank_of, IsChosen, IsChoice, higher, choice_of}
+use Rattle.p4_meaning.specs.Choice.{Entry, fits_keys, rank_of, IsChosen, IsChoice, higher, choice_of}
 
 -- an entry is also one of more entries
 behind : (e f : Entry) (es : List Entry) → Contains es f → Contains (e ∷ es) f
