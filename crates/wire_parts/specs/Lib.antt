@@ -5,3 +5,4 @@ pub mod PartsIn
 pub mod Scopes
 -- What serves the proof.
 pub mod Lent
+pub mod Locals

@@ -2,9 +2,9 @@
 
 ghost use Rattle.std.specs.Prelude.{◌≡◌, ◌++◌, IfOk, OnOk, map};
 ghost use Rattle.std.specs.Option.{option_map};
-ghost use Rattle.p4_tree.specs.View.{action_of, arg_of, expr_of, local_of, top_of};
+ghost use Rattle.p4_tree.specs.View.{action_of, arg_of, control_of, expr_of, local_of, top_of};
 ghost use Rattle.p4_meaning.specs.Statements.{values_in};
-ghost use Rattle.p4_meaning.specs.Under.{no_scope};
+ghost use Rattle.p4_meaning.specs.Under.{in_control, no_scope};
 ghost use Rattle.p4_meaning.specs.Actions.{param_under, action_under, actions_in, actions_of, action_named, params_of, args_of};
 ghost use Rattle.wire_parts.specs.Lent.{lent};
 ghost use Rattle.wire_parts.specs.PartsIn.{action_in, param_in};
@@ -16,7 +16,7 @@ use crate::scope::{Scope, first_name, full_name, width_under};
 use crate::under::stmts_under;
 use bit_values::Bits;
 use lex_text::Name;
-use p4_tree::{Arg, Expr, Local, PTy, Top};
+use p4_tree::{Arg, Control, Expr, Local, PTy, Top};
 use p4_values::{Sight, same_text, value_of};
 use std::alloc::{AllocError, Global};
 
@@ -74,6 +74,19 @@ fn push_actions_in(
     Ok(())
 }
 
+/// The actions of a control go behind those that are there.
+fn push_actions_of(
+    alloc: Global,
+    sc: &Scope,
+    control: &Control,
+    actions: &mut Vec<Action>,
+) -> Result<(), AllocError>
+    ensures { OnOk result (map action_in actions.new.items ≡ map action_in actions.old.items ++ actions_in (in_control 0 1 2 (scope_of sc.now) (control_of control.now)) (control_of control.now).locals) }
+{
+    let mut inner = in_control(alloc, 0, 1, 2, sc, control)?;
+    push_actions_in(alloc, &mut inner, &control.locals, actions)
+}
+
 /// The actions of a program, in the order of the text.
 pub fn actions_of(alloc: Global, tops: &[Top]) -> Result<Vec<Action>, AllocError>
     ensures { IfOk result (λ v. map action_in v.items ≡ actions_of no_scope (map top_of tops.now)) }
@@ -82,10 +95,7 @@ pub fn actions_of(alloc: Global, tops: &[Top]) -> Result<Vec<Action>, AllocError
     let mut actions = Vec::new(alloc);
     for top in tops {
         match top {
-            Top::Ctl(_, c) => {
-                let mut inner = in_control(alloc, 0, 1, 2, &sc, c)?;
-                push_actions_in(alloc, &mut inner, &c.locals, &mut actions)?;
-            }
+            Top::Ctl(_, c) => push_actions_of(alloc, &sc, c, &mut actions)?,
             Top::Const(_, _, _, _) => pass_top(alloc, &mut sc, top)?,
             Top::Typedef(_, _, _) => pass_top(alloc, &mut sc, top)?,
             Top::Header(_, _, _) => pass_top(alloc, &mut sc, top)?,
@@ -139,7 +149,6 @@ pub fn words_of<S: Sight>(
 }
 
 /// The words of a call's arguments, each taken at the width of its parameter.
-#[tactic(auto, using(crate::proofs::ActionsLemmas::no_args))]
 pub fn args_of<S: Sight>(
     alloc: Global,
     params: &[Taken],

@@ -1,9 +1,9 @@
 //! Headers, metadata and registers of a program.
 
 ghost use Rattle.std.specs.Prelude.{◌≡◌, ◌++◌, ◌∷◌, [], reverse, IfOk, OnOk, map};
-ghost use Rattle.p4_tree.specs.View.{top_of, local_of};
+ghost use Rattle.p4_tree.specs.View.{control_of, local_of, top_of};
 ghost use Rattle.p4_meaning.specs.Parts.{field_of, cells_under, registers_in, registers_of};
-ghost use Rattle.p4_meaning.specs.Under.{no_scope};
+ghost use Rattle.p4_meaning.specs.Under.{in_control, no_scope};
 ghost use Rattle.wire_parts.specs.Headers.{field_in, header_in, header_with};
 ghost use Rattle.wire_parts.specs.PartsIn.{cells_decl};
 ghost use Rattle.wire_parts.specs.Scopes.{scope_of};
@@ -15,7 +15,7 @@ use crate::parts::Cells;
 use crate::scope::{Scope, full_name, width_under};
 use bit_values::sound_width;
 use lex_text::Name;
-use p4_tree::{Local, PTy, Register, Top};
+use p4_tree::{Control, Local, PTy, Register, Top};
 use p4_values::path_of_two;
 use std::alloc::{AllocError, Global};
 
@@ -104,6 +104,19 @@ fn push_registers_in(
     Ok(())
 }
 
+/// The registers of a control go behind those that are there.
+fn push_registers_of(
+    alloc: Global,
+    sc: &Scope,
+    control: &Control,
+    registers: &mut Vec<Cells>,
+) -> Result<(), AllocError>
+    ensures { OnOk result (map cells_decl registers.new.items ≡ map cells_decl registers.old.items ++ registers_in (in_control 0 1 2 (scope_of sc.now) (control_of control.now)) (control_of control.now).locals) }
+{
+    let inner = in_control(alloc, 0, 1, 2, sc, control)?;
+    push_registers_in(alloc, &inner, &control.locals, registers)
+}
+
 /// The registers of a program.
 pub fn registers_of(alloc: Global, tops: &[Top]) -> Result<Vec<Cells>, AllocError>
     ensures { IfOk result (λ v. map cells_decl v.items ≡ registers_of no_scope (map top_of tops.now)) }
@@ -113,10 +126,7 @@ pub fn registers_of(alloc: Global, tops: &[Top]) -> Result<Vec<Cells>, AllocErro
     for top in tops {
         match top {
             Top::Reg(_, r) => registers.push(cells_under(alloc, &sc, r)?)?,
-            Top::Ctl(_, c) => {
-                let inner = in_control(alloc, 0, 1, 2, &sc, c)?;
-                push_registers_in(alloc, &inner, &c.locals, &mut registers)?;
-            }
+            Top::Ctl(_, c) => push_registers_of(alloc, &sc, c, &mut registers)?,
             Top::Const(_, _, _, _) => pass_top(alloc, &mut sc, top)?,
             Top::Typedef(_, _, _) => pass_top(alloc, &mut sc, top)?,
             Top::Header(_, _, _) => pass_top(alloc, &mut sc, top)?,

@@ -32,6 +32,11 @@ abbrev pub held_in : List (List ℕ × code_entries.Entries) → Tables
 held_in [] x = nothing_held
 held_in (e ∷ es) x = if same_text e.0 x then entries_of e.1 else held_in es x
 
+-- what is held of a table that may be there
+abbrev pub held_or : Option code_entries.Entries → Entries
+held_or None = nothing_held
+held_or (Some e) = entries_of e
+
 -- the default that is given, and else the one that was there
 abbrev pub default_or : Option code_chosen.Chosen → Chosen → Chosen
 default_or None c = c
