@@ -4,3 +4,4 @@ pub mod SwitchLemmas
 pub mod HalvesLemmas
 pub mod PassLemmas
 pub mod HeldLemmas
+pub mod SelectLemmas

@@ -40,7 +40,10 @@ fn fits_each(sets: &[Keyset], keys: &[Bits], s: &Fields) -> bool
             return false;
         }
     }
-    keys.len() <= sets.len()
+    if sets.len() < keys.len() {
+        return false;
+    }
+    true
 }
 
 fn fits_all(sets: &[Keyset], keys: &[Bits], s: &Fields) -> bool

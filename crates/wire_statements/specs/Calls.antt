@@ -5,14 +5,14 @@ use Rattle.p4_tree.specs.Tree.{Expr, path, Arg, one}
 use Rattle.p4_meaning.specs.Checksum.{bytes_sum}
 use Rattle.bit_values.specs.Bits.{Word, word}
 use Rattle.bit_values.specs.Widths.{sound_width, cast_word}
-use Rattle.p4_meaning.specs.Statements.{Act, Calls, Go, sums, idle, done_by}
-use Rattle.wire_statements.specs.Runs.{ended, run_of}
+use Rattle.p4_meaning.specs.Statements.{Act, sums, idle, no_calls, done_by}
+use Rattle.wire_statements.specs.Runs.{run_of}
 use Rattle.wire_statements.specs.declared.statements.Asked as code_asked
 use Rattle.wire_statements.specs.declared.run.Run as code_run
 
--- the run behind an act is what the act makes of the run before, and what follows goes on, whatever calls do
+-- the run behind an act is what the act makes of the run before
 abbrev pub Does : Act → (before behind : code_run.Run) → Type 0
-Does act before behind = (calls : Calls) → ended (run_of behind) Go ≡ done_by calls act (run_of before)
+Does act before behind = run_of behind ≡ (done_by no_calls act (run_of before)).0
 
 -- a checksum of a field, where that is a path
 abbrev pub sum_at : Bool → Expr → List Expr → Expr → Act

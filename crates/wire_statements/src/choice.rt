@@ -39,7 +39,10 @@ fn fits_keys(list: &[Match], keys: &[Bits]) -> bool
             return false;
         }
     }
-    keys.len() <= list.len()
+    if list.len() < keys.len() {
+        return false;
+    }
+    true
 }
 
 /// The bits of an entry's prefix.

@@ -2,7 +2,7 @@
 
 ghost use Rattle.std.specs.Prelude.{◌≡◌, IfOk, map};
 ghost use Rattle.p4_tree.specs.View.{arg_of};
-ghost use Rattle.p4_meaning.specs.Statements.{act_of, act_named, act_on, act_on_header, applies, done_by};
+ghost use Rattle.p4_meaning.specs.Statements.{act_of, act_named, act_on, act_on_header, applies, digest_of, done_by, drops, read_of, sum_of, write_of};
 ghost use Rattle.wire_statements.specs.Runs.{ended, flow_of, run_of};
 
 use crate::acts::{call_on_header, drop_packet, read_register, tell, write_register};
@@ -14,68 +14,70 @@ use p4_tree::Arg;
 use p4_values::{parent, same_text};
 use std::alloc::{AllocError, Global};
 
-/// A call by one name.
-fn call_named<C: Calls>(
+/// mark_to_drop, as a statement.
+fn on_drop<C: Calls>(
+    alloc: Global,
+    calls: &C,
+    r: &mut Run,
+) -> Result<Flow, AllocError>
+    ensures { IfOk result (λ flow. ended (run_of r.new) (flow_of flow) ≡ done_by (C.means calls.now) (drops) (run_of r.old)) }
+{
+    drop_packet(alloc, r)?;
+    Ok(Flow::Go)
+}
+
+/// A digest, as a statement.
+fn on_digest<C: Calls>(
+    alloc: Global,
+    calls: &C,
+    args: &[Arg],
+    r: &mut Run,
+) -> Result<Flow, AllocError>
+    ensures { IfOk result (λ flow. ended (run_of r.new) (flow_of flow) ≡ done_by (C.means calls.now) (digest_of (map arg_of args.now)) (run_of r.old)) }
+{
+    tell(alloc, args, r)?;
+    Ok(Flow::Go)
+}
+
+/// A checksum call, as a statement.
+fn on_sum<C: Calls>(
+    alloc: Global,
+    calls: &C,
+    verifies: bool,
+    args: &[Arg],
+    r: &mut Run,
+) -> Result<Flow, AllocError>
+    ensures { IfOk result (λ flow. ended (run_of r.new) (flow_of flow) ≡ done_by (C.means calls.now) (sum_of verifies (map arg_of args.now)) (run_of r.old)) }
+{
+    sum(alloc, verifies, args, r)?;
+    Ok(Flow::Go)
+}
+
+/// A register's read, as a statement.
+fn on_read<C: Calls>(
     alloc: Global,
     calls: &C,
     name: &str,
     args: &[Arg],
     r: &mut Run,
 ) -> Result<Flow, AllocError>
-    ensures { IfOk result (λ flow. ended (run_of r.new) (flow_of flow) ≡ done_by (C.means calls.now) (act_named name.now (map arg_of args.now)) (run_of r.old)) }
+    ensures { IfOk result (λ flow. ended (run_of r.new) (flow_of flow) ≡ done_by (C.means calls.now) (read_of name.now (map arg_of args.now)) (run_of r.old)) }
 {
-    if same_text(name, "mark_to_drop") {
-        drop_packet(alloc, r)?;
-        Ok(Flow::Go)
-    } else if same_text(name, "digest") {
-        tell(alloc, args, r)?;
-        Ok(Flow::Go)
-    } else if same_text(name, "verify_checksum") {
-        sum(alloc, true, args, r)?;
-        Ok(Flow::Go)
-    } else if same_text(name, "update_checksum") {
-        sum(alloc, false, args, r)?;
-        Ok(Flow::Go)
-    } else {
-        calls.run_action(alloc, name, args, r)
-    }
+    read_register(alloc, name, args, r)?;
+    Ok(Flow::Go)
 }
 
-/// The application of a table, as a statement.
-fn apply<C: Calls>(
-    alloc: Global,
+/// A register's write, as a statement.
+fn on_write<C: Calls>(
     calls: &C,
     name: &str,
-    r: &mut Run,
-) -> Result<Flow, AllocError>
-    ensures { IfOk result (λ flow. ended (run_of r.new) (flow_of flow) ≡ done_by (C.means calls.now) (applies name.now) (run_of r.old)) }
-{
-    let tested = calls.apply_table(alloc, name, r)?;
-    Ok(tested.flow)
-}
-
-/// A call on a register or a table.
-fn call_on<C: Calls>(
-    alloc: Global,
-    calls: &C,
-    name: &str,
-    verb: &str,
     args: &[Arg],
     r: &mut Run,
 ) -> Result<Flow, AllocError>
-    ensures { IfOk result (λ flow. ended (run_of r.new) (flow_of flow) ≡ done_by (C.means calls.now) (act_on name.now verb.now (map arg_of args.now)) (run_of r.old)) }
+    ensures { IfOk result (λ flow. ended (run_of r.new) (flow_of flow) ≡ done_by (C.means calls.now) (write_of name.now (map arg_of args.now)) (run_of r.old)) }
 {
-    if same_text(verb, "read") {
-        read_register(alloc, name, args, r)?;
-        Ok(Flow::Go)
-    } else if same_text(verb, "write") {
-        write_register(name, args, r);
-        Ok(Flow::Go)
-    } else if same_text(verb, "apply") {
-        apply(alloc, calls, name, r)
-    } else {
-        Ok(Flow::Go)
-    }
+    write_register(name, args, r);
+    Ok(Flow::Go)
 }
 
 /// A call on a header, as a statement.
@@ -90,6 +92,64 @@ fn on_header<C: Calls>(
 {
     call_on_header(alloc, header, verb, r)?;
     Ok(Flow::Go)
+}
+
+/// The application of a table, as a statement.
+fn on_table<C: Calls>(
+    alloc: Global,
+    calls: &C,
+    name: &str,
+    r: &mut Run,
+) -> Result<Flow, AllocError>
+    ensures { IfOk result (λ flow. ended (run_of r.new) (flow_of flow) ≡ done_by (C.means calls.now) (applies name.now) (run_of r.old)) }
+{
+    let tested = calls.apply_table(alloc, name, r)?;
+    Ok(tested.flow)
+}
+
+/// A call by one name.
+fn call_named<C: Calls>(
+    alloc: Global,
+    calls: &C,
+    name: &str,
+    args: &[Arg],
+    r: &mut Run,
+) -> Result<Flow, AllocError>
+    ensures { IfOk result (λ flow. ended (run_of r.new) (flow_of flow) ≡ done_by (C.means calls.now) (act_named name.now (map arg_of args.now)) (run_of r.old)) }
+{
+    if same_text(name, "mark_to_drop") {
+        on_drop(alloc, calls, r)
+    } else if same_text(name, "digest") {
+        on_digest(alloc, calls, args, r)
+    } else if same_text(name, "verify_checksum") {
+        on_sum(alloc, calls, true, args, r)
+    } else if same_text(name, "update_checksum") {
+        on_sum(alloc, calls, false, args, r)
+    } else {
+        calls.run_action(alloc, name, args, r)
+    }
+}
+
+/// A call on a register or a table.
+fn call_on<C: Calls>(
+    alloc: Global,
+    calls: &C,
+    name: &str,
+    verb: &str,
+    args: &[Arg],
+    r: &mut Run,
+) -> Result<Flow, AllocError>
+    ensures { IfOk result (λ flow. ended (run_of r.new) (flow_of flow) ≡ done_by (C.means calls.now) (act_on name.now verb.now (map arg_of args.now)) (run_of r.old)) }
+{
+    if same_text(verb, "read") {
+        on_read(alloc, calls, name, args, r)
+    } else if same_text(verb, "write") {
+        on_write(calls, name, args, r)
+    } else if same_text(verb, "apply") {
+        on_table(alloc, calls, name, r)
+    } else {
+        Ok(Flow::Go)
+    }
 }
 
 /// What a call does, and how it ends.

@@ -44,7 +44,7 @@ fn application(e: &Expr) -> Option<Asked<'_>>
 
 /// The opposite of what is asked.
 fn turned(asked: Option<Asked<'_>>) -> Option<Asked<'_>>
-    ensures { option_map asked_of result ≡ option_map (λ t. record { 0 = t.0; 1 = not t.1 }) (option_map asked_of asked) }
+    ensures { option_map asked_of result ≡ option_map (λ t. record { 0 = t.0; 1 = not t.1 }) (option_map asked_of asked.entry) }
 {
     match asked {
         None => None,

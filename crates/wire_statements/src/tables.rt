@@ -1,7 +1,8 @@
 //! What actions do, and the application of a table.
 
-ghost use Rattle.std.specs.Prelude.{◌≡◌, Some, drop, IfOk, OnOk, map};
+ghost use Rattle.std.specs.Prelude.{◌≡◌, ◌∷◌, [], Some, drop, IfOk, OnOk, map};
 ghost use Rattle.std.specs.Option.{option_map};
+ghost use Rattle.p4_meaning.specs.Store.{set_value};
 ghost use Rattle.p4_meaning.specs.Actions.{act, act_if, action_named, bound, flow_behind};
 ghost use Rattle.p4_meaning.specs.Tables.{apply_if, calls_in, chosen_runs, key_words, test_behind};
 ghost use Rattle.wire_parts.specs.Lent.{lent};
@@ -46,6 +47,20 @@ fn word_for(width: u8, words: &[Bits], i: usize) -> Bits
     }
 }
 
+/// A parameter has its word.
+fn bind_one(
+    alloc: Global,
+    p: &Taken,
+    words: &[Bits],
+    i: usize,
+    s: &mut Fields,
+) -> Result<(), AllocError>
+    ensures { OnOk result (store_of s.new ≡ set_value (store_of s.old) ((param_in p.now).name ∷ []) (word_at (param_in p.now).width (drop i words.now))) }
+{
+    let word = word_for(p.width, words, i);
+    s.declare(alloc, &p.name, word)
+}
+
 /// The parameters have these words.
 fn bind(
     alloc: Global,
@@ -56,8 +71,7 @@ fn bind(
     ensures { OnOk result (store_of s.new ≡ bound (map param_in params.now) words.now (store_of s.old)) }
 {
     for i in 0..params.len() {
-        let word = word_for(params[i].width, words, i);
-        s.declare(alloc, &params[i].name, word)?;
+        bind_one(alloc, &params[i], words, i, s)?;
     }
     Ok(())
 }
