@@ -50,8 +50,8 @@ module _ (t : Bool) (ks : List Word) where
       go rest true fit = with_first e es (choice_of t es ks) fit rest
       go rest false not_fit = without_first e es (choice_of t es ks) not_fit rest
 
-  -- a listed entry is below the highest
-  below : (P : Entry → Type 0) (es : List Entry) (f : Entry) → Contains es f → AllByRecursion P es → P f
+  -- what holds of all entries holds of one that is listed
+  pub below : (P : Entry → Type 0) (es : List Entry) (f : Entry) → Contains es f → AllByRecursion P es → P f
   below P [] f (k, lt, is) h = absurd (omega arith)
   below P (e ∷ es) f (zero, lt, is) h = subst P is h.0
   below P (e ∷ es) f (suc k, lt, is) h = below P es f (k, omega arith, is) h.1
