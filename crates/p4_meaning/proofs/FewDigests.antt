@@ -1,6 +1,5 @@
 -- A passage gives at most as many digests as the bound says, and `return` ends the action that it stands in.
-use Rattle.std.proofs.Common.{◌≡◌, ◌≢◌, ℕ, ◌+◌, ◌≤◌, max, List, [], ◌∷◌, ◌++◌, length, Bool, true, false, cond, Option, Some, None, refl, sym, ap, ◌∙◌, subst, length-append, Decides, arith}
-use Rattle.std.specs.List.{AllByRecursion}
+use Rattle.std.proofs.Common.{◌≡◌, ◌≢◌, ℕ, ◌+◌, ◌≤◌, max, List, [], ◌∷◌, length, Bool, true, false, cond, Option, Some, None, refl, sym, ap, length-append, arith}
 use Rattle.std.specs.Prelude.{take, map, ◌||◌}
 use Rattle.std.proofs.lemmas.Slice.Eq.{bytes_eq-Decides}
 use Rattle.bit_values.specs.Bits.{Word}
@@ -8,14 +7,14 @@ use Rattle.bit_values.specs.Widths.{holds}
 use Rattle.lex_text.specs.Names.{same_text}
 use Rattle.p4_tree.specs.Tree.{Expr, Stmt, Stmts, MaybeStmt, nothing, block, var, assign, choice, return_, exit_, call, done, next, without, otherwise}
 use Rattle.p4_meaning.specs.Value.{value_of}
-use Rattle.p4_meaning.specs.Statements.{Flow, Go, Return, Exit, Digest, Run, Ended, after, in_store, Act, makes, drops, reads, writes, tells, sums, runs, applies, idle, act_of, summed, Tested, Calls, no_calls, done_by, application, tested_by, tested, meaning_of_stmt, meaning_of_else, meaning_of}
-use Rattle.p4_meaning.specs.Choice.{Entry, IsChosen, IsChoice, choice_of}
+use Rattle.p4_meaning.specs.Statements.{Flow, Go, Return, Exit, Digest, Run, Ended, after, in_store, Act, makes, drops, reads, writes, tells, sums, runs, applies, idle, act_of, summed, Calls, no_calls, done_by, application, tested_by, tested, meaning_of_stmt, meaning_of_else, meaning_of}
+use Rattle.p4_meaning.specs.Choice.{Entry, IsChoice, choice_of}
 use Rattle.p4_meaning.specs.Scope.{is_among}
 use Rattle.p4_meaning.specs.Parsing.{ParserEnd, parse_of}
 use Rattle.p4_meaning.specs.Actions.{Action, action_named, params_of, args_of, bound, flow_behind, act_if}
 use Rattle.p4_meaning.specs.Tables.{Table, Chosen, Entries, Tables, table_named, has_ternary, key_words, chosen_runs, apply_if, calls_in}
 use Rattle.p4_meaning.specs.Parts.{Parts, whole}
-use Rattle.p4_meaning.specs.Pass.{Registers, Queued, run_from, entered_from, entered_behind, parts_enter, left_behind, parts_leave, store_behind, store_before}
+use Rattle.p4_meaning.specs.Pass.{Registers, Queued, run_from, entered_behind, parts_enter, parts_leave, store_behind}
 use Rattle.p4_meaning.specs.DigestBound.{most_of_act, most_of_test, most_of_stmt, most_of_else, most_of, none_told, most_of_action, most_named, greatest, most_of_table, most_applied, enter_bound, leave_bound}
 use Rattle.p4_meaning.specs.Laws.{NeverReturns, RunsListed, AreListed}
 use Rattle.p4_meaning.proofs.Choices.{choice_is, below}

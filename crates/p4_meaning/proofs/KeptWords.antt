@@ -1,5 +1,5 @@
 -- Whatever statements do, a path of two names or more keeps its width, and has a word in range.
-use Rattle.std.proofs.Common.{◌≡◌, ℕ, ◌<◌, ◌≤◌, List, [], ◌∷◌, Bool, true, false, ◌&&◌, cond, Option, Some, None, refl, sym, ap, ◌∙◌, subst, Decides, arith}
+use Rattle.std.proofs.Common.{◌≡◌, ℕ, List, [], ◌∷◌, Bool, true, false, ◌&&◌, cond, Option, Some, None, refl, sym, ◌∙◌, subst, Decides, arith}
 use Rattle.std.specs.Prelude.{nat_eq}
 use Rattle.std.proofs.lemmas.Slice.Eq.{slice_eq-Decides, bytes_eq-Decides}
 use Rattle.bit_values.specs.Bits.{Word, IsWord, word}
@@ -10,9 +10,9 @@ use Rattle.p4_meaning.specs.Standard.{egress_spec, checksum_error, is_assignable
 use Rattle.p4_meaning.specs.Store.{Store, zero_of, set_value, set_valid, zeroed, made, written, write}
 use Rattle.p4_meaning.specs.Value.{value_of}
 use Rattle.p4_meaning.specs.Checksum.{list_checksum}
-use Rattle.p4_meaning.specs.Statements.{Flow, Go, Return, Exit, Run, Ended, after, in_store, Act, makes, drops, reads, writes, tells, sums, runs, applies, idle, act_of, cell_at, index_of, assigned, verified, updated, summed, Tested, Calls, no_calls, done_by, application, tested_by, tested, start_of, meaning_of_stmt, meaning_of_else, meaning_of}
+use Rattle.p4_meaning.specs.Statements.{Flow, Go, Return, Exit, Run, Ended, after, in_store, Act, makes, drops, reads, writes, tells, sums, runs, applies, idle, act_of, cell_at, index_of, assigned, summed, Calls, no_calls, done_by, application, tested_by, tested, start_of, meaning_of_stmt, meaning_of_else, meaning_of}
 use Rattle.p4_meaning.specs.Choice.{Entry, choice_of}
-use Rattle.p4_meaning.specs.Actions.{Param, Action, action_named, params_of, args_of, bound, act, act_if}
+use Rattle.p4_meaning.specs.Actions.{Param, Action, action_named, params_of, args_of, bound, act_if}
 use Rattle.p4_meaning.specs.Tables.{Table, Chosen, Entries, Tables, table_named, has_ternary, key_words, chosen_runs, apply_if, calls_in}
 use Rattle.p4_meaning.specs.Laws.{IsOf, KeepsWords, HasStandard}
 use Rattle.p4_meaning.proofs.Words.{sound, cast_is_word}

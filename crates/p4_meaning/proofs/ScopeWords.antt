@@ -1,5 +1,5 @@
 -- The constants in sight have words of 1 to 128 bits, wherever a scope stands.
-use Rattle.std.proofs.Common.{List, [], ◌∷◌, refl}
+use Rattle.std.proofs.Common.{List, [], ◌∷◌}
 use Rattle.p4_tree.specs.Tree.{Local, local_action, local_table, local_register, local_const, local_var, Top, constant, typedef, header_type, struct_type, register, parser, control}
 use Rattle.p4_meaning.specs.Store.{blank}
 use Rattle.p4_meaning.specs.Value.{value_of, width_of}

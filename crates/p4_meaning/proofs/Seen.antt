@@ -2,14 +2,14 @@
 use Rattle.std.proofs.Common.{◌≡◌, ℕ, List, [], ◌∷◌, Bool, true, false, cond, Option, Some, None, refl, sym, ap, ap₂, ◌∙◌, subst}
 use Rattle.std.specs.List.{AllByRecursion}
 use Rattle.std.specs.Prelude.{not}
-use Rattle.bit_values.specs.Bits.{Word, IsWord, word}
+use Rattle.bit_values.specs.Bits.{Word, IsWord}
 use Rattle.bit_values.specs.Widths.{bit, holds, either_width, sound_width, cast_word}
 use Rattle.bit_values.specs.Operators.{own_of, left_place, right_place}
 use Rattle.lex_text.specs.Names.{same_text, parent}
 use Rattle.p4_tree.specs.Tree.{Expr, num, flag, path, valid, applied, error_name, negation, inversion, opposite, binary, conditional, slice, cast}
 use Rattle.p4_tree.specs.Operators.{class_of, operate}
-use Rattle.p4_meaning.specs.Store.{Store, read, shown}
-use Rattle.p4_meaning.specs.Value.{value_of, own_width, width_of, is_valid, inverted, negated, sliced}
+use Rattle.p4_meaning.specs.Store.{Store, shown}
+use Rattle.p4_meaning.specs.Value.{value_of, own_width, width_of, inverted, negated, sliced}
 use Rattle.p4_meaning.specs.Scope.{Scope, path_under, constant_named, constant_at, constant_or, is_inner, seen}
 use Rattle.p4_meaning.specs.Under.{constant_or_path, expr_under}
 use Rattle.p4_meaning.specs.Laws.{AreWords}

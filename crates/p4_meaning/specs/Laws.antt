@@ -1,17 +1,17 @@
 -- What holds of the meaning, for every program. Read the files of the meaning before it.
-use Rattle.std.specs.Prelude.{◌≡◌, ◌≢◌, ℕ, ◌≤◌, List, [], ◌∷◌, length, Bool, true, Option, Some, None}
+use Rattle.std.specs.Prelude.{◌≡◌, ◌≢◌, ℕ, ◌≤◌, List, [], ◌∷◌, length, true, Option, Some, None}
 use Rattle.std.specs.List.{AllByRecursion}
 use Rattle.bit_values.specs.Bits.{Word, IsWord}
 use Rattle.p4_tree.specs.Tree.{Expr, Stmts, Local, Top}
 use Rattle.p4_meaning.specs.Standard.{egress_spec, checksum_error}
 use Rattle.p4_meaning.specs.Store.{Store}
 use Rattle.p4_meaning.specs.Value.{value_of, own_width}
-use Rattle.p4_meaning.specs.Statements.{Return, Run, Calls, no_calls, meaning_of}
+use Rattle.p4_meaning.specs.Statements.{Return, Run, Calls, meaning_of}
 use Rattle.p4_meaning.specs.Scope.{Scope, seen, is_among}
-use Rattle.p4_meaning.specs.Under.{expr_under, no_scope, behind_tops, behind_locals}
+use Rattle.p4_meaning.specs.Under.{expr_under, behind_tops, behind_locals}
 use Rattle.p4_meaning.specs.Actions.{Action}
 use Rattle.p4_meaning.specs.Tables.{Table, Entries, Tables, table_named, calls_in}
-use Rattle.p4_meaning.specs.Parts.{Parts, scope_at_parser, scope_at_control}
+use Rattle.p4_meaning.specs.Parts.{Parts}
 use Rattle.p4_meaning.specs.Pass.{Registers, Queued, parts_enter, parts_leave}
 use Rattle.p4_meaning.specs.DigestBound.{enter_bound, leave_bound}
 
