@@ -1,0 +1,7 @@
+-- The pure readers' equations, and the turns of the code's loops.
+pub mod Layers
+pub mod Turns
+-- What is read rests on the lexemes up to its end.
+pub mod Locality
+-- What is spelled is read.
+pub mod Balance
