@@ -80,13 +80,17 @@ module _ (ws : List Lexeme) (n : ℕ) where
       (λ z v st s _. Reads-ok ws _ _ b z.1 _ (rw (append-nil v) (then_names x s)) tt)))
       (Reads-ok ws _ _ b q [] (last_name x) tt)
 
-  pub Reads-names : (b i : ℕ) → Reads ws SpellsPath Any b b i (names_at ws n i)
-  unfolding names_at more_names_at
-  Reads-names b i =
-      Reads-named ws n _ _ b b i _ (λ x. (x ∷ [], [], last_name x, tt)) (λ x w.
-      Reads-bind ws (λ xs v. SpellsPath (x ∷ xs) (name x ∷ v)) _ Any _ b b b (i + 1) _ _ (Reads-more b n (i + 1) x)
+  -- behind the first name x
+  pub Reads-more_names : (b i : ℕ) (x : List ℕ) → Reads ws (λ xs v. SpellsPath xs (name x ∷ v)) Any b b i (more_names_at ws n x i)
+  unfolding more_names_at
+  Reads-more_names b i x =
+      Reads-bind ws (λ xs v. SpellsPath (x ∷ xs) (name x ∷ v)) _ Any _ b b b i _ _ (Reads-more b n i x)
       (λ xs v s. (x ∷ xs, [], rw (append-nil v) s, λ _. tt))
-      (λ y v st s _. Reads-ok ws _ _ b y.1 _ (rw (append-nil v) s) tt))
+      (λ y v st s _. Reads-ok ws _ _ b y.1 _ (rw (append-nil v) s) tt)
+
+  pub Reads-names : (b i : ℕ) → Reads ws SpellsPath Any b b i (names_at ws n i)
+  unfolding names_at
+  Reads-names b i = Reads-named ws n _ _ b b i _ (λ x. (x ∷ [], [], last_name x, tt)) (λ x w. Reads-more_names b (i + 1) x)
 
   -- ---- calls. low: a node alone is not too high
 

@@ -5,3 +5,6 @@ pub mod Turns
 pub mod Locality
 -- What is spelled is read.
 pub mod Balance
+-- What is read is spelled so, and what was read up to a fault begins it.
+pub mod SoundLists
+pub mod SoundDeclared
