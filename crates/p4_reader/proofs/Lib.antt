@@ -8,3 +8,5 @@ pub mod Balance
 -- What is read is spelled so, and what was read up to a fault begins it.
 pub mod SoundLists
 pub mod SoundDeclared
+pub mod SoundSimple
+pub mod SoundStatements
