@@ -1,8 +1,10 @@
 -- What own code does to two runs that are alike: a later linker's main tool. Read `Forwarding` and `Relations` before it.
 use Rattle.std.specs.Prelude.{◌≡◌, ℕ, List, false}
+use Rattle.std.specs.List.{AllByRecursion}
 use Rattle.p4_tree.specs.Tree.{Expr}
 use Rattle.p4_meaning.specs.Statements.{Go, Run, Ended, runs, Tested, Calls}
-use Rattle.p4_meaning.specs.Tables.{Tables}
+use Rattle.p4_meaning.specs.Actions.{Action, action_named}
+use Rattle.p4_meaning.specs.Tables.{Table, table_named, Entries, Tables}
 use Rattle.linked_halves.specs.Regions.{is_mine}
 use Rattle.linked_halves.specs.Forwarding.{IsOwnAct}
 use Rattle.linked_halves.specs.Relations.{Alike, Stays}
@@ -30,3 +32,17 @@ pub record AreAlikeCalls (c d : Calls) : Type 0 where
 -- own tables hold the same
 abbrev pub HoldSame : Tables → Tables → Type 0
 HoldSame held held' = (x : List ℕ) → is_mine x ≡ false → held' x ≡ held x
+
+-- an action of a name is the same in both programs, or there is none in both
+abbrev pub IsSameAction : List Action → List Action → List ℕ → Type 0
+IsSameAction actions actions' x = action_named actions' x ≡ action_named actions x
+
+-- the linked program has the own actions and tables, and perhaps others under the monitor's names
+pub record HasOwn (actions actions' : List Action) (tables tables' : List Table) : Type 0 where
+  pub same_actions : (x : List ℕ) → is_mine x ≡ false → IsSameAction actions actions' x
+  pub same_tables : (x : List ℕ) → is_mine x ≡ false → table_named tables' x ≡ table_named tables x
+
+-- whatever a table chooses runs such an action
+pub record RunsSame (actions actions' : List Action) (n : Entries) : Type 0 where
+  pub listed : AllByRecursion (λ e. IsSameAction actions actions' e.action) n.listed
+  pub default : IsSameAction actions actions' n.default.action

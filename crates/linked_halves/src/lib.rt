@@ -12,7 +12,7 @@
 //! Not promised: `return` and `exit`, in actions neither, and the packet's length.
 #![tactic(auto)]
 
-ghost use Rattle.std.specs.Prelude.{ℕ, List, Bool};
+ghost use Rattle.std.specs.Prelude.{◌≡◌, ℕ, List, false};
 ghost use Rattle.std.specs.List.{AllByRecursion};
 ghost use Rattle.p4_tree.specs.Tree.{Expr, Stmts};
 ghost use Rattle.p4_meaning.specs.Statements.{Run, Act, done_by, Calls, no_calls, tested, meaning_of};
@@ -20,12 +20,15 @@ ghost use Rattle.p4_meaning.specs.Actions.{Action};
 ghost use Rattle.p4_meaning.specs.Tables.{Table, Tables, calls_in};
 ghost use Rattle.linked_halves.specs.Forwarding.{IsOwnAct, IsOwnTest, AreOwnStmts, IsOwnAction, IsOwnTable};
 ghost use Rattle.linked_halves.specs.Relations.{Alike};
-ghost use Rattle.linked_halves.specs.OwnCode.{Ran, RanTest, AreAlikeCalls, HoldSame};
+ghost use Rattle.linked_halves.specs.OwnCode.{Ran, RanTest, AreAlikeCalls, HasOwn, HoldSame, RunsSame};
+ghost use Rattle.linked_halves.specs.Regions.{is_mine};
 ghost use Rattle.linked_halves.specs.Given.{Given, IsGiven, KeepsHalves, IsLinked};
 
 /// Own code on runs that are alike ends alike, goes on, and leaves the monitor's part as it was,
 /// whatever actions and tables do, if these keep to the same. So do own actions, and own tables
-/// that hold the same, with a hit and with a miss; and so does what calls nothing.
+/// that hold the same, with a hit and with a miss; in a program with more actions and tables too,
+/// where these have the monitor's names and own tables choose none of these actions; and so does
+/// what calls nothing.
 pub fn own_code_does_the_same()
     ensures statements { (c d : Calls) → AreAlikeCalls c d → (ss : Stmts) (a b : Run) → AreOwnStmts ss → Alike a b →
         Ran b (meaning_of c ss a) (meaning_of d ss b) }
@@ -36,6 +39,10 @@ pub fn own_code_does_the_same()
     ensures calls { (actions : List Action) (tables : List Table) (held held' : Tables) →
         AllByRecursion IsOwnAction actions → AllByRecursion IsOwnTable tables → HoldSame held held' →
         AreAlikeCalls (calls_in actions tables held) (calls_in actions tables held') }
+    ensures more_calls { (actions actions' : List Action) (tables tables' : List Table) (held held' : Tables) →
+        AllByRecursion IsOwnAction actions → AllByRecursion IsOwnTable tables → HasOwn actions actions' tables tables' →
+        HoldSame held held' → ((x : List ℕ) → is_mine x ≡ false → RunsSame actions actions' (held x)) →
+        AreAlikeCalls (calls_in actions tables held) (calls_in actions' tables' held') }
     ensures no_calls { AreAlikeCalls no_calls no_calls }
 {}
 

@@ -1,6 +1,6 @@
 use Rattle.p4_meaning.specs.Statements.{application}
 use Rattle.linked_halves.proofs.Own.{act_ran, tested_ran, all_ran}
-use Rattle.linked_halves.proofs.OwnCalls.{calls_alike}
+use Rattle.linked_halves.proofs.OwnCalls.{calls_alike, more_alike}
 use Rattle.linked_halves.proofs.own_code_does_the_same.Goals as goal
 
 pub returns-clause-statements : goal.returns-clause-statements
@@ -14,3 +14,6 @@ returns-clause-tests c = λ i d same e a b own alike. tested_ran i d same (appli
 
 pub returns-clause-calls : goal.returns-clause-calls
 returns-clause-calls c = λ actions tables held held' own_actions own_tables same. calls_alike actions own_actions tables held held' own_tables same
+
+pub returns-clause-more_calls : goal.returns-clause-more_calls
+returns-clause-more_calls c = λ actions actions' tables tables' held held' own_actions own_tables has same runs. more_alike actions actions' own_actions tables tables' held held' own_tables has same runs
