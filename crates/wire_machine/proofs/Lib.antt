@@ -3,3 +3,4 @@ pub mod LeftLemmas
 pub mod SwitchLemmas
 pub mod HalvesLemmas
 pub mod PassLemmas
+pub mod HeldLemmas

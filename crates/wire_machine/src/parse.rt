@@ -10,9 +10,10 @@ ghost use Rattle.wire_machine.specs.Places.{reading_of, parsed_of, StepsWithin};
 use bit_values::take_bits;
 use lex_text::Name;
 use p4_tree::{Arg, Expr, Stmt};
+use p4_values::{same_path, value_of};
 use std::alloc::{AllocError, Global};
-use wire_parts::{Field, Header, same_path};
-use wire_statements::{Fields, assign, value_of};
+use wire_parts::{Field, Header};
+use wire_statements::{Fields, assign};
 
 /// How a parser ends.
 #[derive(Clone, Copy, Debug, PartialEq, Eq)]
@@ -119,16 +120,12 @@ fn extract_at(
     ensures parsed { IfOk result (λ step. parsed_of step s.new frame.now ≡ extracted_at (map header_in headers.now) path.now (reading_of s.old frame.now at)) }
     ensures within { IfOk result (λ step. StepsWithin step (8 * length frame.now)) }
 {
-    match headers {
-        [] => Ok(Step::On(at)),
-        [h, headers @ ..] => {
-            if same_path(&h.path, path) {
-                extract(alloc, h, frame, at, s)
-            } else {
-                extract_at(alloc, headers, path, frame, at, s)
-            }
+    for h in headers {
+        if same_path(&h.path, path) {
+            return extract(alloc, h, frame, at, s);
         }
     }
+    Ok(Step::On(at))
 }
 
 /// A call in a state.

@@ -1,4 +1,3 @@
 pub mod FieldsLemmas
-pub mod ValueLemmas
 pub mod RegistersLemmas
 pub mod BodyLemmas
