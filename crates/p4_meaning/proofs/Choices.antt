@@ -1,7 +1,7 @@
 -- One walk over the entries finds the choice, and two choices have one rank.
-use Rattle.std.proofs.Common.{◌≡◌, ℕ, zero, suc, ◌<◌, ◌≤◌, List, [], ◌∷◌, length, Bool, true, false, cond, Option, Some, None, refl, sym, ap, ◌∙◌, subst, arith}
+use Rattle.std.proofs.Common.{◌≡◌, zero, suc, ◌≤◌, List, [], ◌∷◌, Bool, true, false, cond, Option, Some, None, refl, subst, arith}
 use Rattle.std.proofs.lemmas.Bool.Decides.{nat_tests}
-use Rattle.std.specs.Prelude.{nat_lt, slice_index_or}
+use Rattle.std.specs.Prelude.{nat_lt}
 use Rattle.std.specs.List.{AllByRecursion, Contains}
 use Rattle.bit_values.specs.Bits.{Word}
 use Rattle.p4_meaning.specs.Choice.{Entry, fits_keys, rank_of, IsChosen, IsChoice, higher, choice_of}
@@ -50,8 +50,8 @@ module _ (t : Bool) (ks : List Word) where
       go rest true fit = with_first e es (choice_of t es ks) fit rest
       go rest false not_fit = without_first e es (choice_of t es ks) not_fit rest
 
-  -- a listed entry is below the highest
-  below : (P : Entry → Type 0) (es : List Entry) (f : Entry) → Contains es f → AllByRecursion P es → P f
+  -- what holds of all entries holds of one that is listed
+  pub below : (P : Entry → Type 0) (es : List Entry) (f : Entry) → Contains es f → AllByRecursion P es → P f
   below P [] f (k, lt, is) h = absurd (omega arith)
   below P (e ∷ es) f (zero, lt, is) h = subst P is h.0
   below P (e ∷ es) f (suc k, lt, is) h = below P es f (k, omega arith, is) h.1

@@ -1,9 +1,9 @@
 -- A parser's turns are never used up, since each takes a state away.
-use Rattle.std.proofs.Common.{◌≡◌, ℕ, zero, suc, ◌<◌, ◌≤◌, List, [], ◌∷◌, length, Bool, true, false, cond, Option, Some, None, refl, sym, ap, ◌∙◌, arith}
+use Rattle.std.proofs.Common.{◌≡◌, ℕ, zero, suc, ◌<◌, List, [], ◌∷◌, length, Bool, true, false, cond, Option, Some, None, refl, ap, arith}
 use Rattle.std.specs.Option.{option_map}
 use Rattle.lex_text.specs.Names.{same_text}
 use Rattle.p4_tree.specs.Tree.{ParserState}
-use Rattle.p4_meaning.specs.Parsing.{Header, NoError, Reading, parser_end, ParserEnd, Turned, ends, leads, turned, body_parsed, found_state, ends_parser, on_turned, passed_state, turns_of}
+use Rattle.p4_meaning.specs.Parsing.{Header, NoError, Reading, parser_end, Turned, ends, leads, turned, body_parsed, found_state, ends_parser, on_turned, passed_state, turns_of}
 
 -- what is found leaves one state less
 abbrev IsOneLess : ℕ → Option (ParserState × List ParserState) → Type 0

@@ -9,7 +9,7 @@ use Rattle.p4_tree.specs.declared.statement.PTy.{PTy}
 use Rattle.p4_meaning.specs.Store.{Store, set_value}
 use Rattle.p4_meaning.specs.Value.{value_of, width_of}
 use Rattle.p4_meaning.specs.Statements.{Flow, Go, Return, Exit, Run, Ended, in_store, no_calls, meaning_of}
-use Rattle.p4_meaning.specs.Scope.{Scope, Inner, full_name, first_name, type_under, names_in}
+use Rattle.p4_meaning.specs.Scope.{Scope, full_name, first_name, type_under, names_in}
 use Rattle.p4_meaning.specs.Under.{stmts_under, behind_top, behind_local, in_control}
 
 -- a parameter of an action: its full name and its bits

@@ -12,3 +12,6 @@ pub mod Actions
 pub mod Tables
 pub mod Parts
 pub mod Pass
+pub mod DigestBound
+-- What holds of it, for every program.
+pub mod Laws

@@ -4,14 +4,14 @@
 use Rattle.std.specs.Prelude.{ℕ, List, [], ◌∷◌, ◌++◌, map, if◌then◌else◌, Option, Some, None, get_or}
 use Rattle.bit_values.specs.Widths.{sound_width}
 use Rattle.lex_text.specs.Names.{same_text}
-use Rattle.p4_tree.specs.Tree.{Expr, num, flag, path, valid, applied, error_name, negation, inversion, opposite, binary, conditional, slice, cast, Arg, one, many, Stmt, Stmts, nothing, block, var, assign, choice, return_, exit_, call, done, next, ParserState, Local, local_register, Control, Parser, Top, header_type, struct_type, register, parser, control, Program, and_then}
+use Rattle.p4_tree.specs.Tree.{path, Arg, one, Stmts, call, done, next, ParserState, Local, local_register, Control, Parser, Top, header_type, struct_type, register, parser, control, Program, and_then}
 use Rattle.p4_tree.specs.declared.statement.PTy.{PTy}
 use Rattle.p4_tree.specs.declared.program.Register.{Register}
 use Rattle.p4_meaning.specs.Standard.{headers_root}
 use Rattle.p4_meaning.specs.Value.{width_of}
 use Rattle.p4_meaning.specs.Parsing.{Field, Header}
 use Rattle.p4_meaning.specs.Scope.{Scope, param_at, param_type, type_name, full_name, type_under}
-use Rattle.p4_meaning.specs.Under.{stmts_under, state_under, no_scope, behind_top, behind_tops, in_parser, in_control, behind_local, behind_locals, settings_under}
+use Rattle.p4_meaning.specs.Under.{stmts_under, state_under, no_scope, behind_top, behind_tops, in_parser, in_control, behind_locals, settings_under}
 use Rattle.p4_meaning.specs.Actions.{Action, actions_of}
 use Rattle.p4_meaning.specs.Tables.{Table, tables_of}
 

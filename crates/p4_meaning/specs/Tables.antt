@@ -7,7 +7,7 @@ use Rattle.p4_tree.specs.Tree as tree
 use Rattle.p4_tree.specs.Tree.{Expr, Local, local_table, Control, Top, control}
 use Rattle.p4_meaning.specs.Store.{Store, blank}
 use Rattle.p4_meaning.specs.Value.{value_of}
-use Rattle.p4_meaning.specs.Statements.{Flow, Go, Run, Ended, Tested, Calls}
+use Rattle.p4_meaning.specs.Statements.{Go, Run, Ended, Tested, Calls}
 use Rattle.p4_meaning.specs.Choice.{Entry, choice_of}
 use Rattle.p4_meaning.specs.Scope.{Scope, full_name}
 use Rattle.p4_meaning.specs.Under.{expr_under, behind_top, behind_local, in_control}
