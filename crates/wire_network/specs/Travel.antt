@@ -24,9 +24,9 @@ pub record Passage : Type 0 where
   pub digests : List Digest
   pub out : Option (ℕ × List ℕ)
 
--- the switch with other cells; its tables stay
+-- a switch, whose registers have other cells
 abbrev pub with_registers : Machine → Registers → Machine
-with_registers m cells = record m { kept = record { registers = cells; tables = m.kept.tables } }
+with_registers m cells = record { parts = m.parts; kept = record { registers = cells; tables = m.kept.tables } }
 
 -- the second half of a passage, where the packet was not dropped in the first
 abbrev pub left_from : Machine → Registers → List Digest → Option Queued → Passage
@@ -41,8 +41,7 @@ left_from m cells ds (Some q) =
 -- a passage of one switch: enter, and then leave
 abbrev pub passage : Machine → (port : ℕ) → (frame : List ℕ) → Passage
 passage m port frame =
-    left_from m (parts_enter m.parts m.kept.tables m.kept.registers port frame).registers (parts_enter m.parts m.kept.tables m.kept.registers port frame).digests
-    (parts_enter m.parts m.kept.tables m.kept.registers port frame).queued
+    left_from m (parts_enter m.parts m.kept.tables m.kept.registers port frame).registers (parts_enter m.parts m.kept.tables m.kept.registers port frame).digests (parts_enter m.parts m.kept.tables m.kept.registers port frame).queued
 
 -- the network after a passage of the switch at a place
 abbrev pub passed : Net → (switch : ℕ) → Passage → Net
@@ -65,24 +64,7 @@ at_edge i port frame = if nat_le (length frame) 65535 then left i port frame els
 
 -- no switch
 abbrev pub no_machine : Machine
-no_machine =
-    record {
-      parts =
-          record {
-            registers = [];
-            headers = [];
-            metadata = [];
-            states = [];
-            actions = [];
-            tables = [];
-            verify = done;
-            ingress = record { locals = done; body = done };
-            egress = record { locals = done; body = done };
-            compute = done;
-            emits = [];
-          };
-      kept = record { registers = λ x. []; tables = tables_before [] };
-    }
+no_machine = record { parts = record { registers = []; headers = []; metadata = []; states = []; actions = []; tables = []; verify = done; ingress = record { locals = done; body = done }; egress = record { locals = done; body = done }; compute = done; emits = [] }; kept = record { registers = λ x. []; tables = tables_before [] } }
 
 -- how a packet goes on from the switch and port that it comes to
 abbrev pub Way : Type 0
