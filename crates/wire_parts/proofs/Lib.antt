@@ -1,2 +1,2 @@
 pub mod ActionsLemmas
-pub mod UnderLemmas
+pub mod SettingsLemmas

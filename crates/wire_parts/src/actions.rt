@@ -6,16 +6,14 @@ ghost use Rattle.p4_tree.specs.View.{action_of, arg_of, control_of, expr_of, loc
 ghost use Rattle.p4_meaning.specs.Statements.{values_in};
 ghost use Rattle.p4_meaning.specs.Under.{in_control, no_scope};
 ghost use Rattle.p4_meaning.specs.Actions.{param_under, action_under, actions_in, actions_of, action_named, params_of, args_of};
-ghost use Rattle.wire_parts.specs.Lent.{lent};
+ghost use Rattle.p4_scope.specs.Lent.{lent};
 ghost use Rattle.wire_parts.specs.PartsIn.{action_in, param_in};
-ghost use Rattle.wire_parts.specs.Scopes.{scope_of};
+ghost use Rattle.p4_scope.specs.Scopes.{scope_of};
 
-use crate::along::{in_action, in_control, no_scope, pass_local, pass_top};
 use crate::parts::{Action, Taken};
-use crate::scope::{Scope, first_name, full_name, width_under};
-use crate::under::stmts_under;
 use bit_values::Bits;
 use lex_text::Name;
+use p4_scope::{Scope, first_name, full_name, in_action, in_control, no_scope, pass_local, pass_top, stmts_under, width_under};
 use p4_tree::{Arg, Control, Expr, Local, PTy, Top};
 use p4_values::{Sight, same_text, value_of};
 use std::alloc::{AllocError, Global};

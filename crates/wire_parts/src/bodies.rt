@@ -6,17 +6,13 @@ ghost use Rattle.p4_tree.specs.View.{control_of, local_of, parser_of, program_of
 ghost use Rattle.p4_meaning.specs.Parts as meaning;
 ghost use Rattle.p4_meaning.specs.Parts.{body_of, parser_in, parser_type, scope_at_control, scope_at_parser, states_in, states_of};
 ghost use Rattle.p4_meaning.specs.Under.{behind_locals, behind_tops, no_scope};
-ghost use Rattle.wire_parts.specs.Lent.{lent};
+ghost use Rattle.p4_scope.specs.Lent.{lent};
 ghost use Rattle.wire_parts.specs.Locals.{settings};
 ghost use Rattle.wire_parts.specs.PartsIn.{body_in};
-ghost use Rattle.wire_parts.specs.Scopes.{scope_of};
+ghost use Rattle.p4_scope.specs.Scopes.{scope_of};
 
-use crate::along::{in_control, in_parser, no_scope, pass_local, pass_top};
-use crate::find::{control_named, named_in, param_type, parser_named};
 use crate::parts::Body;
-use crate::scope::Scope;
-use crate::states::states_under;
-use crate::under::{stmts_under, var_under};
+use p4_scope::{Scope, control_named, in_control, in_parser, named_in, no_scope, param_type, parser_named, pass_local, pass_top, states_under, stmts_under, var_under};
 use p4_tree::{Control, Local, Parser, ParserState, Program, Stmt, Top};
 use p4_values::same_text;
 use std::alloc::{AllocError, Global};
@@ -103,7 +99,7 @@ fn settings_under(
 }
 
 /// A control's variables and body, where the three parameters stand at these places.
-#[tactic(auto, using(crate::proofs::UnderLemmas::settings_list))]
+#[tactic(auto, using(crate::proofs::SettingsLemmas::settings_list))]
 fn body_under(
     alloc: Global,
     headers: u8,

@@ -11,11 +11,11 @@ use crate::actions::actions_of;
 use crate::bodies::{body_at, parser_in, parser_type, scope_behind, states_in};
 use crate::emits::emits_in;
 use crate::fields::{fields_of, headers_of, registers_of};
-use crate::find::struct_fields;
 use crate::header::{Field, Header};
 use crate::parts::{Action, Cells, Parts, Table};
 use crate::tables::tables_of;
 use lex_text::Name;
+use p4_scope::struct_fields;
 use p4_tree::{PTy, Program};
 use std::alloc::{AllocError, Global};
 

@@ -12,19 +12,14 @@
 #![tactic(auto)]
 
 mod actions;
-mod along;
 mod bodies;
 mod build;
 mod declared;
 mod emits;
 mod fields;
-mod find;
 mod header;
 mod parts;
-mod scope;
-mod states;
 mod tables;
-mod under;
 
 pub use actions::{action_named, args_of, params_of};
 pub use build::parts_of;

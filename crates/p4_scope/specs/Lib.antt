@@ -1,0 +1,3 @@
+-- What callers rest on.
+pub mod Lent
+pub mod Scopes
