@@ -3,7 +3,7 @@
 ghost use Rattle.std.specs.Prelude.{◌≡◌, ◌++◌, IfOk, OnOk, map};
 ghost use Rattle.bit_writer.specs.Bytes.{bytes_of};
 ghost use Rattle.bit_writer.specs.Written.{bits_in};
-ghost use Rattle.p4_meaning.specs.Parsing.{fields_bits, header_bits, deparse_of, if_valid};
+ghost use Rattle.p4_meaning.specs.Parsing.{fields_bits, header_bits, deparse_of};
 ghost use Rattle.wire_statements.specs.Fields.{store_of};
 ghost use Rattle.wire_parts.specs.Headers.{field_in, header_in};
 ghost use Rattle.wire_parts.specs.Paths.{path_in};
@@ -35,22 +35,6 @@ fn put_fields(
     Ok(())
 }
 
-/// A header, where it is valid.
-fn put_if_valid(
-    alloc: Global,
-    h: &Header,
-    s: &Fields,
-    out: &mut BitWriter,
-) -> Result<(), AllocError>
-    ensures { OnOk result (bits_in out.new ≡ bits_in out.old ++ if_valid ((store_of s.now).headers (header_in h.now).path) (fields_bits (header_in h.now).path (header_in h.now).fields (store_of s.now))) }
-{
-    match s.header(&h.path) {
-        Some(true) => put_fields(alloc, &h.path, &h.fields, s, out),
-        Some(false) => Ok(()),
-        None => Ok(()),
-    }
-}
-
 /// The header at a path, where it is valid.
 fn put_header(
     alloc: Global,
@@ -61,12 +45,20 @@ fn put_header(
 ) -> Result<(), AllocError>
     ensures { OnOk result (bits_in out.new ≡ bits_in out.old ++ header_bits (map header_in headers.now) path.now (store_of s.now)) }
 {
-    for h in headers {
-        if same_path(&h.path, path) {
-            return put_if_valid(alloc, h, s, out);
+    match headers {
+        [] => Ok(()),
+        [h, headers @ ..] => {
+            if same_path(&h.path, path) {
+                match s.header(&h.path) {
+                    Some(true) => put_fields(alloc, &h.path, &h.fields, s, out),
+                    Some(false) => Ok(()),
+                    None => Ok(()),
+                }
+            } else {
+                put_header(alloc, headers, path, s, out)
+            }
         }
     }
-    Ok(())
 }
 
 /// The headers that a deparser emits, where they are valid.

@@ -28,11 +28,7 @@ fn param_under(alloc: Global, sc: &Scope, p: &(PTy, Name)) -> Result<Taken, Allo
     Ok(Taken { name, width })
 }
 
-fn params_under(
-    alloc: Global,
-    sc: &Scope,
-    list: &[(PTy, Name)],
-) -> Result<Vec<Taken>, AllocError>
+fn params_under(alloc: Global, sc: &Scope, list: &[(PTy, Name)]) -> Result<Vec<Taken>, AllocError>
     ensures { IfOk result (λ v. map param_in v.items ≡ map (param_under (scope_of sc.now)) list.now) }
 {
     let mut params = Vec::new(alloc);

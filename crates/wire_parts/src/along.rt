@@ -106,10 +106,7 @@ pub fn pass_local(alloc: Global, sc: &mut Scope, local: &Local) -> Result<(), Al
     }
 }
 
-fn copy_constants(
-    alloc: Global,
-    list: &[(Name, Bits)],
-) -> Result<Vec<(Name, Bits)>, AllocError>
+fn copy_constants(alloc: Global, list: &[(Name, Bits)]) -> Result<Vec<(Name, Bits)>, AllocError>
     ensures { IfOk result (λ v. v.items ≡ list.now) }
 {
     let mut copies = Vec::new(alloc);

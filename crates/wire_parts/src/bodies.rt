@@ -79,11 +79,7 @@ fn scope_at_parser(alloc: Global, tops: &[Top], name: &str) -> Result<Scope, All
 }
 
 /// The statements that set a control's variables. The scope is behind its declarations then.
-fn settings_under(
-    alloc: Global,
-    sc: &mut Scope,
-    locals: &[Local],
-) -> Result<Vec<Stmt>, AllocError>
+fn settings_under(alloc: Global, sc: &mut Scope, locals: &[Local]) -> Result<Vec<Stmt>, AllocError>
     ensures settings { IfOk result (λ v. map stmt_of v.items ≡ settings (scope_of sc.old) (map local_of locals.now)) }
     ensures behind { OnOk result (scope_of sc.new ≡ behind_locals (scope_of sc.old) (map local_of locals.now)) }
 {
@@ -153,7 +149,14 @@ pub fn body_at(
 {
     let name = named_in(&p.main, n);
     let sc = scope_at_control(alloc, &p.tops, name)?;
-    body_of(alloc, headers, metadata, standard, &sc, control_named(&p.tops, name))
+    body_of(
+        alloc,
+        headers,
+        metadata,
+        standard,
+        &sc,
+        control_named(&p.tops, name),
+    )
 }
 
 /// The states of a parser that may be there.

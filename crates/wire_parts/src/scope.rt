@@ -225,11 +225,7 @@ fn type_named<'a>(list: &'a [(Name, PTy)], x: &str) -> Option<&'a PTy>
 }
 
 /// The type that a type stands for.
-pub fn type_under(
-    alloc: Global,
-    types: &[(Name, PTy)],
-    ty: &PTy,
-) -> Result<PTy, AllocError>
+pub fn type_under(alloc: Global, types: &[(Name, PTy)], ty: &PTy) -> Result<PTy, AllocError>
     ensures { IfOk result (λ t. t ≡ type_under (reverse types.now) ty.now) }
 {
     match ty {

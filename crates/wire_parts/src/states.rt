@@ -51,11 +51,7 @@ fn cases_under(
     Ok(copies)
 }
 
-fn transition_under(
-    alloc: Global,
-    sc: &Scope,
-    next: &Transition,
-) -> Result<Transition, AllocError>
+fn transition_under(alloc: Global, sc: &Scope, next: &Transition) -> Result<Transition, AllocError>
     ensures { IfOk result (λ t. transition_of t ≡ transition_under (scope_of sc.now) (transition_of next.now)) }
 {
     match next {

@@ -126,11 +126,7 @@ fn push_tables_of(
 }
 
 /// The tables of a program with these actions, in the order of the text.
-pub fn tables_of(
-    alloc: Global,
-    actions: &[Action],
-    tops: &[Top],
-) -> Result<Vec<Table>, AllocError>
+pub fn tables_of(alloc: Global, actions: &[Action], tops: &[Top]) -> Result<Vec<Table>, AllocError>
     ensures { IfOk result (λ v. map table_in v.items ≡ tables_of no_scope (map action_in actions.now) (map top_of tops.now)) }
 {
     let mut sc = no_scope(alloc)?;

@@ -15,12 +15,7 @@ use p4_tree::{Arg, Expr, PTy, Stmt};
 use std::alloc::{AllocError, Global};
 
 /// A path, or the word of the constant that it is.
-fn path_or_constant(
-    alloc: Global,
-    sc: &Scope,
-    at: u32,
-    names: &[Name],
-) -> Result<Expr, AllocError>
+fn path_or_constant(alloc: Global, sc: &Scope, at: u32, names: &[Name]) -> Result<Expr, AllocError>
     ensures { IfOk result (λ t. expr_of t ≡ expr_under (scope_of sc.now) (path at names.now)) }
 {
     match constant_at(sc, names) {
@@ -152,9 +147,7 @@ pub fn stmt_under(alloc: Global, sc: &Scope, s: &Stmt) -> Result<Stmt, AllocErro
     match s {
         Stmt::Nothing(at) => Ok(Stmt::Nothing(*at)),
         Stmt::Block(at, body) => Ok(Stmt::Block(*at, stmts_under(alloc, sc, body)?)),
-        Stmt::Var(at, ty, name, start) => {
-            var_under(alloc, sc, *at, ty, name, start)
-        }
+        Stmt::Var(at, ty, name, start) => { var_under(alloc, sc, *at, ty, name, start) }
         Stmt::Assign(at, path, e) => {
             let path = path_under(alloc, sc, path)?;
             let e = expr_under(alloc, sc, e)?;

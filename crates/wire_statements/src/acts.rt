@@ -194,7 +194,12 @@ pub fn tell(alloc: Global, args: &[Arg], r: &mut Run) -> Result<(), AllocError>
 }
 
 /// A call on a header.
-pub fn call_on_header(alloc: Global, header: &[Name], verb: &str, r: &mut Run) -> Result<(), AllocError>
+pub fn call_on_header(
+    alloc: Global,
+    header: &[Name],
+    verb: &str,
+    r: &mut Run,
+) -> Result<(), AllocError>
     ensures { OnOk result (Does (act_on_header header.now verb.now) r.old r.new) }
 {
     if same_text(verb, "setValid") {

@@ -15,11 +15,7 @@ use p4_values::{parent, same_text};
 use std::alloc::{AllocError, Global};
 
 /// mark_to_drop, as a statement.
-fn on_drop<C: Calls>(
-    alloc: Global,
-    calls: &C,
-    r: &mut Run,
-) -> Result<Flow, AllocError>
+fn on_drop<C: Calls>(alloc: Global, calls: &C, r: &mut Run) -> Result<Flow, AllocError>
     ensures { IfOk result (λ flow. ended (run_of r.new) (flow_of flow) ≡ done_by (C.means calls.now) (drops) (run_of r.old)) }
 {
     drop_packet(alloc, r)?;
@@ -68,12 +64,7 @@ fn on_read<C: Calls>(
 }
 
 /// A register's write, as a statement.
-fn on_write<C: Calls>(
-    calls: &C,
-    name: &str,
-    args: &[Arg],
-    r: &mut Run,
-) -> Result<Flow, AllocError>
+fn on_write<C: Calls>(calls: &C, name: &str, args: &[Arg], r: &mut Run) -> Result<Flow, AllocError>
     ensures { IfOk result (λ flow. ended (run_of r.new) (flow_of flow) ≡ done_by (C.means calls.now) (write_of name.now (map arg_of args.now)) (run_of r.old)) }
 {
     write_register(name, args, r);
@@ -95,12 +86,7 @@ fn on_header<C: Calls>(
 }
 
 /// The application of a table, as a statement.
-fn on_table<C: Calls>(
-    alloc: Global,
-    calls: &C,
-    name: &str,
-    r: &mut Run,
-) -> Result<Flow, AllocError>
+fn on_table<C: Calls>(alloc: Global, calls: &C, name: &str, r: &mut Run) -> Result<Flow, AllocError>
     ensures { IfOk result (λ flow. ended (run_of r.new) (flow_of flow) ≡ done_by (C.means calls.now) (applies name.now) (run_of r.old)) }
 {
     let tested = calls.apply_table(alloc, name, r)?;

@@ -76,12 +76,7 @@ fn test<C: Calls>(alloc: Global, calls: &C, e: &Expr, r: &mut Run) -> Result<Tes
 
 /// Runs a statement, and says how it ends.
 #[cycle(run)]
-fn run_stmt<C: Calls>(
-    alloc: Global,
-    calls: &C,
-    s: &Stmt,
-    r: &mut Run,
-) -> Result<Flow, AllocError>
+fn run_stmt<C: Calls>(alloc: Global, calls: &C, s: &Stmt, r: &mut Run) -> Result<Flow, AllocError>
     ensures { IfOk result (λ flow. ended (run_of r.new) (flow_of flow) ≡ meaning_of_stmt (C.means calls.now) (stmt_of s.now) (run_of r.old)) }
 {
     match s {

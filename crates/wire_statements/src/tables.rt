@@ -62,12 +62,7 @@ fn bind_one(
 }
 
 /// The parameters have these words.
-fn bind(
-    alloc: Global,
-    params: &[Taken],
-    words: &[Bits],
-    s: &mut Fields,
-) -> Result<(), AllocError>
+fn bind(alloc: Global, params: &[Taken], words: &[Bits], s: &mut Fields) -> Result<(), AllocError>
     ensures { OnOk result (store_of s.new ≡ bound (map param_in params.now) words.now (store_of s.old)) }
 {
     for i in 0..params.len() {

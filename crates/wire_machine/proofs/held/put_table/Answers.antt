@@ -1,7 +1,7 @@
 use Rattle.std.proofs.Common.{◌≡◌, ℕ, List, map, ap, ◌∙◌, arith}
-use Rattle.p4_meaning.specs.Tables.{Entries}
+use Rattle.p4_meaning.specs.Tables.{Entries, Chosen}
 use Rattle.wire_statements.specs.declared.entry.Entries as code_entries
-use Rattle.wire_statements.specs.Held.{default_or, entries_of, entry_of}
+use Rattle.wire_statements.specs.Held.{default_or, entries_of, entry_of, held_in}
 use Rattle.wire_machine.specs.Rows.{place_in}
 use Rattle.wire_machine.proofs.HeldLemmas.{held_written, held_behind}
 use Rattle.wire_machine.proofs.held.put_table.Goals as goal
@@ -14,5 +14,10 @@ returns-then-at-len c =
     (ap (λ (e : List ℕ × code_entries.Entries). e.0) c.index_mut.ensures.value)
     (c.replace.ensures ∙ ap (λ (e : List ℕ × code_entries.Entries). make (entries_of e.1)) c.index_mut.ensures.value)
 
-pub returns-else-at-len : goal.returns-else-at-len
-returns-else-at-len c = ?
+pub returns-in_ok-push : goal.returns-in_ok-push
+returns-in_ok-push c =
+    let at : c.place_of-at.result ≡ place_in c.args.held.now.items c.args.table.now = c.place_of-at.ensures ∙ ap (λ l. place_in l c.args.table.now) c.deref.ensures.value in
+    let make : Entries → Entries = λ e. record { listed = map entry_of c.args.listed.items; default = default_or c.args.default e.default } in
+    let with_default : Chosen → Entries = λ d. record { listed = map entry_of c.args.listed.items; default = d } in
+    ap held_in c.in_ok-push.ensures.items
+    ∙ held_behind c.args.held.now.items c.args.table.now _ c.place_of-at.result make at (omega arith) c.in_ok-name.ensures (ap with_default c.in_ok-default.ensures)

@@ -8,5 +8,5 @@ use Rattle.wire_machine.proofs.parse.parse_body.Given as goal
 abbrev pub invariant-loop-st : goal.invariant-loop-st
 invariant-loop-st l = record {
   parsed : body_parsed (map header_in l.headers) (map stmt_of (drop l.st-index l.body)) (reading_of l.s l.frame l.here) ≡ body_parsed (map header_in l.headers) (map stmt_of l.body) (reading_of l.initial.s l.frame l.at);
-  within : l.here ≤ 8 * length l.frame
+  within : l.here ≤ 8 * length l.frame;
 }

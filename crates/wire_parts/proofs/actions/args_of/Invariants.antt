@@ -8,5 +8,5 @@ use Rattle.wire_parts.proofs.actions.args_of.Given as goal
 abbrev pub invariant-loop-a : goal.invariant-loop-a
 invariant-loop-a g l = record {
   within : l.n ≤ length l.params;
-  words : l.words.items ++ args_of (map param_in (drop l.n l.params)) (values_in (map arg_of (drop l.a-index l.args))) (g.S.Sight.store l.s) ≡ args_of (map param_in l.params) (values_in (map arg_of l.args)) (g.S.Sight.store l.s)
+  words : l.words.items ++ args_of (map param_in (drop l.n l.params)) (values_in (map arg_of (drop l.a-index l.args))) (g.S.Sight.store l.s) ≡ args_of (map param_in l.params) (values_in (map arg_of l.args)) (g.S.Sight.store l.s);
 }

@@ -8,5 +8,5 @@ use Rattle.wire_parts.proofs.bodies.settings_under.Given as goal
 abbrev pub invariant-loop-local : goal.invariant-loop-local
 invariant-loop-local l = record {
   settings : map stmt_of l.body.items ++ settings (scope_of l.sc) (map local_of (drop l.local-index l.locals)) ≡ settings (scope_of l.initial.sc) (map local_of l.locals);
-  behind : behind_locals (scope_of l.sc) (map local_of (drop l.local-index l.locals)) ≡ behind_locals (scope_of l.initial.sc) (map local_of l.locals)
+  behind : behind_locals (scope_of l.sc) (map local_of (drop l.local-index l.locals)) ≡ behind_locals (scope_of l.initial.sc) (map local_of l.locals);
 }

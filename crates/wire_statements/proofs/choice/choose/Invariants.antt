@@ -8,7 +8,7 @@ use Rattle.wire_statements.proofs.choice.choose.Given as goal
 abbrev pub invariant-loop-left : goal.invariant-loop-left
 invariant-loop-left l = record {
   within : l.left ≤ length l.entries;
-  found : option_map entry_of (lent l.found) ≡ choice_of l.has_ternary (map entry_of (drop l.left l.entries)) l.keys
+  found : option_map entry_of (lent l.found) ≡ choice_of l.has_ternary (map entry_of (drop l.left l.entries)) l.keys;
 }
 
 abbrev pub decreases-loop-left : goal.decreases-loop-left
