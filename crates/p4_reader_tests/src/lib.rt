@@ -4,4 +4,8 @@
 #[cfg(test)]
 mod expressions;
 #[cfg(test)]
+mod places;
+#[cfg(test)]
 mod show;
+#[cfg(test)]
+mod show_statements;
