@@ -12,7 +12,7 @@ mod found;
 mod simple;
 mod stmt;
 
-pub use declared::{constant, expressions, type_of, variable};
+pub use declared::{constant, expressions, type_of, variable, variable_behind};
 pub use found::{FoundConstant, FoundVariable};
 pub use simple::assignment;
 pub use stmt::block;
