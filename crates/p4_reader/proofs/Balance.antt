@@ -55,7 +55,7 @@ even_const (a_const {u = u} {v = v} x t e) =
 
 -- ---- statements
 
-even_arg : {p : ℕ} {a : Arg} {u : List Lexeme} → SpellsArg p a u → Even u
+pub even_arg : {p : ℕ} {a : Arg} {u : List Lexeme} → SpellsArg p a u → Even u
 even_arg (an_expr s) = even_expr s
 even_arg (several {u = u} s) = plain (key BraceOpen) _ (λ b. refl) (joined u _ (even_exprs s) (flat _ (λ b. refl)))
 

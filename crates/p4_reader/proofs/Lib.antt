@@ -5,6 +5,10 @@ pub mod Turns
 pub mod Locality
 -- What is spelled is read.
 pub mod Balance
+pub mod CompleteLists
+pub mod CompleteDeclared
+pub mod CompleteSimple
+pub mod CompleteStatements
 -- What is read is spelled so, and what was read up to a fault begins it.
 pub mod SoundLists
 pub mod SoundDeclared

@@ -31,7 +31,7 @@ use Rattle.p4_reader.proofs.SoundDeclared.{nought, nought_is, VarLow, IsVar, Rea
 
 -- ---- arguments
 
-exprs_tall : {p : ℕ} {es : List Expr} {u : List Lexeme} → SpellsList (Spells top) p es u → 1 ≤ highest expr_height es
+pub exprs_tall : {p : ℕ} {es : List Expr} {u : List Lexeme} → SpellsList (Spells top) p es u → 1 ≤ highest expr_height es
 exprs_tall (last {a = a} s) = omega (arith, expr_tall a)
 exprs_tall (then {a = a} s r) = omega (arith, expr_tall a)
 
