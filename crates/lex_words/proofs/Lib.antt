@@ -15,6 +15,7 @@ pub mod Even
 pub mod Joins
 pub mod OpenBehind
 pub mod Whole
+pub mod Fronts
 pub mod OneAnswer
 pub mod Named
 pub mod Turns

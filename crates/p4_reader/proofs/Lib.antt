@@ -14,3 +14,6 @@ pub mod SoundLists
 pub mod SoundDeclared
 pub mod SoundSimple
 pub mod SoundStatements
+-- The answers of a place.
+pub mod Answered
+pub mod FrontReaders

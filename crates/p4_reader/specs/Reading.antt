@@ -3,6 +3,8 @@ use Rattle.std.specs.Prelude.{◌≡◌, ℕ, zero, suc, ◌+◌, ◌-◌, List,
 use Rattle.std.specs.Option.{option_map}
 use Rattle.lex_words.specs.declared.key.Key.TheVariants.{If, Else, Return, Exit, BraceOpen, BraceClose, Close, Semicolon, Comma, Assign}
 use Rattle.lex_words.specs.Seen.{Lexeme, name_in, at_key}
+use Rattle.lex_words.specs.declared.halt.Halt.{Halt}
+use Rattle.lex_words.specs.declared.halt.Halt.TheVariants as halt
 use Rattle.lex_words.specs.Reading.{wrong, spent, Read, ◌>>=◌, expect_at, more_of, until, named_at, open_at, room_at}
 use Rattle.p4_tree.specs.Tree.{Arg, one, many, Stmt, MaybeStmt, nothing, block, var, assign, choice, return_, exit_, call, without, otherwise, stmts_from}
 use Rattle.p4_tree.specs.View.{expr_of}
@@ -11,6 +13,9 @@ use Rattle.p4_tree.specs.declared.statement.PTy.TheVariants as type
 use Rattle.p4_spelling.specs.Operators.{top}
 use Rattle.p4_expressions.specs.Reading.{is_scalar, scalar_at, more_names_at, expr_at}
 use Rattle.p4_reader.specs.Declaring.{Variable, Constant, exprs_at, value_at, var_from}
+use Rattle.p4_reader.specs.LeftOut.{is_left_out}
+use Rattle.p4_reader.specs.declared.stop.ReadStop.{ReadStop}
+use Rattle.p4_reader.specs.declared.stop.ReadStop.TheVariants.{NoMemory, Syntax, LeftOut, TooDeep}
 use Rattle.p4_reader.specs.declared.found.FoundVariable.{FoundVariable}
 use Rattle.p4_reader.specs.declared.found.FoundConstant.{FoundConstant}
 
@@ -200,3 +205,12 @@ variable_of x = record { ty = x.ty; name = x.name; start = option_map expr_of x.
 
 abbrev pub constant_of : FoundConstant → Constant
 constant_of x = record { ty = x.ty; name = x.name; value = expr_of x.value }
+
+-- ---- why it stopped
+
+-- as the layers above see it
+abbrev pub stop_of : List Lexeme → Halt → ReadStop
+stop_of ws halt.NoMemory = NoMemory
+stop_of ws (halt.Wrong at) = if is_left_out (slice_get ws at) then LeftOut at else Syntax at
+stop_of ws (halt.High at) = TooDeep at
+stop_of ws (halt.Deep at) = TooDeep at

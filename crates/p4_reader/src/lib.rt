@@ -9,10 +9,16 @@
 
 mod declared;
 mod found;
+mod left_out;
+mod read;
 mod simple;
 mod stmt;
+mod stop;
 
 pub use declared::{constant, expressions, type_of, variable, variable_behind};
 pub use found::{FoundConstant, FoundVariable};
+pub use left_out::is_left_out;
+pub use read::{read_expr, read_stmts};
 pub use simple::assignment;
 pub use stmt::block;
+pub use stop::ReadStop;
