@@ -1,5 +1,5 @@
 -- The lexemes of a program close each round bracket that they open.
-use Rattle.std.proofs.Common.{◌≡◌, ℕ, Bool, List, [], ◌∷◌, ◌++◌, Option, refl}
+use Rattle.std.proofs.Common.{ℕ, Bool, List, [], ◌∷◌, refl}
 use Rattle.lex_words.specs.declared.key.Key.TheVariants as k
 use Rattle.lex_words.specs.Seen.{Lexeme, name, number, key, include}
 use Rattle.lex_words.proofs.Even.{Even, flat, plain, joined, brackets}

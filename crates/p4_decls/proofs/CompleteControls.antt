@@ -1,44 +1,43 @@
 -- Controls that are spelled are read.
-use Rattle.std.proofs.Common.{◌≡◌, ℕ, zero, suc, ◌+◌, ◌-◌, ◌≤◌, ◌<◌, Bool, true, false, List, [], ◌∷◌, ◌++◌, length, Option, Some, None, Ok, refl, sym, ap, ◌∙◌, subst, arith, length-append, append_assoc}
+use Rattle.std.proofs.Common.{◌≡◌, ℕ, zero, suc, ◌+◌, ◌-◌, ◌≤◌, ◌<◌, false, List, [], ◌∷◌, ◌++◌, length, Option, Some, None, Ok, refl, sym, ap, ◌∙◌, arith, length-append, append_assoc}
 use Rattle.std.proofs.lemmas.List.{append-nil}
 use Rattle.std.specs.Prelude.{slice_get, is_some}
 use Rattle.lex_text.specs.Names.{same_text}
 use Rattle.lex_words.specs.declared.key.Key.TheVariants as k
-use Rattle.lex_words.specs.Seen.{Lexeme, name, number, key, at_key, name_in}
+use Rattle.lex_words.specs.Seen.{Lexeme, name, key, at_key, name_in}
 use Rattle.lex_words.specs.Brackets.{left}
 use Rattle.lex_words.specs.Reading.{◌>>=◌}
 use Rattle.lex_words.proofs.Even.{parted, opened}
 use Rattle.lex_words.proofs.Standing.{Stands, Stands-split}
-use Rattle.lex_words.proofs.Steps.{goes_on, expect_ok, named_ok, is_not}
-use Rattle.p4_tree.specs.Tree.{Expr, Stmt, Stmts, stmts_from, Action, Table, Local, local_action, local_table, local_register, local_const, local_var, Control}
-use Rattle.p4_tree.specs.Height.{highest, height_if, expr_height, stmts_height, action_height, local_height, control_height}
+use Rattle.lex_words.proofs.Steps.{goes_on, expect_ok, named_ok}
+use Rattle.p4_tree.specs.Tree.{Expr, Stmt, stmts_from, Action, Table, Local, local_action, local_var, Control}
+use Rattle.p4_tree.specs.Height.{highest, action_height, local_height, control_height}
 use Rattle.p4_tree.specs.declared.statement.PTy.{PTy}
 use Rattle.p4_tree.specs.declared.statement.PTy.TheVariants as type
 use Rattle.p4_tree.specs.declared.program.Param.{Param}
 use Rattle.p4_tree.specs.declared.program.Register.{Register}
 use Rattle.p4_spelling.specs.Words.{apply_name}
-use Rattle.p4_spelling.specs.Lists.{SpellsList, SpellsSome, SpellsEach, no_more, one_more}
+use Rattle.p4_spelling.specs.Lists.{SpellsSome, SpellsEach, no_more, one_more}
 use Rattle.p4_spelling.specs.Types.{a_bool, a_bit, bits, SpellsScalar, SpellsType, a_scalar, a_name, SpellsArgument, an_argument, SpellsParam}
-use Rattle.p4_spelling.specs.Statements.{SpellsVar, a_var, SpellsConst, a_const, SpellsBlock}
-use Rattle.p4_spelling.specs.Controls.{SpellsAction, an_action, SpellsTable, a_table, is_apply, SpellsLocal, an_action as a_local_action, a_table as a_local_table, a_register, a_const as a_local_const, a_var as a_local_var, SpellsControl, a_control}
+use Rattle.p4_spelling.specs.Statements.{a_var, SpellsConst, a_const}
+use Rattle.p4_spelling.specs.Controls.{SpellsAction, an_action, SpellsTable, a_table, SpellsLocal, an_action as a_local_action, a_table as a_local_table, a_register, a_const as a_local_const, a_var as a_local_var, SpellsControl, a_control}
 use Rattle.p4_spelling.specs.Types as types
 use Rattle.p4_expressions.specs.Reading.{scalar_at}
 use Rattle.p4_expressions.proofs.CompleteSteps.{scalar_read}
 use Rattle.p4_expressions.proofs.SoundSteps.{Any}
-use Rattle.p4_reader.specs.Declaring.{Variable, var_from}
+use Rattle.p4_reader.specs.Declaring.{var_from}
 use Rattle.p4_reader.specs.Reading.{body_at}
 use Rattle.p4_reader.proofs.Balance.{even_block}
-use Rattle.p4_reader.proofs.CompleteDeclared.{VarParts, var_parts, const_is_read}
+use Rattle.p4_reader.proofs.CompleteDeclared.{var_parts, const_is_read}
 use Rattle.p4_reader.proofs.CompleteStatements.{stmts_in, stmts_from-stmts_in, block_is_read}
 use Rattle.p4_decls.specs.Repeating.{list_at, some_at}
 use Rattle.p4_decls.specs.Declaring.{argument_at, param_at}
 use Rattle.p4_decls.specs.Controls.{action_at, variable_at, behind_name_at, variable_or_apply_at, local_at, goes_on as local_goes_on, locals_at, control_at}
-use Rattle.p4_decls.proofs.Repeats.{Each}
 use Rattle.p4_decls.proofs.Repeated.{some_is_read}
 use Rattle.p4_decls.proofs.Balance.{even_argument, even_arguments, even_params, even_local, even_locals}
 use Rattle.p4_decls.proofs.Firsts.{type_first}
 use Rattle.p4_decls.proofs.CompleteDeclaring.{register_is_read, argument_is_read}
-use Rattle.p4_decls.proofs.CompleteParsers.{low_each, any_each, Anything, params_are_read}
+use Rattle.p4_decls.proofs.CompleteParsers.{any_each, Anything, params_are_read}
 use Rattle.p4_decls.proofs.CompleteTables.{table_is_read}
 
 argument_first : (p : ℕ) (a : PTy × List ℕ) (u : List Lexeme) → SpellsArgument p a u → (ws : List Lexeme) (q : ℕ) → Stands ws p u q → at_key k.Close (slice_get ws p) ≡ false

@@ -1,20 +1,20 @@
 -- Parsers that are spelled are read.
-use Rattle.std.proofs.Common.{◌≡◌, ℕ, suc, ◌+◌, ◌-◌, ◌≤◌, ◌<◌, true, false, List, [], ◌∷◌, ◌++◌, length, Option, Some, Ok, refl, sym, ap, ◌∙◌, subst, arith, length-append}
+use Rattle.std.proofs.Common.{◌≡◌, ℕ, ◌+◌, ◌-◌, ◌≤◌, ◌<◌, true, false, List, [], ◌∷◌, ◌++◌, length, Option, Some, Ok, refl, sym, ap, ◌∙◌, arith, length-append}
 use Rattle.std.specs.Prelude.{slice_get}
 use Rattle.lex_words.specs.declared.key.Key.{Key}
 use Rattle.lex_words.specs.declared.key.Key.TheVariants as k
-use Rattle.lex_words.specs.Seen.{Lexeme, name, number, key, at_key}
+use Rattle.lex_words.specs.Seen.{Lexeme, name, key, at_key}
 use Rattle.lex_words.specs.Brackets.{left}
 use Rattle.lex_words.proofs.Even.{parted, opened}
 use Rattle.lex_words.proofs.Standing.{Stands, Stands-split}
 use Rattle.lex_words.proofs.Steps.{goes_on, expect_ok, named_ok, is_not, number_is}
-use Rattle.p4_tree.specs.Tree.{Expr, num, flag, path, one, Stmt, assign, call, Keyset, any, only, masked, Case, Transition, nowhere, to, select, ParserState, Parser}
+use Rattle.p4_tree.specs.Tree.{Expr, num, flag, path, one, Stmt, assign, call, Keyset, any, Case, Transition, nowhere, to, select, ParserState, Parser}
 use Rattle.p4_tree.specs.Height.{highest, expr_height, stmt_height, transition_height, state_height, parser_height}
 use Rattle.p4_spelling.specs.Operators.{top}
-use Rattle.p4_spelling.specs.Lists.{SpellsList, SpellsEach, no_more, one_more}
+use Rattle.p4_spelling.specs.Lists.{SpellsList, SpellsEach}
 use Rattle.p4_spelling.specs.Types.{SpellsParam}
 use Rattle.p4_spelling.specs.Expressions.{SpellsPath, Spells}
-use Rattle.p4_spelling.specs.Statements.{SpellsAssign, an_assign}
+use Rattle.p4_spelling.specs.Statements.{an_assign}
 use Rattle.p4_spelling.specs.Parsers.{SpellsParserStmt, an_assignment, a_call, SpellsSimple, a_number, a_name, a_true, a_false, SpellsKeyset, a_default, a_low_line, a_value, a_mask, SpellsKeys, one_key, in_brackets, SpellsCase, a_case, SpellsNext, no_transition, a_transition, a_select, SpellsState, a_state, SpellsParser, a_parser}
 use Rattle.p4_expressions.specs.Reading.{expr_at}
 use Rattle.p4_expressions.proofs.Behind.{Closes}

@@ -1,9 +1,9 @@
 -- Tables that are spelled are read.
-use Rattle.std.proofs.Common.{◌≡◌, ℕ, zero, suc, ◌+◌, ◌-◌, ◌≤◌, ◌<◌, Bool, true, false, List, [], ◌∷◌, ◌++◌, length, Option, Some, None, Ok, refl, sym, ap, ◌∙◌, subst, arith, length-append, append_assoc}
+use Rattle.std.proofs.Common.{◌≡◌, ℕ, zero, suc, ◌+◌, ◌-◌, ◌≤◌, ◌<◌, true, false, List, [], ◌∷◌, ◌++◌, length, Option, Some, None, Ok, refl, sym, ap, ◌∙◌, subst, arith, length-append, append_assoc}
 use Rattle.std.proofs.lemmas.List.{append-nil}
 use Rattle.std.specs.Prelude.{slice_get, is_some}
 use Rattle.lex_words.specs.declared.key.Key.TheVariants as k
-use Rattle.lex_words.specs.Seen.{Lexeme, name, number, key, at_key, at_name}
+use Rattle.lex_words.specs.Seen.{Lexeme, name, number, key, at_key}
 use Rattle.lex_words.specs.Brackets.{left}
 use Rattle.lex_text.specs.declared.literal.Literal.{Literal}
 use Rattle.lex_words.specs.Reading.{◌>>=◌, this_name_at}
@@ -14,19 +14,18 @@ use Rattle.p4_tree.specs.Tree.{Expr, Table}
 use Rattle.p4_tree.specs.Height.{highest, height_if, expr_height, table_height}
 use Rattle.p4_spelling.specs.Words.{key_name, size_name, actions_name, default_name}
 use Rattle.p4_spelling.specs.Operators.{top}
-use Rattle.p4_spelling.specs.Lists.{SpellsSome, SpellsEach, no_more, one_more}
+use Rattle.p4_spelling.specs.Lists.{SpellsEach, no_more, one_more}
 use Rattle.p4_spelling.specs.Expressions.{Spells}
-use Rattle.p4_spelling.specs.Controls.{TableProp, keys, size, actions, default, SpellsKey, a_key, SpellsActionName, a_name, with_brackets, SpellsArguments, no_brackets, in_brackets, SpellsFixed, fixed, free, SpellsTableProp, the_keys, the_size, the_actions, the_default, kind_of, Lacks, AreOnce, keys_in, default_in, table_of, SpellsTable, a_table}
+use Rattle.p4_spelling.specs.Controls.{TableProp, keys, size, actions, default, SpellsKey, a_key, SpellsActionName, a_name, with_brackets, SpellsArguments, no_brackets, in_brackets, fixed, free, SpellsTableProp, the_keys, the_size, the_actions, the_default, kind_of, Lacks, AreOnce, keys_in, default_in, table_of, SpellsTable, a_table}
 use Rattle.p4_expressions.specs.Reading.{expr_at}
 use Rattle.p4_expressions.proofs.Complete.{expr_before}
 use Rattle.p4_expressions.proofs.SoundSteps.{Any}
 use Rattle.p4_reader.proofs.Balance.{even_expr, even_some}
-use Rattle.p4_decls.specs.Repeating.{each_at, some_at}
 use Rattle.p4_decls.specs.Parsing.{closes_brace}
 use Rattle.p4_decls.specs.Tables.{Props, no_props, with_keys, with_size, with_actions, with_default, table_with, key_at, table_keys_at, table_size_at, action_end_at, action_name_at, table_actions_at, arguments_at, default_at, keys_prop_at, size_prop_at, actions_prop_at, default_prop_at, named_prop_at, fixed_prop_at, prop_at, props_at, table_at}
 use Rattle.p4_decls.proofs.Repeats.{Each}
 use Rattle.p4_decls.proofs.Repeated.{some_is_read, each_is_read}
-use Rattle.p4_decls.proofs.Balance.{even_key, even_table_keys, even_action_name, even_action_names, even_given, even_fixed, even_prop, even_props}
+use Rattle.p4_decls.proofs.Balance.{even_key, even_table_keys, even_action_name, even_action_names, even_given, even_prop, even_props}
 use Rattle.p4_decls.proofs.Firsts.{expr_first, close_first, brace_first}
 use Rattle.p4_decls.proofs.CompleteParsers.{low_each, any_each, Anything, IsClosed, comma_closed, close_closes, colon_closes}
 use Rattle.p4_decls.proofs.Props.{pick, some_keys, some_size, some_actions, some_default, props_from, push_keys, push_size, push_actions, push_default, the_keys_kind, the_size_kind, the_actions_kind, the_default_kind, lacks_none, once_front, table_is}

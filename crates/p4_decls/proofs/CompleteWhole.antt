@@ -1,14 +1,14 @@
 -- Programs that are spelled are read.
-use Rattle.std.proofs.Common.{◌≡◌, ℕ, zero, suc, ◌+◌, ◌-◌, ◌≤◌, ◌<◌, Bool, true, false, List, [], ◌∷◌, ◌++◌, length, Option, Some, Ok, refl, sym, ap, ◌∙◌, subst, arith, length-append}
+use Rattle.std.proofs.Common.{◌≡◌, ℕ, zero, suc, ◌+◌, ◌-◌, ◌≤◌, ◌<◌, true, false, List, [], ◌∷◌, ◌++◌, length, Some, Ok, refl, ap, ◌∙◌, subst, arith, length-append}
 use Rattle.std.specs.Prelude.{slice_get}
 use Rattle.lex_words.specs.declared.key.Key.TheVariants as k
-use Rattle.lex_words.specs.Seen.{Lexeme, name, number, key, include, at_key, at_include}
+use Rattle.lex_words.specs.Seen.{Lexeme, name, key, at_include}
 use Rattle.lex_words.specs.Brackets.{left}
-use Rattle.lex_words.specs.Reading.{◌>>=◌, this_name_at}
+use Rattle.lex_words.specs.Reading.{this_name_at}
 use Rattle.lex_words.proofs.Even.{parted, opened}
 use Rattle.lex_words.proofs.Standing.{Stands, Stands-split, Stands-whole}
 use Rattle.lex_words.proofs.Steps.{goes_on, expect_ok, named_ok, is_not}
-use Rattle.p4_tree.specs.Tree.{Expr, Top, constant, typedef, header_type, struct_type, register, parser, control, Parser, Control, Program}
+use Rattle.p4_tree.specs.Tree.{Expr, Top, typedef, header_type, struct_type, Parser, Control, Program}
 use Rattle.p4_tree.specs.Height.{highest, top_height, height}
 use Rattle.p4_tree.specs.declared.statement.PTy.{PTy}
 use Rattle.p4_tree.specs.declared.program.Register.{Register}
@@ -25,7 +25,6 @@ use Rattle.p4_decls.specs.Repeating.{each_at, list_at}
 use Rattle.p4_decls.specs.Declaring.{field_at}
 use Rattle.p4_decls.specs.Parsing.{closes_brace}
 use Rattle.p4_decls.specs.Programs.{ends_tops, typedef_at, header_at, struct_at, top_at, includes_at, part_at, parts_at, main_at, whole_at}
-use Rattle.p4_decls.proofs.Repeats.{Each}
 use Rattle.p4_decls.proofs.Repeated.{list_is_read, each_is_read}
 use Rattle.p4_decls.proofs.Balance.{even_field, even_fields, even_top, even_tops, even_includes, even_part, even_parts}
 use Rattle.p4_decls.proofs.Firsts.{type_first}

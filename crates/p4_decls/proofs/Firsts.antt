@@ -1,13 +1,13 @@
 -- With which lexemes expressions and types begin.
-use Rattle.std.proofs.Common.{◌≡◌, ℕ, ◌+◌, false, List, [], ◌∷◌, ◌++◌, length, Some, refl, ap, ◌∙◌}
+use Rattle.std.proofs.Common.{◌≡◌, ℕ, ◌+◌, false, List, ◌∷◌, length, Some, refl, ap, ◌∙◌}
 use Rattle.std.specs.Prelude.{slice_get}
 use Rattle.lex_words.specs.declared.key.Key.{Key}
 use Rattle.lex_words.specs.declared.key.Key.TheVariants as k
-use Rattle.lex_words.specs.Seen.{Lexeme, name, key, at_key}
+use Rattle.lex_words.specs.Seen.{Lexeme, key, at_key}
 use Rattle.lex_words.proofs.Standing.{Stands, Stands-split}
 use Rattle.p4_tree.specs.Tree.{Expr}
 use Rattle.p4_tree.specs.declared.statement.PTy.{PTy}
-use Rattle.p4_spelling.specs.Types.{SpellsScalar, a_bool, a_bit, bits, SpellsType, a_scalar, a_name}
+use Rattle.p4_spelling.specs.Types.{a_bool, a_bit, bits, SpellsType, a_scalar, a_name}
 use Rattle.p4_spelling.specs.Expressions.{SpellsPath, last_name, then_names, SpellsPostfix, a_number, a_true, a_false, an_error, a_path, a_validity, an_application, in_brackets, a_slice, Spells, a_postfix, a_not, an_inversion, an_opposite, a_cast, tighter, joined, a_conditional}
 use Rattle.p4_expressions.proofs.Balanced.{valid_end, slice_end}
 

@@ -10,13 +10,9 @@ use Rattle.lex_words.proofs.Locality.{Follows, Follows-bind, Follows-from, Follo
 use Rattle.p4_tree.specs.Tree.{Local}
 use Rattle.p4_tree.specs.declared.statement.PTy.{PTy}
 use Rattle.p4_spelling.specs.Words.{apply_name, key_name, size_name, actions_name, default_name, main_name}
-use Rattle.p4_spelling.specs.Operators.{top}
-use Rattle.p4_expressions.specs.Reading.{expr_at}
-use Rattle.p4_expressions.proofs.Locality.{Follows-small, Follows-scalar, Follows-names, Follows-expr}
-use Rattle.p4_reader.specs.Declaring.{type_at}
-use Rattle.p4_reader.proofs.Locality.{Follows-type, var_behind, Follows-const, Follows-assign, Follows-body}
-use Rattle.p4_decls.specs.Declaring.{closed_width_at, closed_bits_at, closed_at, register_at, way_at, param_at, argument_at, field_at}
-use Rattle.p4_decls.specs.Parsing.{closes_brace, ends_steps, taken_at, step_at, one_name_at, simple_at, masked_at, keyset_at, keys_at, case_at, select_at, to_at, transition_at, next_at, state_at, parser_at}
+use Rattle.p4_expressions.proofs.Locality.{Follows-scalar}
+use Rattle.p4_reader.proofs.Locality.{var_behind, Follows-const, Follows-body}
+use Rattle.p4_decls.specs.Parsing.{closes_brace}
 use Rattle.p4_decls.specs.Tables.{Props, no_props, key_at, table_keys_at, table_size_at, action_end_at, action_name_at, table_actions_at, arguments_at, default_at, keys_prop_at, size_prop_at, actions_prop_at, default_prop_at, named_prop_at, fixed_prop_at, prop_at, props_at, table_at}
 use Rattle.p4_decls.specs.Controls.{action_at, variable_at, behind_name_at, variable_or_apply_at, local_at, goes_on, locals_at, control_at}
 use Rattle.p4_decls.specs.Programs.{ends_tops, typedef_at, header_at, struct_at, top_at, includes_at, part_at, parts_at, main_at, whole_at}

@@ -1,26 +1,19 @@
 -- What is read of parameters, registers and parsers rests on the lexemes up to the place where reading ends, and on no other.
-use Rattle.std.proofs.Common.{◌≡◌, ℕ, zero, suc, ◌+◌, ◌-◌, ◌≤◌, Bool, true, false, cond, List, [], ◌∷◌, ◌++◌, Option, Some, None, Ok, Err, refl, ap, arith}
+use Rattle.std.proofs.Common.{◌≡◌, ℕ, ◌+◌, ◌-◌, ◌≤◌, Bool, cond, List, Option, Ok, ap, arith}
 use Rattle.std.specs.Prelude.{slice_get, is_some}
-use Rattle.lex_text.specs.Names.{same_text}
 use Rattle.lex_words.specs.declared.key.Key.{Key}
 use Rattle.lex_words.specs.declared.key.Key.TheVariants as k
-use Rattle.lex_words.specs.Seen.{Lexeme, at_key, name_in, at_include}
-use Rattle.lex_words.specs.Reading.{wrong, Read, ◌>>=◌, look, expect_at, named, named_at}
-use Rattle.lex_words.proofs.Locality.{Follows, Follows-bind, Follows-from, Follows-look, Follows-later, Follows-cond, Follows-wrong, Follows-spent, Follows-ok, Follows-test, Follows-expect, Follows-named, Follows-numbered, Follows-this_name}
-use Rattle.p4_tree.specs.Tree.{Local}
-use Rattle.p4_tree.specs.declared.statement.PTy.{PTy}
-use Rattle.p4_spelling.specs.Words.{apply_name, key_name, size_name, actions_name, default_name, main_name}
+use Rattle.lex_words.specs.Seen.{Lexeme, at_key, name_in}
+use Rattle.lex_words.specs.Reading.{Read, ◌>>=◌, expect_at}
+use Rattle.lex_words.proofs.Locality.{Follows, Follows-bind, Follows-later, Follows-ok, Follows-test, Follows-expect, Follows-named, Follows-numbered}
 use Rattle.p4_spelling.specs.Operators.{top}
 use Rattle.p4_expressions.specs.Reading.{expr_at}
-use Rattle.p4_expressions.proofs.Locality.{Follows-small, Follows-scalar, Follows-names, Follows-expr}
+use Rattle.p4_expressions.proofs.Locality.{Follows-small, Follows-names, Follows-expr}
 use Rattle.p4_reader.specs.Declaring.{type_at}
-use Rattle.p4_reader.proofs.Locality.{Follows-type, var_behind, Follows-const, Follows-assign, Follows-body}
+use Rattle.p4_reader.proofs.Locality.{Follows-type, Follows-assign}
 use Rattle.p4_decls.specs.Declaring.{closed_width_at, closed_bits_at, closed_at, register_at, way_at, param_at, argument_at, field_at}
 use Rattle.p4_decls.specs.Parsing.{closes_brace, ends_steps, taken_at, step_at, one_name_at, simple_at, masked_at, keyset_at, keys_at, case_at, select_at, to_at, transition_at, next_at, state_at, parser_at}
-use Rattle.p4_decls.specs.Tables.{Props, no_props, key_at, table_keys_at, table_size_at, action_end_at, action_name_at, table_actions_at, arguments_at, default_at, keys_prop_at, size_prop_at, actions_prop_at, default_prop_at, named_prop_at, fixed_prop_at, prop_at, props_at, table_at}
-use Rattle.p4_decls.specs.Controls.{action_at, variable_at, behind_name_at, variable_or_apply_at, local_at, goes_on, locals_at, control_at}
-use Rattle.p4_decls.specs.Programs.{ends_tops, typedef_at, header_at, struct_at, top_at, includes_at, part_at, parts_at, main_at, whole_at}
-use Rattle.p4_decls.proofs.Repeats.{Follows-each, Follows-list, Follows-some}
+use Rattle.p4_decls.proofs.Repeats.{Follows-each, Follows-list}
 
 -- Two readings, of the lexemes ws and vs, with turns n and m. Hs: both have the same bound on heights; Bs: on brackets.
 module _ (ws vs : List Lexeme) (Hs Bs : Type 0) (n m : ℕ) (turns : n ≤ m) where

@@ -5,7 +5,7 @@ use Rattle.lex_text.specs.declared.token.Token.{Token}
 use Rattle.lex_text.specs.declared.token.Words.TheVariants.{P4}
 use Rattle.lex_text.specs.Tokens.{TokensOf}
 use Rattle.lex_text.proofs.OneAnswer.{one_list, one_fault, tokens_or_fault}
-use Rattle.lex_words.specs.Seen.{Lexeme, lexemes_of}
+use Rattle.lex_words.specs.Seen.{lexemes_of}
 use Rattle.lex_words.specs.Faults.{IsSyntax, OfLexemes}
 use Rattle.lex_words.proofs.OneAnswer.{one_tree, no_lexing_fault, no_dead_lexeme, no_deep_lexeme, one_dead_lexeme, one_deep_lexeme, dead_or_deep_lexeme}
 use Rattle.p4_tree.specs.Tree.{Program}

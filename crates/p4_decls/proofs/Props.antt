@@ -1,7 +1,6 @@
 -- The properties of a table as a list and by their kind.
-use Rattle.std.proofs.Common.{◌≡◌, ◌≢◌, ℕ, Bool, true, false, List, [], ◌∷◌, ◌++◌, Option, Some, None, refl, sym, ap, ◌∙◌, arith}
+use Rattle.std.proofs.Common.{◌≡◌, ◌≢◌, ℕ, Bool, false, List, [], ◌∷◌, ◌++◌, Option, Some, None, refl, sym, ap, ◌∙◌, arith}
 use Rattle.std.specs.Prelude.{is_some}
-use Rattle.std.specs.Option.{option_map}
 use Rattle.p4_tree.specs.Tree.{Expr}
 use Rattle.p4_spelling.specs.Controls.{TableProp, keys, size, actions, default, kind_of, Lacks, AreOnce, keys_in, actions_in, default_in, fixed_in, size_in, table_of}
 use Rattle.p4_decls.specs.Tables.{Props, with_keys, with_size, with_actions, with_default, items_or_none, table_with}

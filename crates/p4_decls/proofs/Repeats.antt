@@ -1,10 +1,10 @@
 -- What is read again and again: on what it rests, and what is spelled.
-use Rattle.std.proofs.Common.{◌≡◌, ℕ, zero, suc, ◌+◌, ◌-◌, ◌≤◌, ◌<◌, Bool, true, false, cond, List, [], ◌∷◌, ◌++◌, length, Option, Some, None, Ok, refl, sym, ap, subst, ◌∙◌, arith, append_assoc, length-append}
+use Rattle.std.proofs.Common.{◌≡◌, ℕ, zero, suc, ◌+◌, ◌≤◌, Bool, cond, List, [], ◌∷◌, ◌++◌, length, Option, Ok, refl, subst, arith}
 use Rattle.std.proofs.lemmas.List.{append-nil}
 use Rattle.std.specs.Prelude.{slice_get}
 use Rattle.lex_words.specs.declared.key.Key.TheVariants.{Comma, Close}
-use Rattle.lex_words.specs.Seen.{Lexeme, key, at_key}
-use Rattle.lex_words.specs.Reading.{Read, ◌>>=◌, look, more_of}
+use Rattle.lex_words.specs.Seen.{Lexeme, at_key}
+use Rattle.lex_words.specs.Reading.{Read, look, more_of}
 use Rattle.lex_words.proofs.Even.{Even, flat, joined}
 use Rattle.lex_words.proofs.Locality.{Follows, Follows-bind, Follows-cond, Follows-spent, Follows-ok, Follows-look, Follows-more}
 use Rattle.lex_words.proofs.Spelled.{Reads, Reads-bind, Reads-map, Reads-ok, Reads-spent, Reads-cond, Reads-either}

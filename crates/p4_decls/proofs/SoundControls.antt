@@ -1,15 +1,15 @@
 -- Controls: what is read is spelled so, and what was read up to a fault begins it.
-use Rattle.std.proofs.Common.{◌≡◌, ℕ, zero, suc, ◌+◌, ◌-◌, ◌≤◌, Bool, true, false, cond, max, List, [], ◌∷◌, ◌++◌, length, Option, Some, None, Ok, refl, sym, ap, ◌∙◌, subst, arith, append_assoc, length-append}
+use Rattle.std.proofs.Common.{◌≡◌, ℕ, zero, suc, ◌+◌, ◌-◌, ◌≤◌, Bool, true, false, List, [], ◌∷◌, ◌++◌, length, Option, Some, None, Ok, refl, sym, ap, ◌∙◌, subst, arith, append_assoc, length-append}
 use Rattle.std.proofs.lemmas.List.{append-nil}
 use Rattle.std.specs.Prelude.{slice_get, is_some}
 use Rattle.lex_text.specs.Names.{same_text}
 use Rattle.lex_words.specs.declared.key.Key.TheVariants as k
-use Rattle.lex_words.specs.Seen.{Lexeme, name, number, key, at_key, name_in}
+use Rattle.lex_words.specs.Seen.{Lexeme, name, key, at_key, name_in}
 use Rattle.lex_words.specs.Reading.{Read, ◌>>=◌}
 use Rattle.lex_words.proofs.Standing.{Stands-length}
 use Rattle.lex_words.proofs.Spelled.{Ends, Reads, Reads-bind, Reads-map, Reads-ok, Reads-spent, Reads-cond, Reads-expect, Reads-named}
 use Rattle.p4_tree.specs.Tree.{Expr, Stmt, Stmts, done, stmts_from, Action, Local, local_action, local_table, local_register, local_const, local_var, Control}
-use Rattle.p4_tree.specs.Height.{highest, height_if, expr_height, stmts_height, action_height, table_height, local_height, control_height}
+use Rattle.p4_tree.specs.Height.{height_if, expr_height, stmts_height, action_height, table_height, local_height, control_height}
 use Rattle.p4_tree.specs.declared.statement.PTy.{PTy}
 use Rattle.p4_tree.specs.declared.statement.PTy.TheVariants as type
 use Rattle.p4_tree.specs.declared.program.Param.{Param}
@@ -19,8 +19,7 @@ use Rattle.p4_spelling.specs.Types.{SpellsScalar, a_bool, a_bit, bits, SpellsTyp
 use Rattle.p4_spelling.specs.Statements.{SpellsStart, no_start, SpellsVar, a_var, SpellsConst, SpellsBlock, in_braces, no_more as no_statement}
 use Rattle.p4_spelling.specs.Controls.{SpellsAction, an_action, SpellsTable, is_apply, SpellsLocal, an_action as a_local_action, a_table, a_register, a_const, a_var as a_local_var, SpellsControl, a_control}
 use Rattle.p4_expressions.proofs.SoundSteps.{some_name, Any, text_is, Reads-scalar}
-use Rattle.p4_reader.specs.Declaring.{Variable, var_from, const_at}
-use Rattle.p4_reader.specs.Reading.{body_at}
+use Rattle.p4_reader.specs.Declaring.{Variable, var_from}
 use Rattle.p4_reader.proofs.SoundDeclared.{Reads-start, Reads-const}
 use Rattle.p4_reader.proofs.SoundStatements.{Reads-body}
 use Rattle.p4_decls.specs.Declaring.{argument_at, param_at}

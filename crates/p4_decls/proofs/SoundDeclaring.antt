@@ -1,6 +1,5 @@
 -- Registers, parameters and fields: what is read is spelled so, and what was read up to a fault begins it.
-use Rattle.std.proofs.Common.{◌≡◌, ℕ, suc, ◌+◌, ◌≤◌, List, [], ◌∷◌, ◌++◌, length, refl, sym, subst, arith, append_assoc}
-use Rattle.std.proofs.lemmas.List.{append-nil}
+use Rattle.std.proofs.Common.{ℕ, suc, ◌+◌, List, [], ◌∷◌, ◌++◌, refl, sym, subst, arith, append_assoc}
 use Rattle.std.specs.Prelude.{slice_get}
 use Rattle.lex_text.specs.declared.literal.Literal.{Literal}
 use Rattle.lex_words.specs.declared.key.Key.TheVariants as k
@@ -13,7 +12,7 @@ use Rattle.p4_tree.specs.declared.program.Way.{Way}
 use Rattle.p4_tree.specs.declared.program.Way.TheVariants as way
 use Rattle.p4_tree.specs.declared.program.Param.{Param}
 use Rattle.p4_tree.specs.declared.program.Register.{Register}
-use Rattle.p4_spelling.specs.Types.{SpellsScalar, a_bool, a_bit, bits, SpellsType, a_scalar, SpellsClosed, closed, both_closed, SpellsRegister, a_register, SpellsWay, plain, into, out, both, SpellsParam, a_param, SpellsArgument, an_argument, SpellsField, a_field}
+use Rattle.p4_spelling.specs.Types.{a_bool, a_bit, bits, SpellsType, a_scalar, SpellsClosed, closed, both_closed, SpellsRegister, a_register, SpellsWay, plain, into, out, both, SpellsParam, a_param, SpellsArgument, an_argument, SpellsField, a_field}
 use Rattle.p4_expressions.proofs.SoundSteps.{zero_lexeme, some_name, Any, Reads-small}
 use Rattle.p4_reader.proofs.SoundDeclared.{Reads-type}
 use Rattle.p4_decls.specs.Declaring.{closed_width_at, closed_bits_at, closed_at, register_at, way_at, param_at, argument_at, field_at}

@@ -1,21 +1,19 @@
 -- Parsers: what is read is spelled so, and what was read up to a fault begins it.
-use Rattle.std.proofs.Common.{◌≡◌, ℕ, suc, ◌+◌, ◌-◌, ◌≤◌, Bool, true, false, max, List, [], ◌∷◌, ◌++◌, length, refl, sym, subst, arith}
+use Rattle.std.proofs.Common.{◌≡◌, ℕ, suc, ◌+◌, ◌-◌, ◌≤◌, true, false, List, [], ◌∷◌, ◌++◌, length, refl, sym, subst, arith}
 use Rattle.std.proofs.lemmas.List.{append-nil}
 use Rattle.std.specs.Prelude.{slice_get, is_some}
-use Rattle.lex_text.specs.declared.literal.Literal.{Literal}
 use Rattle.lex_words.specs.declared.key.Key.TheVariants as k
 use Rattle.lex_words.specs.Seen.{Lexeme, name, number, key, at_key, name_in}
 use Rattle.lex_words.proofs.KeyCodes.{at_key-is}
 use Rattle.lex_words.proofs.Standing.{Stands-length}
 use Rattle.lex_words.proofs.Spelled.{Reads, Reads-bind, Reads-map, Reads-lexeme, Reads-ok, Reads-cond, Reads-expect, Reads-named, Reads-numbered}
-use Rattle.p4_tree.specs.Tree.{Expr, num, flag, path, one, Stmt, assign, call, Keyset, any, only, masked, Case, Transition, nowhere, to, select, ParserState, Parser}
+use Rattle.p4_tree.specs.Tree.{Expr, num, flag, path, one, Stmt, call, Keyset, any, only, masked, Case, Transition, nowhere, to, select, ParserState, Parser}
 use Rattle.p4_tree.specs.Height.{highest, expr_height, stmt_height, keyset_height, case_height, transition_height, state_height, parser_height}
 use Rattle.p4_tree.specs.declared.program.Param.{Param}
 use Rattle.p4_spelling.specs.Operators.{top}
 use Rattle.p4_spelling.specs.Lists.{SpellsList, last, SpellsEach, no_more}
 use Rattle.p4_spelling.specs.Types.{SpellsParam}
 use Rattle.p4_spelling.specs.Expressions.{SpellsPath, last_name, Spells}
-use Rattle.p4_spelling.specs.Statements.{SpellsAssign}
 use Rattle.p4_spelling.specs.Parsers.{SpellsParserStmt, an_assignment, a_call, SpellsSimple, a_number, a_name, a_true, a_false, SpellsKeyset, a_default, a_low_line, a_value, a_mask, SpellsKeys, one_key, in_brackets, SpellsCase, a_case, SpellsNext, no_transition, a_transition, a_select, SpellsState, a_state, SpellsParser, a_parser}
 use Rattle.p4_expressions.specs.Reading.{expr_at}
 use Rattle.p4_expressions.proofs.SoundSteps.{zero_lexeme, some_name, Any, a_number_up}

@@ -1,16 +1,15 @@
 -- Tables: what is read is spelled so, and what was read up to a fault begins it.
-use Rattle.std.proofs.Common.{◌≡◌, ℕ, zero, suc, ◌+◌, ◌-◌, ◌≤◌, Bool, true, false, cond, List, [], ◌∷◌, ◌++◌, length, Option, Some, None, Ok, Err, refl, sym, ap, ◌∙◌, subst, arith, append_assoc, length-append}
+use Rattle.std.proofs.Common.{◌≡◌, ℕ, zero, suc, ◌+◌, ◌-◌, ◌≤◌, Bool, true, false, List, [], ◌∷◌, ◌++◌, length, Option, Some, None, Err, refl, sym, ap, ◌∙◌, subst, arith, append_assoc, length-append}
 use Rattle.std.proofs.lemmas.List.{append-nil}
 use Rattle.std.specs.Prelude.{slice_get, is_some}
 use Rattle.lex_text.specs.Names.{same_text}
-use Rattle.lex_text.specs.declared.literal.Literal.{Literal}
 use Rattle.lex_words.specs.declared.key.Key.TheVariants as k
 use Rattle.lex_words.specs.Seen.{Lexeme, name, number, key, at_key, name_in}
-use Rattle.lex_words.specs.Reading.{wrong, Read, ◌>>=◌, named, named_at}
+use Rattle.lex_words.specs.Reading.{wrong, ◌>>=◌, named, named_at}
 use Rattle.lex_words.proofs.KeyCodes.{at_key-is, name_lexeme}
 use Rattle.lex_words.proofs.Standing.{Stands-length}
-use Rattle.lex_words.proofs.Spelled.{Ends, Reads, Reads-bind, Reads-map, Reads-lexeme, Reads-wrong, Reads-ok, Reads-spent, Reads-cond, Reads-expect, Reads-named, Reads-numbered, Reads-this_name}
-use Rattle.p4_tree.specs.Tree.{Expr, num, Table}
+use Rattle.lex_words.proofs.Spelled.{Reads, Reads-bind, Reads-map, Reads-lexeme, Reads-wrong, Reads-ok, Reads-spent, Reads-cond, Reads-expect, Reads-named, Reads-numbered, Reads-this_name}
+use Rattle.p4_tree.specs.Tree.{Expr}
 use Rattle.p4_tree.specs.Height.{highest, height_if, expr_height, table_height}
 use Rattle.p4_spelling.specs.Words.{key_name, size_name, actions_name, default_name}
 use Rattle.p4_spelling.specs.Operators.{top}
@@ -18,11 +17,11 @@ use Rattle.p4_spelling.specs.Lists.{SpellsSome, no_item, SpellsEach, no_more, on
 use Rattle.p4_spelling.specs.Expressions.{Spells}
 use Rattle.p4_spelling.specs.Controls.{TableProp, keys, size, actions, default, SpellsKey, a_key, SpellsActionName, a_name, with_brackets, SpellsArguments, no_brackets, in_brackets, SpellsFixed, fixed, free, SpellsTableProp, the_keys, the_size, the_actions, the_default, kind_of, Lacks, AreOnce, table_of, SpellsTable, a_table}
 use Rattle.p4_expressions.specs.Reading.{expr_at}
-use Rattle.p4_expressions.proofs.SoundSteps.{zero_lexeme, some_name, Any, text_is, a_number_up}
+use Rattle.p4_expressions.proofs.SoundSteps.{zero_lexeme, some_name, Any, text_is}
 use Rattle.p4_expressions.proofs.Sound.{Reads-expr}
 use Rattle.p4_decls.specs.Parsing.{closes_brace}
 use Rattle.p4_decls.specs.Tables.{Props, no_props, with_keys, with_size, with_actions, with_default, items_or_none, table_with, key_at, table_keys_at, table_size_at, action_end_at, action_name_at, table_actions_at, arguments_at, default_at, keys_prop_at, size_prop_at, actions_prop_at, default_prop_at, named_prop_at, fixed_prop_at, prop_at, props_at, table_at}
-use Rattle.p4_decls.proofs.Repeats.{Each, Least, Reads-each, Reads-some}
+use Rattle.p4_decls.proofs.Repeats.{Each, Reads-each, Reads-some}
 use Rattle.p4_decls.proofs.SoundParsers.{each_low, least_expr}
 use Rattle.p4_decls.proofs.Props.{pick, some_keys, some_size, some_actions, some_default, props_from, push_keys, push_size, push_actions, push_default, the_keys_kind, the_size_kind, the_actions_kind, the_default_kind, lacks_of, once_push, is_none, table_is}
 

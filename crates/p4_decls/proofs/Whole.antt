@@ -1,10 +1,9 @@
 -- All lexemes of a list: what is read of them, and what a fault says. The laws of the reader (`lex_words/proofs/Whole`) at hand.
-use Rattle.std.proofs.Common.{◌≡◌, ℕ, ◌+◌, ◌≤◌, ◌<◌, List, [], ◌++◌, length, Some, Result, Ok, Err, arith}
+use Rattle.std.proofs.Common.{◌≡◌, ℕ, ◌+◌, ◌≤◌, ◌<◌, List, [], length, Some, Result, Ok, Err, arith}
 use Rattle.lex_words.specs.Seen.{Lexeme}
 use Rattle.lex_words.specs.Brackets.{left}
 use Rattle.lex_words.specs.Faults.{IsWithin, IsSyntax, IsTooDeep}
 use Rattle.lex_words.specs.Reading.{Fault, wrong, high, deep}
-use Rattle.lex_words.proofs.Even.{Even}
 use Rattle.lex_words.proofs.Spelled.{Ends, Reads}
 use Rattle.lex_words.proofs.Whole as whole
 use Rattle.p4_tree.specs.Tree.{Program}

@@ -1,21 +1,18 @@
 -- How a lexeme that is left out is written.
-use Rattle.std.proofs.Common.{◌≡◌, ℕ, zero, suc, ◌<◌, true, false, List, [], ◌∷◌, length, Option, Some, None, refl, ap, subst, sym, ◌∙◌, arith}
+use Rattle.std.proofs.Common.{◌≡◌, ℕ, zero, suc, true, List, [], ◌∷◌, Option, Some, None, refl, ap, subst, sym, ◌∙◌}
 use Rattle.std.specs.Prelude.{slice_get}
 use Rattle.std.specs.List.{list_all}
 use Rattle.std.specs.Str.{IsAscii}
 use Rattle.std.proofs.lemmas.Bool.{and_parts, ltb-true}
-use Rattle.std.proofs.lemmas.List.{length-map}
-use Rattle.std.proofs.lemmas.Option.{slice_get_within}
 use Rattle.std.proofs.lemmas.Str.Ascii.{IsAscii-nil, IsAscii-cons}
 use Rattle.lex_text.specs.Tokens.{is_ascii}
 use Rattle.lex_text.specs.Places.{bytes_of}
 use Rattle.lex_text.specs.declared.token.Token.{Token}
 use Rattle.lex_text.specs.declared.token.TokenKind.{TokenKind}
 use Rattle.lex_text.specs.declared.token.TokenKind.TheVariants as kind
-use Rattle.lex_text.specs.declared.token.Words.{Words}
 use Rattle.lex_text.specs.declared.token.Words.TheVariants.{P4}
 use Rattle.lex_words.specs.Keys.{bytes_of_key, reserved_key, mark_key}
-use Rattle.lex_words.specs.Seen.{Lexeme, name, number, key, quoted, include, strange, name_or, mark_or, lexeme_of_kind, lexeme_of, lexemes_of, key_in, name_in}
+use Rattle.lex_words.specs.Seen.{Lexeme, key, quoted, name_or, mark_or, lexeme_of_kind, lexeme_of, lexemes_of, key_in, name_in}
 use Rattle.lex_words.specs.Written.{IsLexeme, AreLexemes}
 use Rattle.lex_words.specs.declared.key.Key.{Key}
 use Rattle.lex_words.proofs.KeyCodes.{at_key-is, found_is_key, name_lexeme}

@@ -1,5 +1,5 @@
 -- Reading actions, the declarations of controls, and controls from left to right.
-use Rattle.std.specs.Prelude.{ℕ, zero, suc, ◌+◌, ◌-◌, Bool, List, [], ◌∷◌, ◌++◌, Option, Some, None, is_some, Ok, Err, if◌then◌else◌, slice_get}
+use Rattle.std.specs.Prelude.{ℕ, zero, suc, ◌-◌, List, [], ◌∷◌, ◌++◌, Option, Some, None, is_some, Ok, Err, if◌then◌else◌, slice_get}
 use Rattle.lex_text.specs.Names.{same_text}
 use Rattle.lex_words.specs.declared.key.Key.TheVariants as k
 use Rattle.lex_words.specs.Seen.{Lexeme, name_in, at_key}

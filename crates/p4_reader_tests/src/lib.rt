@@ -4,4 +4,8 @@
 #[cfg(test)]
 mod expressions;
 #[cfg(test)]
+mod programs;
+#[cfg(test)]
+mod samples;
+#[cfg(test)]
 mod show;

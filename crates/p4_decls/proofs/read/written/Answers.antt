@@ -1,10 +1,9 @@
-use Rattle.std.proofs.Common.{◌≡◌, None, Some, sym, ap, ◌∙◌}
-use Rattle.std.specs.Prelude.{slice_get}
+use Rattle.std.proofs.Common.{sym, ap, ◌∙◌}
 use Rattle.std.specs.Option.{option_copied}
 use Rattle.lex_text.specs.declared.token.Words.TheVariants.{P4}
 use Rattle.lex_words.specs.Seen.{lexemes_of}
 use Rattle.lex_words.proofs.Named.{name_ascii}
-use Rattle.p4_decls.proofs.Written.{quoted_written, quoted_ascii, none_there}
+use Rattle.p4_decls.proofs.Written.{quoted_ascii, none_there}
 use Rattle.p4_decls.proofs.read.written.Goals as goal
 
 pub from_ascii-requires : goal.from_ascii-requires

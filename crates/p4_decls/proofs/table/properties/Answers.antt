@@ -4,7 +4,7 @@ use Rattle.std.proofs.lemmas.Result.{err_from_is_err_and}
 use Rattle.lex_words.specs.declared.key.Key.TheVariants.{BraceClose}
 use Rattle.lex_words.specs.Seen.{at_key}
 use Rattle.lex_words.proofs.Turns.{turn_fails, turn_gives}
-use Rattle.p4_decls.specs.Tables.{prop_at, props_at}
+use Rattle.p4_decls.specs.Tables.{prop_at}
 use Rattle.p4_decls.specs.Found.{props_of}
 use Rattle.p4_decls.proofs.Turns.{props_end, props_go_on}
 use Rattle.p4_decls.proofs.table.properties.Goals as goal
