@@ -4,16 +4,16 @@
 -- the laws that all lexemes of a list need (`Whole`).
 use Rattle.std.proofs.Common.{◌≡◌, ℕ, zero, suc, ◌+◌, ◌-◌, ◌≤◌, ◌<◌, inl, inr, List, [], ◌∷◌, ◌++◌, length, take, drop, Option, Some, None, Ok, Err, refl, sym, ap, subst, ◌∙◌, arith, append_assoc, length-append}
 use Rattle.std.proofs.lemmas.Bool.{cases_lt}
-use Rattle.std.proofs.lemmas.List.{append-nil, take_at, length-take, length-drop, take-append-drop}
+use Rattle.std.proofs.lemmas.List.{take_at, length-take, take-append-drop}
 use Rattle.std.proofs.lemmas.Option.{slice_get_within}
 use Rattle.std.specs.Prelude.{slice_get}
 use Rattle.lex_words.specs.Seen.{Lexeme}
 use Rattle.lex_words.specs.Brackets.{left, left_by, open_behind}
-use Rattle.lex_words.specs.Faults.{HasFewOpen, Begun, IsDead, IsFront, IsNoFront, IsTooDeep}
-use Rattle.lex_words.specs.Reading.{Fault, wrong, high, deep, spent, Read}
+use Rattle.lex_words.specs.Faults.{HasFewOpen, Begun, IsFront, IsNoFront, IsTooDeep}
+use Rattle.lex_words.specs.Reading.{wrong, high, deep, spent, Read}
 use Rattle.lex_words.proofs.Standing.{Stands, Stands-length, Stands-split, Stands-whole}
 use Rattle.lex_words.proofs.Locality.{Follows, Shows}
-use Rattle.lex_words.proofs.Spelled.{Ends, Begins, Stops, Opens, Told, Spelled, Sound, Reads, left-append}
+use Rattle.lex_words.proofs.Spelled.{Ends, Begins, Stops, Sound, Reads, left-append}
 use Rattle.lex_words.proofs.Even.{Even}
 use Rattle.lex_words.proofs.OpenBehind.{few_open, too_many}
 use Rattle.lex_words.proofs.Whole as whole
@@ -232,10 +232,13 @@ module _ {T : Type 0} (S : (p : ℕ) → T → List Lexeme → Type 0) (height :
           let f : behind pre ws (length ws + 1) limit low ≡ Err (wrong (q - p)) = ap (back p) e in
           let x = whole.wrong_is (S p) height (behind pre) (behind_follows pre) (behind_complete pre) (behind_even pre) low behind_sound (least p) ws (q - p) f in (
             place_after pre ws (S p) (λ t. height t ≤ limit) limit q s,
-            record { syntax = x; none = elim x.dead [
-              | inl d ↦ none_before (q - p) f (omega (arith, d.0)) (λ _. d.1)
-              | inr d ↦ none_before (q - p) f (omega (arith, d.0)) (λ lt. absurd (omega (arith, d.0, lt)))
-            ] },
+            record {
+              syntax = x;
+              none = elim x.dead [
+                | inl d ↦ none_before (q - p) f (omega (arith, d.0)) (λ _. d.1)
+                | inr d ↦ none_before (q - p) f (omega (arith, d.0)) (λ lt. absurd (omega (arith, d.0, lt)))
+              ];
+            },
           )
 
       high_at : (q : ℕ) → reads ≡ Err (high q) → (p ≤ q) × IsTooDeep (S p) height limit ws (q - p)

@@ -50,12 +50,7 @@ impl<'a> Cursor<'a> {
     }
 
     /// The tokens of a text in a language, where the next has this number.
-    pub fn from_place(
-        language: Words,
-        text: &'a [u8],
-        list: &'a [Token],
-        at: usize,
-    ) -> Cursor<'a>
+    pub fn from_place(language: Words, text: &'a [u8], list: &'a [Token], at: usize) -> Cursor<'a>
         requires fits { AreIn text.now list.now }
         requires fair { AreLexemes language (lexemes_of language text.now list.now) }
         requires short { length list.now ≤ most language }

@@ -1,5 +1,5 @@
 -- The answers of a place: what was read there or why reading stopped, in words of spelling.
-use Rattle.std.proofs.Common.{◌≡◌, ℕ, ◌+◌, ◌-◌, ◌≤◌, Bool, true, false, cond, List, length, drop, Ok, Err, refl, sym, ap, subst, ◌∙◌, arith}
+use Rattle.std.proofs.Common.{◌≡◌, ℕ, ◌+◌, ◌-◌, ◌≤◌, Bool, true, false, cond, List, drop, Ok, Err, refl, sym, ap, ◌∙◌, arith}
 use Rattle.std.specs.Prelude.{slice_get}
 use Rattle.lex_words.specs.Seen.{Lexeme}
 use Rattle.lex_words.specs.Faults.{IsFront, IsNoFront, IsTooDeep}
@@ -9,7 +9,6 @@ use Rattle.lex_words.specs.declared.halt.Halt.TheVariants as halt
 use Rattle.p4_reader.specs.LeftOut.{is_left_out}
 use Rattle.p4_reader.specs.Answers.{limit, IsBetween, IsDeadAt, HasCause}
 use Rattle.p4_reader.specs.Reading.{stop_of}
-use Rattle.p4_reader.specs.declared.stop.ReadStop.{ReadStop}
 use Rattle.p4_reader.specs.declared.stop.ReadStop.TheVariants.{NoMemory, Syntax, LeftOut}
 
 -- one result is one tree and one place

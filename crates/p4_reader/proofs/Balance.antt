@@ -1,6 +1,6 @@
 -- The lexemes of statements, and of what is declared with them, close each round bracket that they open.
-use Rattle.std.proofs.Common.{ℕ, Bool, List, [], ◌∷◌, ◌++◌, Option, refl}
-use Rattle.lex_words.specs.declared.key.Key.TheVariants.{If, Else, Const, BraceOpen, BraceClose, Semicolon, Comma, Dot, Assign}
+use Rattle.std.proofs.Common.{ℕ, Bool, List, [], ◌∷◌, Option, refl}
+use Rattle.lex_words.specs.declared.key.Key.TheVariants.{If, Else, Const, BraceOpen, Comma, Assign}
 use Rattle.lex_words.specs.Seen.{Lexeme, name, key}
 use Rattle.lex_words.proofs.Even.{Even, flat, plain, joined, brackets}
 use Rattle.p4_tree.specs.Tree.{Expr, Arg, Stmt, Stmts}

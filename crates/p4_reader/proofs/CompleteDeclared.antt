@@ -1,5 +1,5 @@
 -- Types, variables, constants and lists of expressions that are spelled are read.
-use Rattle.std.proofs.Common.{◌≡◌, ℕ, suc, ◌+◌, ◌-◌, ◌≤◌, ◌<◌, false, List, [], ◌∷◌, ◌++◌, length, Option, Some, None, Ok, refl, ap, ◌∙◌, arith}
+use Rattle.std.proofs.Common.{◌≡◌, ℕ, ◌+◌, ◌-◌, ◌≤◌, ◌<◌, false, List, [], ◌∷◌, ◌++◌, length, Option, Some, None, Ok, refl, ap, ◌∙◌, arith}
 use Rattle.std.proofs.lemmas.List.{length-append}
 use Rattle.std.specs.Prelude.{slice_get}
 use Rattle.lex_words.specs.declared.key.Key.{Key}
@@ -10,7 +10,7 @@ use Rattle.lex_words.specs.Reading.{◌>>=◌}
 use Rattle.lex_words.proofs.Standing.{Stands, Stands-split}
 use Rattle.lex_words.proofs.Steps.{goes_on, room_ok, expect_ok, named_ok}
 use Rattle.lex_words.proofs.Even.{parted}
-use Rattle.p4_tree.specs.Tree.{Expr, Stmt, assign}
+use Rattle.p4_tree.specs.Tree.{Expr, assign}
 use Rattle.p4_tree.specs.Height.{expr_height, height_if, highest}
 use Rattle.p4_tree.specs.declared.statement.PTy.{PTy}
 use Rattle.p4_tree.specs.declared.statement.PTy.TheVariants as type
@@ -24,7 +24,7 @@ use Rattle.p4_expressions.proofs.Turns.{expr_tall}
 use Rattle.p4_expressions.proofs.Behind.{Closes}
 use Rattle.p4_expressions.proofs.CompleteSteps.{scalar_read, scalar_first}
 use Rattle.p4_expressions.proofs.Complete.{expr_before}
-use Rattle.p4_reader.specs.Declaring.{Variable, Constant, type_at, exprs_from, exprs_at, value_at, start_at, var_from, var_at, const_at}
+use Rattle.p4_reader.specs.Declaring.{type_at, exprs_from, exprs_at, value_at, start_at, var_from, var_at, const_at}
 use Rattle.p4_reader.specs.Reading.{assign_from}
 use Rattle.p4_reader.proofs.Balance.{even_type, even_expr, even_start}
 use Rattle.p4_reader.proofs.CompleteLists.{list_is_read}

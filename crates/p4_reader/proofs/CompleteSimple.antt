@@ -1,16 +1,15 @@
 -- Assignments, calls and variables that are spelled are read.
-use Rattle.std.proofs.Common.{◌≡◌, ℕ, suc, ◌+◌, ◌-◌, ◌≤◌, ◌<◌, true, false, List, [], ◌∷◌, ◌++◌, length, Option, is_some, Some, Ok, refl, sym, ap, subst, ◌∙◌, arith}
+use Rattle.std.proofs.Common.{◌≡◌, ℕ, ◌+◌, ◌-◌, ◌≤◌, ◌<◌, true, false, List, [], ◌∷◌, ◌++◌, length, Option, is_some, Some, Ok, refl, sym, ap, ◌∙◌, arith}
 use Rattle.std.proofs.lemmas.List.{length-append}
 use Rattle.std.specs.Prelude.{slice_get}
 use Rattle.lex_words.specs.declared.key.Key.{Key}
 use Rattle.lex_words.specs.declared.key.Key.TheVariants.{Less, BraceOpen, BraceClose, Open, Close, Semicolon, Comma, Dot, Assign}
 use Rattle.lex_words.specs.Seen.{Lexeme, name, key, name_in, at_key}
 use Rattle.lex_words.specs.Brackets.{left}
-use Rattle.lex_words.specs.Reading.{Read, ◌>>=◌}
 use Rattle.lex_words.proofs.Standing.{Stands, Stands-split}
 use Rattle.lex_words.proofs.Steps.{goes_on, is_not, room_ok, expect_ok, named_ok, open_ok}
 use Rattle.lex_words.proofs.Even.{parted, opened}
-use Rattle.p4_tree.specs.Tree.{Expr, Arg, one, many, Stmt, var, assign, call}
+use Rattle.p4_tree.specs.Tree.{Expr, Arg, many, Stmt, var, assign, call}
 use Rattle.p4_tree.specs.Height.{expr_height, height_if, highest, arg_height, stmt_height}
 use Rattle.p4_tree.specs.declared.statement.PTy.{PTy}
 use Rattle.p4_tree.specs.declared.statement.PTy.TheVariants as type

@@ -1,16 +1,16 @@
 -- Statements and blocks that are spelled are read, by recursion on how they are spelled.
-use Rattle.std.proofs.Common.{◌≡◌, ℕ, zero, suc, ◌+◌, ◌-◌, ◌≤◌, ◌<◌, Bool, true, false, List, [], ◌∷◌, ◌++◌, length, is_some, Some, Ok, refl, sym, ap, ◌∙◌, arith}
+use Rattle.std.proofs.Common.{◌≡◌, ℕ, zero, suc, ◌+◌, ◌-◌, ◌≤◌, ◌<◌, Bool, true, false, List, [], ◌∷◌, ◌++◌, length, is_some, Some, Ok, refl, ap, ◌∙◌, arith}
 use Rattle.std.proofs.lemmas.List.{length-append}
 use Rattle.std.specs.Prelude.{slice_get}
 use Rattle.lex_words.specs.declared.key.Key.TheVariants.{If, Else, Return, Exit, BraceOpen, BraceClose, Open, Close, Semicolon, Assign}
 use Rattle.lex_words.specs.Seen.{Lexeme, name, key, name_in, at_key}
 use Rattle.lex_words.specs.Brackets.{left}
-use Rattle.lex_words.specs.Reading.{◌>>=◌, until}
+use Rattle.lex_words.specs.Reading.{until}
 use Rattle.lex_words.proofs.Standing.{Stands, Stands-split}
 use Rattle.lex_words.proofs.Steps.{goes_on, room_ok, expect_ok, named_ok, open_ok, until_none, until_some}
 use Rattle.lex_words.proofs.Even.{parted, opened}
 use Rattle.p4_tree.specs.Tree.{Expr, Stmt, Stmts, nothing, block, var, assign, choice, return_, exit_, call, done, next, without, otherwise, stmts_from}
-use Rattle.p4_tree.specs.Height.{expr_height, stmt_height, stmts_height}
+use Rattle.p4_tree.specs.Height.{stmt_height, stmts_height}
 use Rattle.p4_tree.specs.declared.statement.PTy.{PTy}
 use Rattle.p4_spelling.specs.Operators.{top}
 use Rattle.p4_spelling.specs.Types.{SpellsScalar, a_bool, a_bit, bits, SpellsType, a_scalar, a_name}
@@ -23,7 +23,7 @@ use Rattle.p4_expressions.proofs.CompleteSteps.{path_first}
 use Rattle.p4_expressions.proofs.Complete.{expr_before}
 use Rattle.p4_reader.specs.Reading.{Stmt_at, write_at, nothing_at, return_at, exit_at, block_at, nested_at, else_at, if_at, other_at, layer, stmt_at, item_at, body_at}
 use Rattle.p4_reader.proofs.Layers.{stmt_at-layer, item_is_stmt}
-use Rattle.p4_reader.proofs.Balance.{even_expr, even_var, even_stmt, even_block, even_many}
+use Rattle.p4_reader.proofs.Balance.{even_expr, even_var, even_stmt, even_many}
 use Rattle.p4_reader.proofs.CompleteSimple.{Written, assign_written, call_written, written_item, var_item}
 
 -- the statements of a block

@@ -1,11 +1,11 @@
 -- The reader of an expression, and of statements up to a closing brace, as readers at a place: their laws give the answers.
-use Rattle.std.proofs.Common.{◌≡◌, ℕ, suc, ◌+◌, ◌≤◌, ◌<◌, List, [], ◌∷◌, ◌++◌, length, Some, Ok, refl, ap, subst, ◌∙◌, append_assoc, arith}
+use Rattle.std.proofs.Common.{◌≡◌, ℕ, ◌+◌, ◌≤◌, ◌<◌, List, [], ◌∷◌, length, Some, Ok, refl, ap, ◌∙◌, append_assoc, arith}
 use Rattle.std.proofs.lemmas.List.{length-append}
 use Rattle.std.specs.Prelude.{slice_get}
 use Rattle.lex_words.specs.declared.key.Key.TheVariants.{BraceClose}
 use Rattle.lex_words.specs.Seen.{Lexeme, number, key}
 use Rattle.lex_words.specs.Brackets.{left}
-use Rattle.lex_words.specs.Reading.{Read, ◌>>=◌}
+use Rattle.lex_words.specs.Reading.{Read}
 use Rattle.lex_words.proofs.Standing.{Stands, Stands-split}
 use Rattle.lex_words.proofs.Locality.{Follows}
 use Rattle.lex_words.proofs.Spelled.{Ends, Reads, Reads-bind, Reads-ok, Reads-expect}
@@ -29,7 +29,7 @@ use Rattle.p4_reader.proofs.Locality.{Follows-rest}
 use Rattle.p4_reader.proofs.Balance.{even_expr, even_many}
 use Rattle.p4_reader.proofs.SoundDeclared.{nought, nought_is}
 use Rattle.p4_reader.proofs.SoundStatements.{Reads-items}
-use Rattle.p4_reader.proofs.CompleteStatements.{stmts_in, stmts_from-stmts_in, many_is_read}
+use Rattle.p4_reader.proofs.CompleteStatements.{stmts_in, many_is_read}
 use Rattle.p4_reader.proofs.Answered.{Answers}
 
 -- ---- expressions

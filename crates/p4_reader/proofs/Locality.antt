@@ -1,5 +1,5 @@
 -- What is read of statements and of what is declared with them rests on the lexemes up to the place where reading ends, and on no other.
-use Rattle.std.proofs.Common.{◌≡◌, ℕ, zero, suc, ◌+◌, ◌-◌, ◌≤◌, Bool, cond, List, ◌∷◌, Option, Some, Ok, Err, ap, arith}
+use Rattle.std.proofs.Common.{◌≡◌, ℕ, zero, suc, ◌+◌, ◌-◌, ◌≤◌, Bool, cond, List, Option, Ok, Err, ap, arith}
 use Rattle.std.proofs.Math.Nat.{suc_inj}
 use Rattle.std.specs.Prelude.{slice_get, is_some}
 use Rattle.lex_words.specs.declared.key.Key.{Key}

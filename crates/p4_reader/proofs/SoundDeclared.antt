@@ -1,14 +1,13 @@
 -- Types, variables, constants and lists of expressions: what is read is spelled so, and what was read up to a fault begins it.
-use Rattle.std.proofs.Common.{◌≡◌, ℕ, suc, ◌+◌, ◌-◌, ◌≤◌, List, [], ◌∷◌, ◌++◌, length, Option, Some, None, Ok, refl, subst, arith}
+use Rattle.std.proofs.Common.{◌≡◌, ℕ, ◌+◌, ◌-◌, ◌≤◌, List, [], ◌∷◌, ◌++◌, length, Option, Some, None, refl, subst, arith}
 use Rattle.std.proofs.lemmas.List.{append-nil}
 use Rattle.std.specs.Prelude.{slice_get}
-use Rattle.lex_words.specs.declared.key.Key.TheVariants.{Bit, Const, Semicolon, Comma, Assign}
+use Rattle.lex_words.specs.declared.key.Key.TheVariants.{Bit, Const, Semicolon, Assign}
 use Rattle.lex_words.specs.Seen.{Lexeme, name, number, key, at_key}
-use Rattle.lex_words.specs.Reading.{◌>>=◌, more_of}
 use Rattle.lex_words.proofs.KeyCodes.{at_key-is}
 use Rattle.lex_words.proofs.Standing.{Stands-length}
 use Rattle.lex_words.proofs.Spelled.{Reads, Reads-bind, Reads-map, Reads-ok, Reads-cond, Reads-expect, Reads-room, Reads-named}
-use Rattle.p4_tree.specs.Tree.{Expr, num, Stmt, assign}
+use Rattle.p4_tree.specs.Tree.{Expr, num, assign}
 use Rattle.p4_tree.specs.Height.{expr_height, height_if, highest, stmt_height}
 use Rattle.p4_tree.specs.declared.statement.PTy.{PTy}
 use Rattle.p4_tree.specs.declared.statement.PTy.TheVariants as type

@@ -1,5 +1,5 @@
 -- Lists with commas, of anything that is spelled: what is read is spelled so, and what was read up to a fault begins a list.
-use Rattle.std.proofs.Common.{◌≡◌, ℕ, zero, suc, ◌+◌, ◌≤◌, List, [], ◌∷◌, ◌++◌, length, Ok, refl, subst, ap, arith}
+use Rattle.std.proofs.Common.{◌≡◌, ℕ, zero, suc, ◌+◌, ◌≤◌, List, [], ◌∷◌, ◌++◌, length, Ok, refl, subst, arith}
 use Rattle.std.proofs.lemmas.List.{append-nil}
 use Rattle.lex_words.specs.declared.key.Key.TheVariants.{Comma}
 use Rattle.lex_words.specs.Seen.{Lexeme, key}

@@ -1,5 +1,5 @@
 -- Statements without statements in them: what is read is spelled so, and what was read up to a fault begins it.
-use Rattle.std.proofs.Common.{◌≡◌, ℕ, suc, ◌+◌, ◌-◌, ◌≤◌, Bool, true, false, ◌⊎◌, inl, inr, List, [], ◌∷◌, ◌++◌, length, Option, None, is_some, Ok, refl, subst, arith}
+use Rattle.std.proofs.Common.{◌≡◌, ℕ, suc, ◌+◌, ◌-◌, ◌≤◌, Bool, true, false, ◌⊎◌, inl, List, [], ◌∷◌, ◌++◌, length, None, is_some, refl, subst, arith}
 use Rattle.std.proofs.lemmas.List.{append-nil}
 use Rattle.std.proofs.Math.Nat.{suc_inj}
 use Rattle.std.specs.Prelude.{slice_get}
@@ -10,7 +10,7 @@ use Rattle.lex_words.specs.Reading.{Read, ◌>>=◌, open_at}
 use Rattle.lex_words.proofs.KeyCodes.{at_key-is}
 use Rattle.lex_words.proofs.Standing.{Stands-length}
 use Rattle.lex_words.proofs.Spelled.{Reads, Reads-bind, Reads-map, Reads-ok, Reads-cond, Reads-expect, Reads-room, Reads-named, Reads-open}
-use Rattle.p4_tree.specs.Tree.{Expr, Arg, one, many, Stmt, Stmts, nothing, var, assign, return_, exit_, call, done, next}
+use Rattle.p4_tree.specs.Tree.{Expr, Arg, one, many, Stmt, Stmts, nothing, var, assign, return_, exit_, call, next}
 use Rattle.p4_tree.specs.Height.{expr_height, highest, arg_height, stmt_height}
 use Rattle.p4_tree.specs.declared.statement.PTy.{PTy}
 use Rattle.p4_tree.specs.declared.statement.PTy.TheVariants as type
@@ -19,7 +19,6 @@ use Rattle.p4_spelling.specs.Lists.{SpellsList, last, then, SpellsSome, no_item,
 use Rattle.p4_spelling.specs.Types.{SpellsScalar, SpellsType, a_scalar, a_name}
 use Rattle.p4_spelling.specs.Expressions.{SpellsPath, last_name, Spells}
 use Rattle.p4_spelling.specs.Statements.{no_start, a_var, SpellsArg, an_expr, several, SpellsAssign, an_assign, SpellsStmt, a_semicolon, an_assignment, a_call, a_return, an_exit, SpellsMany, then_var, then_stmt}
-use Rattle.p4_expressions.specs.Reading.{expr_at}
 use Rattle.p4_expressions.proofs.Turns.{expr_tall}
 use Rattle.p4_expressions.proofs.SoundSteps.{zero_lexeme, some_name, Any, Reads-scalar}
 use Rattle.p4_expressions.proofs.SoundPaths.{Reads-more_names}

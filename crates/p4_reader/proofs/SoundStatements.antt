@@ -1,25 +1,25 @@
 -- Statements and blocks: what is read is spelled so, and what was read up to a fault begins it.
-use Rattle.std.proofs.Common.{◌≡◌, ℕ, zero, suc, ◌+◌, ◌-◌, ◌≤◌, ◌<◌, Bool, true, false, cond, max, ◌⊎◌, inl, inr, List, [], ◌∷◌, ◌++◌, length, Option, Some, None, is_some, Ok, Err, refl, sym, ap, subst, ◌∙◌, arith, length-append}
+use Rattle.std.proofs.Common.{◌≡◌, ℕ, zero, suc, ◌+◌, ◌-◌, ◌≤◌, Bool, true, false, cond, max, inl, inr, List, [], ◌∷◌, ◌++◌, length, Option, Some, None, is_some, refl, sym, ap, subst, ◌∙◌, arith, length-append}
 use Rattle.std.proofs.lemmas.List.{append-nil}
 use Rattle.std.specs.Prelude.{slice_get}
 use Rattle.lex_words.specs.declared.key.Key.TheVariants.{If, Else, Return, Exit, BraceOpen, BraceClose, Open, Close, Semicolon}
 use Rattle.lex_words.specs.Seen.{Lexeme, name, number, key, name_in, at_key}
-use Rattle.lex_words.specs.Reading.{Read, ◌>>=◌, wrong, look, until, room_at}
+use Rattle.lex_words.specs.Reading.{Read, look, until}
 use Rattle.lex_words.proofs.KeyCodes.{at_key-is, name_lexeme}
 use Rattle.lex_words.proofs.Standing.{Stands-length}
 use Rattle.lex_words.proofs.Spelled.{Reads, Reads-bind, Reads-map, Reads-lexeme, Reads-wrong, Reads-ok, Reads-spent, Reads-cond, Reads-expect, Reads-room}
-use Rattle.p4_tree.specs.Tree.{Expr, Stmt, Stmts, MaybeStmt, nothing, block, var, choice, return_, exit_, call, done, next, without, otherwise, stmts_from}
+use Rattle.p4_tree.specs.Tree.{Expr, Stmt, MaybeStmt, nothing, block, var, choice, return_, exit_, call, done, without, otherwise, stmts_from}
 use Rattle.p4_tree.specs.Height.{expr_height, stmt_height, stmts_height, else_height}
 use Rattle.p4_spelling.specs.Operators.{top}
 use Rattle.p4_spelling.specs.Lists.{no_item}
 use Rattle.p4_spelling.specs.Types.{a_scalar}
 use Rattle.p4_spelling.specs.Expressions.{last_name, Spells}
 use Rattle.p4_spelling.specs.Statements.{no_start, a_var, SpellsStmt, a_semicolon, a_block, a_call, a_return, an_exit, an_if, an_if_else, SpellsBlock, in_braces, SpellsMany, no_more, then_var, then_stmt}
-use Rattle.p4_expressions.specs.Reading.{is_scalar, expr_at}
+use Rattle.p4_expressions.specs.Reading.{is_scalar}
 use Rattle.p4_expressions.proofs.SoundSteps.{zero_lexeme, some_name}
 use Rattle.p4_expressions.proofs.SoundOperands.{scalar_lexeme}
 use Rattle.p4_expressions.proofs.Sound.{Reads-expr}
-use Rattle.p4_reader.specs.Reading.{Stmt_at, block_at, nested_at, else_at, if_at, other_at, layer, item_layer, stmt_at, item_at, body_at, scalar_from, either_from, write_at}
+use Rattle.p4_reader.specs.Reading.{Stmt_at, block_at, nested_at, else_at, if_at, other_at, layer, item_layer, stmt_at, item_at, body_at}
 use Rattle.p4_reader.proofs.SoundDeclared.{nought, nought_is}
 use Rattle.p4_reader.proofs.SoundSimple.{Low, Stood, stood, IsItem, after_open, Reads-write, Reads-scalar_variable, Reads-either_variable, Reads-nothing, Reads-return, Reads-exit}
 
@@ -101,12 +101,15 @@ module _ (ws : List Lexeme) (n : ℕ) where
           (rw (append-nil v) (if_of p q e a u v at s t), inr (ap (λ i. at_key Else (slice_get ws i)) (sym same) ∙ is))
 
       whole_else : (c : Stmt) (w : List Lexeme) → SpellsStmt true (q + 1) a v → Stood ws (j + 1) c w → Whole p e a u v (otherwise c) (key Else ∷ w)
-      whole_else c w t r = (if_else_of false p q j e a c u v w at to s t r.0, elim r.1 [
-        | inl closed ↦ inl (if_else_of true p q j e a c u v w at to s t closed)
-        | inr is ↦
-            let same : p + length (key If ∷ key Open ∷ (u ++ key Close ∷ (v ++ key Else ∷ w))) ≡ j + 1 + length w = omega (arith, long (key Else ∷ w)) in
-            inr (ap (λ i. at_key Else (slice_get ws i)) same ∙ is)
-      ])
+      whole_else c w t r = (
+        if_else_of false p q j e a c u v w at to s t r.0,
+        elim r.1 [
+          | inl closed ↦ inl (if_else_of true p q j e a c u v w at to s t closed)
+          | inr is ↦
+              let same : p + length (key If ∷ key Open ∷ (u ++ key Close ∷ (v ++ key Else ∷ w))) ≡ j + 1 + length w = omega (arith, long (key Else ∷ w)) in
+              inr (ap (λ i. at_key Else (slice_get ws i)) same ∙ is)
+        ],
+      )
 
       nothing_is : (i : ℕ) → Stood ws i (nothing i) (key Semicolon ∷ [])
       nothing_is i = stood ws i (nothing i) (key Semicolon ∷ []) (λ closed. a_semicolon)

@@ -1,5 +1,5 @@
 -- What the reader answers of an expression, or of the statements up to a closing brace, that stand at a place of a list of lexemes, in words of spelling alone. Read `p4_spelling` and `lex_words/specs/Faults` before.
-use Rattle.std.specs.Prelude.{◌≡◌, ℕ, ◌+◌, ◌-◌, ◌≤◌, Bool, true, false, List, [], ◌∷◌, ◌++◌, Result, Ok, Err, drop, map, slice_get, if◌then◌else◌}
+use Rattle.std.specs.Prelude.{◌≡◌, ℕ, ◌+◌, ◌-◌, ◌≤◌, true, false, List, [], ◌∷◌, ◌++◌, Result, Ok, Err, drop, map, slice_get}
 use Rattle.std.specs.Global.{Vec}
 use Rattle.lex_words.specs.declared.key.Key.TheVariants.{BraceClose}
 use Rattle.lex_words.specs.Seen.{Lexeme, key}

@@ -1,5 +1,5 @@
 -- Reading types, variables, constants and lists of expressions from left to right, with one lexeme of choice. The declarations of a program are read by these too.
-use Rattle.std.specs.Prelude.{◌≡◌, ℕ, ◌+◌, ◌-◌, List, ◌∷◌, Option, Some, None, Ok, Err, if◌then◌else◌, slice_get}
+use Rattle.std.specs.Prelude.{ℕ, ◌-◌, List, ◌∷◌, Option, Some, None, Ok, if◌then◌else◌, slice_get}
 use Rattle.lex_words.specs.declared.key.Key.TheVariants.{Const, Semicolon, Comma, Assign}
 use Rattle.lex_words.specs.Seen.{Lexeme, at_key}
 use Rattle.lex_words.specs.Reading.{Read, ◌>>=◌, expect_at, more_of, named_at, room_at}

@@ -1,5 +1,5 @@
 -- Reading statements and blocks from left to right, with one lexeme of choice.
-use Rattle.std.specs.Prelude.{◌≡◌, ℕ, zero, suc, ◌+◌, ◌-◌, List, [], ◌∷◌, is_some, Ok, Err, if◌then◌else◌, slice_get}
+use Rattle.std.specs.Prelude.{ℕ, zero, suc, ◌+◌, ◌-◌, List, [], ◌∷◌, is_some, Ok, Err, if◌then◌else◌, slice_get}
 use Rattle.std.specs.Option.{option_map}
 use Rattle.lex_words.specs.declared.key.Key.TheVariants.{If, Else, Return, Exit, BraceOpen, BraceClose, Close, Semicolon, Comma, Assign}
 use Rattle.lex_words.specs.Seen.{Lexeme, name_in, at_key}

@@ -152,7 +152,7 @@ a / b => syntax 1",
 }
 
 /// A text so often, and then another.
-fn repeated(alloc: Global, text: &str, count: usize, end: &str) -> Result<String, AllocError> {
+pub fn repeated(alloc: Global, text: &str, count: usize, end: &str) -> Result<String, AllocError> {
     let mut out = String::new(alloc);
     for _ in 0..count {
         out.push_str(text)?;

@@ -4,8 +4,12 @@
 #[cfg(test)]
 mod expressions;
 #[cfg(test)]
+mod places;
+#[cfg(test)]
 mod programs;
 #[cfg(test)]
 mod samples;
 #[cfg(test)]
 mod show;
+#[cfg(test)]
+mod show_statements;

@@ -28,7 +28,7 @@ fn sign(op: Op) -> &'static str {
 }
 
 /// `word@at`
-fn put(alloc: Global, out: &mut String, word: &str, at: u32) -> Result<(), AllocError> {
+pub fn put(alloc: Global, out: &mut String, word: &str, at: u32) -> Result<(), AllocError> {
     out.push_str(word)?;
     out.push_str(&format!(in alloc; "@{at}")?)
 }
@@ -42,7 +42,7 @@ fn put_number(alloc: Global, out: &mut String, n: Literal, at: u32) -> Result<()
 }
 
 /// Names with points between them.
-fn put_path(out: &mut String, path: &[Name]) -> Result<(), AllocError> {
+pub fn put_path(out: &mut String, path: &[Name]) -> Result<(), AllocError> {
     let mut first = true;
     for name in path {
         if !first {

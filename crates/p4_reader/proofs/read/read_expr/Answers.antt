@@ -1,15 +1,14 @@
 -- What is read of the tokens, in words of spelling (`FrontReaders`, `Answered`).
-use Rattle.std.proofs.Common.{◌≡◌, ℕ, ◌+◌, ◌≤◌, List, length, Ok, refl, sym, ap, subst, ◌∙◌, arith}
+use Rattle.std.proofs.Common.{◌≤◌, length, sym, subst, ◌∙◌, arith}
 use Rattle.std.proofs.lemmas.List.{length-map}
 use Rattle.lex_text.specs.declared.token.Words.TheVariants.{P4}
 use Rattle.lex_text.proofs.Lying.{tokens_in_text, few_tokens}
-use Rattle.lex_words.specs.Seen.{Lexeme, lexeme_of, lexemes_of}
+use Rattle.lex_words.specs.Seen.{lexeme_of, lexemes_of}
 use Rattle.lex_words.proofs.FairLexemes.{tokens_are_lexemes}
 use Rattle.p4_tree.specs.View.{expr_of}
 use Rattle.p4_tree.specs.Height.{expr_height}
 use Rattle.p4_spelling.specs.Operators.{top}
 use Rattle.p4_spelling.specs.Expressions.{Spells}
-use Rattle.p4_expressions.specs.Reading.{expr_at}
 use Rattle.p4_reader.specs.Answers.{HasExprCause}
 use Rattle.p4_reader.proofs.Answered.{is_between, same_answer, cause_is, no_cause}
 use Rattle.p4_reader.proofs.FrontReaders.{expr_answers}

@@ -1,9 +1,9 @@
 -- What is read of the tokens, in words of spelling (`FrontReaders`, `Answered`).
-use Rattle.std.proofs.Common.{◌≡◌, ℕ, ◌+◌, ◌-◌, ◌≤◌, List, length, map, Ok, refl, sym, ap, subst, ◌∙◌, arith}
+use Rattle.std.proofs.Common.{◌≡◌, ◌+◌, ◌-◌, ◌≤◌, length, map, sym, subst, ◌∙◌, arith}
 use Rattle.std.proofs.lemmas.List.{length-map}
 use Rattle.lex_text.specs.declared.token.Words.TheVariants.{P4}
 use Rattle.lex_text.proofs.Lying.{tokens_in_text, few_tokens}
-use Rattle.lex_words.specs.Seen.{Lexeme, lexeme_of, lexemes_of}
+use Rattle.lex_words.specs.Seen.{lexeme_of, lexemes_of}
 use Rattle.lex_words.proofs.FairLexemes.{tokens_are_lexemes}
 use Rattle.p4_tree.specs.View.{stmt_of}
 use Rattle.p4_reader.specs.Answers.{SpellsRest, rest_height, IsBetween, HasStmtsCause}
