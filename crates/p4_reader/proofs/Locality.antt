@@ -92,7 +92,7 @@ module _ (ws vs : List Lexeme) (Hs Bs : Type 0) (n m : ℕ) (turns : n ≤ m) wh
           (bind i _ _ _ _ (a_room h k le hs 2 i) (λ z. bind z.1 _ _ _ _ (a_value (h - 1) (k - 1) (omega arith) (less_high h k le hs) z.1) (λ e. give e.1 _)))
           (give i _)
 
-      var_behind : (t : PTy) (i : ℕ) → F i (var_from ws n b h t i) (var_from vs m c k t i)
+      pub var_behind : (t : PTy) (i : ℕ) → F i (var_from ws n b h t i) (var_from vs m c k t i)
       unfolding var_from
       var_behind t i = bind i _ _ _ _ (a_name i) (λ x. bind x.1 _ _ _ _ (a_start x.1) (λ e. bind e.1 _ _ _ _ (expect Semicolon e.1) (λ s. give s.1 _)))
 

@@ -82,7 +82,7 @@ module _ (ws : List Lexeme) (n : ℕ) where
 
   -- ---- variables and constants
 
-  Reads-start : (h b i : ℕ) → 1 ≤ h → Reads ws (SpellsStart i) (λ e. height_if expr_height e + 1 ≤ h) b b i (start_at ws n b h i)
+  pub Reads-start : (h b i : ℕ) → 1 ≤ h → Reads ws (SpellsStart i) (λ e. height_if expr_height e + 1 ≤ h) b b i (start_at ws n b h i)
   unfolding start_at
   Reads-start h b i le =
       Reads-cond ws _ _ b b i (at_key Assign (slice_get ws i)) _ _

@@ -15,7 +15,7 @@ mod simple;
 mod stmt;
 mod stop;
 
-pub use declared::{constant, expressions, type_of, variable};
+pub use declared::{constant, expressions, type_of, variable, variable_behind};
 pub use found::{FoundConstant, FoundVariable};
 pub use left_out::is_left_out;
 pub use read::{read_expr, read_stmts};

@@ -6,6 +6,10 @@ mod expressions;
 #[cfg(test)]
 mod places;
 #[cfg(test)]
+mod programs;
+#[cfg(test)]
+mod samples;
+#[cfg(test)]
 mod show;
 #[cfg(test)]
 mod show_statements;
