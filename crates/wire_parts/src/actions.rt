@@ -13,7 +13,10 @@ ghost use Rattle.p4_scope.specs.Scopes.{scope_of};
 use crate::parts::{Action, Taken};
 use bit_values::Bits;
 use lex_text::Name;
-use p4_scope::{Scope, first_name, full_name, in_action, in_control, no_scope, pass_local, pass_top, stmts_under, width_under};
+use p4_scope::{
+    Scope, first_name, full_name, in_action, in_control, no_scope, pass_local, pass_top,
+    stmts_under, width_under,
+};
 use p4_tree::{Arg, Control, Expr, Local, PTy, Top};
 use p4_values::{Sight, same_text, value_of};
 use std::alloc::{AllocError, Global};

@@ -12,7 +12,10 @@ ghost use Rattle.wire_parts.specs.PartsIn.{body_in};
 ghost use Rattle.p4_scope.specs.Scopes.{scope_of};
 
 use crate::parts::Body;
-use p4_scope::{Scope, control_named, in_control, in_parser, named_in, no_scope, param_type, parser_named, pass_local, pass_top, states_under, stmts_under, var_under};
+use p4_scope::{
+    Scope, control_named, in_control, in_parser, named_in, no_scope, param_type, parser_named,
+    pass_local, pass_top, states_under, stmts_under, var_under,
+};
 use p4_tree::{Control, Local, Parser, ParserState, Program, Stmt, Top};
 use p4_values::same_text;
 use std::alloc::{AllocError, Global};

@@ -12,7 +12,9 @@ use crate::header::{Field, Header};
 use crate::parts::Cells;
 use bit_values::sound_width;
 use lex_text::Name;
-use p4_scope::{Scope, full_name, header_fields, in_control, no_scope, pass_top, type_name, width_under};
+use p4_scope::{
+    Scope, full_name, header_fields, in_control, no_scope, pass_top, type_name, width_under,
+};
 use p4_tree::{Control, Local, PTy, Register, Top};
 use p4_values::path_of_two;
 use std::alloc::{AllocError, Global};

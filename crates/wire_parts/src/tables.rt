@@ -13,7 +13,9 @@ ghost use Rattle.p4_scope.specs.Scopes.{scope_of};
 use crate::actions::{action_named, params_of, words_of};
 use crate::parts::{Action, Chosen, Key, Table};
 use lex_text::Name;
-use p4_scope::{Scope, expr_under, exprs_under, full_name, in_control, no_scope, pass_local, pass_top};
+use p4_scope::{
+    Scope, expr_under, exprs_under, full_name, in_control, no_scope, pass_local, pass_top,
+};
 use p4_tree::{Control, Expr, Local, Top};
 use p4_values::{Nowhere, same_text};
 use std::alloc::{AllocError, Global};

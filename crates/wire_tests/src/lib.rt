@@ -1,21 +1,18 @@
-//! Tests of P4 trees and of the wire program: its linker, printer and machine.
+//! Tests of the wire program: its linker, printer and machine; and of what P4 programs do, from their
+//! texts to the frames that leave.
 #![tactic(auto)]
 
 #[cfg(test)]
-mod calls;
-#[cfg(test)]
 mod linking;
 #[cfg(test)]
-mod machine;
-#[cfg(test)]
 mod network;
-#[cfg(test)]
-mod nodes;
 #[cfg(test)]
 mod parts;
 #[cfg(test)]
 mod printing;
 #[cfg(test)]
-mod statements;
+mod rows;
+#[cfg(test)]
+mod support;
 #[cfg(test)]
 mod trees;

@@ -1,28 +1,15 @@
 //! Two switches and a cable, by hand. Each switch sends all frames out by port 2, and tells the port
 //! by which a frame came.
 
-use crate::nodes::{control, digest, number, param, program, read, set};
+use crate::support::program;
 use bit_values::Bits;
-use p4_tree::{Program, Way};
-use std::alloc::{AllocError, Global};
 use std::test::Fail;
 use wire_machine::Switch;
 use wire_network::{Arrival, Fate, Link, Told, carry};
 
-fn all_by_port_two(alloc: Global) -> Result<Program, AllocError> {
-    let mut params = Vec::new(alloc);
-    for name in "h m std".split(' ') {
-        params.push(param(alloc, Way::Both, "any", name)?)?;
-    }
-    let mut values = Vec::new(alloc);
-    values.push(read(alloc, "std.ingress_port")?)?;
-    let mut apply = Vec::new(alloc);
-    apply.push(set(alloc, "std.egress_spec", number(2))?)?;
-    apply.push(digest(alloc, number(1), values)?)?;
-    let mut tops = Vec::new(alloc);
-    tops.push(control(alloc, "Ing", params, apply)?)?;
-    program(alloc, tops, "  Ing   ")
-}
+/// All frames go out by port 2, and the port by which they came is told.
+const ALL_BY_PORT_TWO: &str = "control Ing(in a h, in a m, in a std) { apply { \
+std.egress_spec = 2; digest(1, {std.ingress_port}); } } V1Switch(x(), x(), Ing()) main;";
 
 // The switch at which a frame arrives, by port 1; the frame's length; the hop limit and the link's
 // limit; the switch by whose port 2 it leaves, if it does; and how many switches it passes.
@@ -46,7 +33,7 @@ fn ways(rt: HostRuntime) -> Result<(), Fail> {
     }];
     for (first, size, hops, limit, leaves, passes) in WAYS {
         assert!(rt; first < 2 && size <= 65536 && 1 <= hops && limit <= 100);
-        let program = all_by_port_two(alloc)?;
+        let program = program(&rt, alloc, ALL_BY_PORT_TWO)?;
         let mut switches = Vec::new(alloc);
         switches.push(Switch::new(alloc, &program)?)?;
         switches.push(Switch::new(alloc, &program)?)?;

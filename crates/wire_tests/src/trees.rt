@@ -1,19 +1,27 @@
-//! Copies of trees.
+//! Copies of trees, with their places.
 
-use crate::machine::small_program;
-use crate::printing::every_declaration;
+use crate::printing::DECLARATIONS;
+use crate::support::program;
 use indus_reader::read_property;
-use p4_tree::{Expr, Program, Stmt};
-use std::alloc::{AllocError, Global};
+use p4_tree::Program;
+use std::alloc::Global;
+use std::process::Abort;
 use std::test::Fail;
 use wire_linker::link_wire;
-use wire_printer::program_words;
 
-/// A copy of the program is written as the program is.
-fn is_copied(alloc: Global, program: &Program) -> Result<bool, AllocError> {
-    let text = program_words(alloc, &program.copy(alloc)?)?;
-    Ok(text.as_str() == program_words(alloc, program)?.as_str())
+/// A copy of the program is shown as the program is, places and all.
+fn is_copied(rt: &impl Abort, alloc: Global, program: &Program) -> Result<(), Fail> {
+    let copy = program.copy(alloc)?;
+    let shown = format!(in alloc; "{copy:?}")?;
+    assert!(rt; shown == format!(in alloc; "{program:?}")?);
+    Ok(())
 }
+
+/// A control with every statement and expression.
+const STATEMENTS: &str =
+    "control c(in h k) { apply { bit<8> x = 8w1; bool f; { x = a ? ~b : -c[7:0]; ; } \
+if (!(t.apply().hit)) return; else exit; f = h.e.isValid() && (bool) (bit<1>) true; \
+f = std.parser_error == error.NoMatch; digest(1, {x, y}); } } V1Switch(c()) main;";
 
 #[test]
 fn programs_are_copied(rt: HostRuntime) -> Result<(), Fail> {
@@ -22,20 +30,7 @@ fn programs_are_copied(rt: HostRuntime) -> Result<(), Fail> {
         alloc,
         b"tele bit<8> n; {} {n = n + 1;} {if (n == 3) {reject;}}",
     )?;
-    assert!(rt; is_copied(alloc, &link_wire(alloc, &counting, &[1, 2])?)?);
-    assert!(rt; is_copied(alloc, &small_program(alloc)?)?);
-    assert!(rt; is_copied(alloc, &every_declaration(alloc)?)?);
-    Ok(())
-}
-
-/// `if (true) return; else exit;`, with its places.
-#[test]
-fn places_are_copied(rt: HostRuntime) -> Result<(), Fail> {
-    let alloc = rt.alloc();
-    let one = Box::new(alloc, Stmt::Return(4))?;
-    let other = Box::new(alloc, Stmt::Exit(7))?;
-    let s = Stmt::If(0, Expr::Flag(2, true), one, Some(other));
-    let text = format!(in alloc; "{:?}", s.copy(alloc)?)?;
-    assert!(rt; text.as_str() == "If(0, Flag(2, true), Return(4), Some(Exit(7)))");
-    Ok(())
+    is_copied(&rt, alloc, &link_wire(alloc, &counting, &[1, 2])?)?;
+    is_copied(&rt, alloc, &program(&rt, alloc, STATEMENTS)?)?;
+    is_copied(&rt, alloc, &program(&rt, alloc, DECLARATIONS)?)
 }
