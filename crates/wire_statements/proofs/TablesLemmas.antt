@@ -1,5 +1,5 @@
 -- Words for parameters, and keys that an entry has no match for.
-use Rattle.std.proofs.Common.{◌≡◌, ℕ, zero, suc, ◌<◌, List, [], ◌∷◌, length, map, drop, true, false, refl, arith}
+use Rattle.std.proofs.Common.{◌≡◌, ℕ, zero, suc, ◌<◌, List, [], ◌∷◌, length, map, drop, false, refl, arith}
 use Rattle.bit_values.specs.Bits.{Word}
 use Rattle.p4_meaning.specs.Store.{Store, set_value}
 use Rattle.p4_meaning.specs.Choice.{fits_keys}

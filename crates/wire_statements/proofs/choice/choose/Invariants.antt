@@ -1,4 +1,4 @@
-use Rattle.std.proofs.Common.{◌≡◌, ◌≤◌, ℕ, map, drop, length}
+use Rattle.std.proofs.Common.{◌≡◌, ◌≤◌, map, drop, length}
 use Rattle.std.specs.Option.{option_map}
 use Rattle.p4_meaning.specs.Choice.{choice_of}
 use Rattle.p4_scope.specs.Lent.{lent}
