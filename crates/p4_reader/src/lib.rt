@@ -1,8 +1,11 @@
 //! The reader of P4 statements.
 //!
-//! The layer above gets the readers of what declarations share with statements: `type_of`, `variable`,
-//! `constant`, `expressions`, `assignment` and `block`. Each gives what `specs/Declaring` or
-//! `specs/Reading` reads.
+//! The layers above get `read_expr` and `read_stmts`: what stands at a token of a text, or the
+//! first token with which nothing goes on (`specs/Answers`), and `is_left_out`, whether that token
+//! is one that this subset leaves out (`specs/LeftOut`). The reader of declarations gets the readers
+//! of what these share with statements: `type_of`, `variable`, `constant`, `expressions`,
+//! `assignment` and `block`, each of which gives what `specs/Declaring` or `specs/Reading` reads, and
+//! the laws of these in `proofs`.
 //!
 //! Follows: P4_16 Language Specification, grammar, this project's subset.
 #![tactic(auto)]
