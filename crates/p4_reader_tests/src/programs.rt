@@ -4,7 +4,8 @@
 ghost use Rattle.std.specs.Prelude.{◌≤◌, length};
 
 use crate::samples::{
-    BASIC, BASIC_WORDS, SHORT, SHORT_WORDS, TWO, TWO_WORDS, WIRE, WIRE_WORDS,
+    BASIC, BASIC_WORDS, DROP, DROP_WORDS, EXIT, EXIT_WORDS, SHORT, SHORT_WORDS, TWO, TWO_WORDS,
+    WIRE, WIRE_WORDS,
 };
 use lex_text::{Words, tokens};
 use p4_decls::{ProgramFault, read_program};
@@ -81,6 +82,8 @@ fn samples(rt: HostRuntime) -> Result<(), Fail> {
     spells(&rt, rt.alloc(), WIRE, WIRE_WORDS)?;
     spells(&rt, rt.alloc(), TWO, TWO_WORDS)?;
     spells(&rt, rt.alloc(), SHORT, SHORT_WORDS)?;
+    spells(&rt, rt.alloc(), EXIT, EXIT_WORDS)?;
+    spells(&rt, rt.alloc(), DROP, DROP_WORDS)?;
     spells(&rt, rt.alloc(), BASIC, BASIC_WORDS)
 }
 
@@ -166,8 +169,18 @@ struct s { int<8> x; } => syntax 4",
 #[test]
 fn inclusions(rt: HostRuntime) -> Result<(), Fail> {
     let alloc = rt.alloc();
-    same(&rt, alloc, "#include <core.p4>\nV1Switch(a()) main;", "a program")?;
-    same(&rt, alloc, "const bit<8> A = 1;\n#include <core.p4>\n", "syntax 9")?;
+    same(
+        &rt,
+        alloc,
+        "#include <core.p4>\nV1Switch(a()) main;",
+        "a program",
+    )?;
+    same(
+        &rt,
+        alloc,
+        "const bit<8> A = 1;\n#include <core.p4>\n",
+        "syntax 9",
+    )?;
     same(&rt, alloc, "", "syntax 0")
 }
 
@@ -219,7 +232,13 @@ fn limits(rt: HostRuntime) -> Result<(), Fail> {
     let main = "V1Switch(a()) main;";
     let many = repeated(alloc, "", "typedef bit<8> t; ", 14000, main)?;
     same(&rt, alloc, many.as_str(), "a program")?;
-    let fields = repeated(alloc, "header h { ", "bit<8> x; ", 3000, "} V1Switch(a()) main;")?;
+    let fields = repeated(
+        alloc,
+        "header h { ",
+        "bit<8> x; ",
+        3000,
+        "} V1Switch(a()) main;",
+    )?;
     same(&rt, alloc, fields.as_str(), "a program")?;
     let front = "parser p(in h a) { ";
     let states = repeated(alloc, front, "state s { } ", 2000, "} V1Switch(a()) main;")?;
