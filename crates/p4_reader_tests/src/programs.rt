@@ -3,7 +3,10 @@
 
 ghost use Rattle.std.specs.Prelude.{◌≤◌, length};
 
-use crate::samples::{BASIC, BASIC_WORDS, SHORT, SHORT_WORDS, TWO, TWO_WORDS, WIRE, WIRE_WORDS};
+use crate::samples::{
+    BASIC, BASIC_WORDS, DROP, DROP_WORDS, EXIT, EXIT_WORDS, SHORT, SHORT_WORDS, TWO, TWO_WORDS,
+    WIRE, WIRE_WORDS,
+};
 use lex_text::{Words, tokens};
 use p4_decls::{ProgramFault, read_program};
 use p4_tree::Program;
@@ -79,6 +82,8 @@ fn samples(rt: HostRuntime) -> Result<(), Fail> {
     spells(&rt, rt.alloc(), WIRE, WIRE_WORDS)?;
     spells(&rt, rt.alloc(), TWO, TWO_WORDS)?;
     spells(&rt, rt.alloc(), SHORT, SHORT_WORDS)?;
+    spells(&rt, rt.alloc(), EXIT, EXIT_WORDS)?;
+    spells(&rt, rt.alloc(), DROP, DROP_WORDS)?;
     spells(&rt, rt.alloc(), BASIC, BASIC_WORDS)
 }
 

@@ -118,6 +118,84 @@ V1Switch ( WireParser ( ) , WireVerify ( ) , WireIngress ( ) , WireEgress ( ) , 
 ) , WireDeparser ( ) ) main ;
 ";
 
+/// The same as `WIRE`, and egress ends at once.
+pub const EXIT: &str = "\
+#include <core.p4>
+#include <v1model.p4>
+struct metadata { }
+struct headers { }
+parser WireParser(packet_in packet, out headers hdr, inout metadata meta,
+    inout standard_metadata_t standard_metadata) { state start { transition accept; } }
+control WireVerify(inout headers hdr, inout metadata meta) { apply { } }
+control WireIngress(inout headers hdr, inout metadata meta,
+    inout standard_metadata_t standard_metadata) {
+  apply {
+    if (standard_metadata.ingress_port == 1) { standard_metadata.egress_spec = 2; }
+    else { standard_metadata.egress_spec = 1; }
+  }
+}
+control WireEgress(inout headers hdr, inout metadata meta,
+    inout standard_metadata_t standard_metadata) { apply { exit; } }
+control WireCompute(inout headers hdr, inout metadata meta) { apply { } }
+control WireDeparser(packet_out packet, in headers hdr) { apply { } }
+V1Switch(WireParser(), WireVerify(), WireIngress(), WireEgress(), WireCompute(),
+  WireDeparser()) main;
+";
+
+/// The words of `EXIT`.
+pub const EXIT_WORDS: &str = "\
+struct metadata { } struct headers { } parser WireParser ( packet_in packet , out headers hdr
+, inout metadata meta , inout standard_metadata_t standard_metadata ) { state start {
+transition accept ; } } control WireVerify ( inout headers hdr , inout metadata meta ) { apply
+{ } } control WireIngress ( inout headers hdr , inout metadata meta , inout
+standard_metadata_t standard_metadata ) { apply { if ( ( standard_metadata . ingress_port == 1
+) ) { standard_metadata . egress_spec = 2 ; } else { standard_metadata . egress_spec = 1 ; } }
+} control WireEgress ( inout headers hdr , inout metadata meta , inout standard_metadata_t
+standard_metadata ) { apply { exit ; } } control WireCompute ( inout headers hdr , inout
+metadata meta ) { apply { } } control WireDeparser ( packet_out packet , in headers hdr ) {
+apply { } } V1Switch ( WireParser ( ) , WireVerify ( ) , WireIngress ( ) , WireEgress ( ) ,
+WireCompute ( ) , WireDeparser ( ) ) main ;
+";
+
+/// The same as `WIRE`, and egress drops each frame.
+pub const DROP: &str = "\
+#include <core.p4>
+#include <v1model.p4>
+struct metadata { }
+struct headers { }
+parser WireParser(packet_in packet, out headers hdr, inout metadata meta,
+    inout standard_metadata_t standard_metadata) { state start { transition accept; } }
+control WireVerify(inout headers hdr, inout metadata meta) { apply { } }
+control WireIngress(inout headers hdr, inout metadata meta,
+    inout standard_metadata_t standard_metadata) {
+  apply {
+    if (standard_metadata.ingress_port == 1) { standard_metadata.egress_spec = 2; }
+    else { standard_metadata.egress_spec = 1; }
+  }
+}
+control WireEgress(inout headers hdr, inout metadata meta,
+    inout standard_metadata_t standard_metadata) { apply { mark_to_drop(standard_metadata); } }
+control WireCompute(inout headers hdr, inout metadata meta) { apply { } }
+control WireDeparser(packet_out packet, in headers hdr) { apply { } }
+V1Switch(WireParser(), WireVerify(), WireIngress(), WireEgress(), WireCompute(),
+  WireDeparser()) main;
+";
+
+/// The words of `DROP`.
+pub const DROP_WORDS: &str = "\
+struct metadata { } struct headers { } parser WireParser ( packet_in packet , out headers hdr
+, inout metadata meta , inout standard_metadata_t standard_metadata ) { state start {
+transition accept ; } } control WireVerify ( inout headers hdr , inout metadata meta ) { apply
+{ } } control WireIngress ( inout headers hdr , inout metadata meta , inout
+standard_metadata_t standard_metadata ) { apply { if ( ( standard_metadata . ingress_port == 1
+) ) { standard_metadata . egress_spec = 2 ; } else { standard_metadata . egress_spec = 1 ; } }
+} control WireEgress ( inout headers hdr , inout metadata meta , inout standard_metadata_t
+standard_metadata ) { apply { mark_to_drop ( standard_metadata ) ; } } control WireCompute (
+inout headers hdr , inout metadata meta ) { apply { } } control WireDeparser ( packet_out
+packet , in headers hdr ) { apply { } } V1Switch ( WireParser ( ) , WireVerify ( ) ,
+WireIngress ( ) , WireEgress ( ) , WireCompute ( ) , WireDeparser ( ) ) main ;
+";
+
 /// Forwarding by the longest prefix, with comments and inclusions.
 pub const BASIC: &str = "\
 // Basic forwarding.
