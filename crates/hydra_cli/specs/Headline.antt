@@ -4,6 +4,7 @@
 use Rattle.std.specs.Prelude.{◌≡◌, ℕ, ◌+◌, ◌<◌, List, ◌++◌, map, filter, not}
 use Rattle.p4_tree.specs.Tree.{Program}
 use Rattle.p4_meaning.specs.Parts.{parts_of}
+use Rattle.p4_meaning.specs.Tables.{Tables}
 use Rattle.indus_tree.specs.Tree.{Property}
 use Rattle.indus_tree.specs.State.{Contents, Held}
 use Rattle.indus_tree.specs.Law.{law_of}
@@ -28,7 +29,7 @@ Claim = (alone linked : Run) → (path : Path Held Held) → Type 0
 -- it holds in every valid world, which is any packets and any schedule, after every number of steps
 abbrev pub InEveryWorld : (p : Property) (programs : (switch : ℕ) → Program) → Claim → Type 0
 InEveryWorld p programs Holds =
-    (w : World (Unit {0}) Contents) → IsValid wire_line AnyEntries NoVariable NoContents w → (n : ℕ) →
+    (w : World Tables Contents) → IsValid wire_line AnyEntries NoVariable NoContents w → (n : ℕ) →
     Holds (net_after plain_line wire_line 0 w n)
     (net_after (line_of programs) wire_line (telemetry_of p.decls).size w n)
     (path_meaning (law_of p) (net_after plain_line wire_line 0 w n).log)
@@ -37,7 +38,8 @@ pub record Headline (p : Property) (frame out : List ℕ) (given : Out) : Type 0
   -- Every well-typed property is linked: there is a linked program for each switch,
   pub programs : (switch : ℕ) → Program
   -- and for every network, table contents, list of packets and schedule (`InEveryWorld`; of networks
-  -- this one, without tables), the linked programs that the call writes, as the first of its files,
+  -- this one, whose program applies no table), the linked programs that the call writes, as the
+  -- first of its files,
   pub writes :
       given.files ≡ linked_files out programs ++ frame_files out (run_of_frame programs p frame)
   -- and executes, here on the one frame,

@@ -24,7 +24,7 @@ fate_files o lost = []
 
 -- how many packets a switch counts as rejected, and all switches
 abbrev pub rejected_by : Machine → ℕ
-rejected_by m = rejected_at m.registers
+rejected_by m = rejected_at m.kept
 
 abbrev pub rejected_on : Net → ℕ
 rejected_on n = sum_by rejected_by n.switches

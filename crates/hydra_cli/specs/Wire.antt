@@ -5,7 +5,7 @@ use Rattle.bit_values.specs.Bits.{cast}
 use Rattle.indus_tree.specs.State.{Contents}
 use Rattle.p4_tree.specs.Tree.{Program}
 use Rattle.p4_meaning.specs.Statements.{cell_at}
-use Rattle.p4_meaning.specs.Pass.{Registers, Queued}
+use Rattle.p4_meaning.specs.Pass.{Kept, Queued}
 use Rattle.network_run.specs.Network.{Net}
 use Rattle.linkage.specs.Linkage.{is_report}
 use Rattle.linked_halves.specs.Monitor.{rejects_register}
@@ -26,15 +26,15 @@ linked_files o programs =
 
 -- the network of the three switches, as far as it has come
 abbrev pub Run : Type 0
-Run = Net Registers Queued Contents
+Run = Net Kept Queued Contents
 
 -- the file of each frame that left by an edge port; of one packet there is one at most
 abbrev pub frame_files : (out : List ℕ) → Run → List (List ℕ × List ℕ)
 frame_files o w = map (λ e. (o ++ codes ".frame", e.frame)) w.edges
 
 -- how many packets a switch's register counts as rejected
-abbrev pub rejected_at : Registers → ℕ
-rejected_at cells = cast 32 (cell_at (cells rejects_register) 0).value
+abbrev pub rejected_at : Kept → ℕ
+rejected_at k = cast 32 (cell_at (k.registers rejects_register) 0).value
 
 -- how many packets all switches count as rejected
 abbrev pub rejected_in : Run → ℕ

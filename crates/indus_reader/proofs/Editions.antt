@@ -7,7 +7,7 @@ use Rattle.lex_words.specs.declared.key.Key.TheVariants.{Edition, BraceOpen, Sem
 use Rattle.lex_words.specs.Seen.{Lexeme, number, key, number_in, at_key}
 use Rattle.lex_words.specs.Reading.{wrong, Read, ◌>>=◌, look}
 use Rattle.lex_words.proofs.KeyCodes.{at_key-is, number_lexeme}
-use Rattle.lex_words.proofs.Locality.{Follows, Follows-bind, Follows-later, Follows-look, Follows-cond, Follows-wrong, Follows-ok, Follows-expect}
+use Rattle.lex_words.proofs.Locality.{Follows, Follows-bind, Follows-later, Follows-look, Follows-cond, Follows-wrong, Follows-ok, Follows-expect, Follows-test}
 use Rattle.lex_words.proofs.Loops.{then_ok}
 use Rattle.lex_words.proofs.Spelled.{Ends, Reads, Reads-lexeme, Reads-wrong, Reads-ok, Reads-cond, Reads-expect}
 use Rattle.lex_words.proofs.Standing.{Stands, Stands-split}
@@ -16,7 +16,6 @@ use Rattle.indus_spelling.specs.Declarations.{SpellsDecl, a_tele, a_sensor, a_he
 use Rattle.indus_spelling.specs.Properties.{two, SpellsEdition, first_edition, second_edition}
 use Rattle.indus_expressions.proofs.CompleteSteps.{expect_ok}
 use Rattle.indus_reader.specs.Reading.{is_two, second, second_at, edition_at}
-use Rattle.indus_reader.proofs.DeclaringLocality.{Follows-test}
 use Rattle.indus_reader.proofs.SoundTypes.{Any}
 
 -- ---- two readings, of the lexemes ws and vs

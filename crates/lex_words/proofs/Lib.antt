@@ -9,10 +9,13 @@ pub mod KindsSeen
 pub mod Standing
 pub mod Locality
 pub mod Loops
+pub mod Steps
 pub mod Spelled
+pub mod Even
 pub mod Joins
 pub mod OpenBehind
 pub mod Whole
+pub mod Fronts
 pub mod OneAnswer
 pub mod Named
 pub mod Turns

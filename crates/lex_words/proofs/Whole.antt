@@ -34,7 +34,7 @@ Stands-take ws q u s =
     let n : q ≡ length u = Stands-length ws 0 q u s ∙ omega arith in
     sym (take_at u (drop q ws) q (sym n)) ∙ ap (take q) (sym e)
 
-take-next : (ws : List Lexeme) (q : ℕ) (w : Lexeme) → slice_get ws q ≡ Some w → take (q + 1) ws ≡ take q ws ++ w ∷ []
+pub take-next : (ws : List Lexeme) (q : ℕ) (w : Lexeme) → slice_get ws q ≡ Some w → take (q + 1) ws ≡ take q ws ++ w ∷ []
 take-next [] q w e = absurd cc
 take-next (x ∷ ws) zero w e = let s : x ≡ w = cc in ap (λ y. y ∷ []) s
 take-next (x ∷ ws) (suc q) w e = let n : suc q + 1 ≡ suc (q + 1) = omega arith in rw n (ap (λ y. x ∷ y) (take-next ws q w e))
@@ -50,7 +50,7 @@ Agree-begun ws back q lt k le =
     let e : take (q + 1) ws ++ drop (q + 1) ws ≡ ws = take-append-drop (q + 1) ws in
     ap (λ x. slice_get x k) (sym e) ∙ get-same (take (q + 1) ws) (drop (q + 1) ws) back k (omega (arith, length-take (q + 1) ws))
 
-take-all : (ws : List Lexeme) → take (length ws) ws ≡ ws
+pub take-all : (ws : List Lexeme) → take (length ws) ws ≡ ws
 take-all ws = let e = take_at ws [] (length ws) refl in subst (λ x. take (length ws) x ≡ ws) (append-nil ws) e
 
 -- ---- readings
@@ -128,7 +128,7 @@ module _ {T : Type 0} (Spells : T → List Lexeme → Type 0) (height : T → �
             let a : ok t (length other) ≡ err (high q) = sym o ∙ g in absurd cc
       ]
 
-      not_ended : (s : T) → reads ≡ ok s q → ⊥
+      pub not_ended : (s : T) → reads ≡ ok s q → ⊥
       not_ended s e =
           let f = follows ws other ⊥ ⊥ (length ws + 1) turns (omega arith) low (low + height t) (omega arith) (λ v. absurd v) limit room (omega arith) (λ v. absurd v) in
           let g = (subst (λ r. Shows ws other ⊥ ⊥ 0 r (reader other turns room (low + height t))) e f.shows).1 (Agree-begun ws x.back q lt) in
@@ -146,7 +146,7 @@ module _ {T : Type 0} (Spells : T → List Lexeme → Type 0) (height : T → �
     told r e = subst Told_of e (sound ws (length ws + 1)).sound
 
     -- the lexemes that were read
-    ends_at : (t : T) (q : ℕ) → reads ≡ ok t q → (q ≤ length ws) × Spells t (take q ws) × (height t ≤ limit) × (left limit (take q ws) ≡ Some limit)
+    pub ends_at : (t : T) (q : ℕ) → reads ≡ ok t q → (q ≤ length ws) × Spells t (take q ws) × (height t ≤ limit) × (left limit (take q ws) ≡ Some limit)
     ends_at t q e =
         let s = told (ok t q) e in
         let same : s.lexemes ≡ take q ws = Stands-take ws q s.lexemes s.stands in
@@ -185,7 +185,7 @@ module _ {T : Type 0} (Spells : T → List Lexeme → Type 0) (height : T → �
           dead = inl (lt, λ t x. not_ended q lt t x s e);
         }
 
-    wrong_is : (q : ℕ) → reads ≡ err (wrong q) → IsSyntax Spells height limit ws q
+    pub wrong_is : (q : ℕ) → reads ≡ err (wrong q) → IsSyntax Spells height limit ws q
     wrong_is q e =
         let s = told (err (wrong q)) e in
         let within = Stands-within ws 0 q s.front (omega arith) s.stands in
@@ -212,7 +212,7 @@ module _ {T : Type 0} (Spells : T → List Lexeme → Type 0) (height : T → �
     stopped_begun q s =
         (s.value, record { back = s.back; spells = subst (λ x. Spells s.value (x ++ s.back)) (sym (stopped_at q s)) (rw (append_assoc s.before.front (s.last ∷ []) s.back) s.spells) })
 
-    high_is : (q : ℕ) → reads ≡ err (high q) → IsTooDeep Spells height limit ws q
+    pub high_is : (q : ℕ) → reads ≡ err (high q) → IsTooDeep Spells height limit ws q
     high_is q e =
         let s = told (err (high q)) e in
         record {
@@ -222,7 +222,7 @@ module _ {T : Type 0} (Spells : T → List Lexeme → Type 0) (height : T → �
           past = inl (λ t x. is_higher q (stopped_within q s) t x e);
         }
 
-    deep_is : (q : ℕ) → reads ≡ err (deep q) → IsTooDeep Spells height limit ws q
+    pub deep_is : (q : ℕ) → reads ≡ err (deep q) → IsTooDeep Spells height limit ws q
     deep_is q e =
         let s = told (err (deep q)) e in
         record {

@@ -50,6 +50,19 @@ pub record IsTooDeep {T : Type 0} (Spells : T → List Lexeme → Type 0) (heigh
   pub before : HasRoom Spells height limit (take at ws)
   pub past : IsPast Spells height limit (take (at + 1) ws)
 
+-- ---- fronts of lists
+
+-- The first n lexemes spell the tree, which is within the limits, and no tree begins with them and the lexeme behind them.
+pub record IsFront {T : Type 0} (Spells : T → List Lexeme → Type 0) (height : T → ℕ) (limit : ℕ) (ws : List Lexeme) (n : ℕ) (t : T) : Type 0 where
+  pub inside : n ≤ length ws
+  pub within : IsWithin Spells height limit (take n ws) t
+  pub last : n < length ws → (s : T) → Begun Spells (take (n + 1) ws) s → ⊥
+
+-- no tree goes on with the lexeme at this place, and those before it, which are within the limits, spell none
+pub record IsNoFront {T : Type 0} (Spells : T → List Lexeme → Type 0) (height : T → ℕ) (limit : ℕ) (ws : List Lexeme) (at : ℕ) : Type 0 where
+  pub syntax : IsSyntax Spells height limit ws at
+  pub none : (t : T) → Spells t (take at ws) → ⊥
+
 -- ---- texts
 
 -- the lexemes of the text's tokens are so

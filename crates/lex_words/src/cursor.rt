@@ -46,11 +46,28 @@ impl<'a> Cursor<'a> {
         ensures lexemes { result.lexemes ≡ lexemes_of language text.now list.now }
         ensures at { result.at ≡ 0 }
     {
+        Cursor::from_place(language, text, list, 0)
+    }
+
+    /// The tokens of a text in a language, where the next has this number.
+    pub fn from_place(
+        language: Words,
+        text: &'a [u8],
+        list: &'a [Token],
+        at: usize,
+    ) -> Cursor<'a>
+        requires fits { AreIn text.now list.now }
+        requires fair { AreLexemes language (lexemes_of language text.now list.now) }
+        requires short { length list.now ≤ most language }
+        requires inside { at ≤ length list.now }
+        ensures lexemes { result.lexemes ≡ lexemes_of language text.now list.now }
+        ensures at { result.at ≡ at }
+    {
         Cursor {
             language,
             text,
             list,
-            at: 0,
+            at,
         }
     }
 

@@ -2,16 +2,16 @@
 use Rattle.std.proofs.Common.{◌≡◌, ℕ, ◌%◌, ◌^◌, ◌<◌, List, [], ◌∷◌, ◌++◌, map, Bool, true, false, not, cond, Some, None, refl, sym, ap, ap₂, ◌∙◌, subst, arith}
 use Rattle.std.specs.Prelude.{if◌then◌else◌, nat_eq}
 use Rattle.std.specs.List.{filter, AllByRecursion}
-use Rattle.bit_values.specs.Bits.{Word, word, cast}
+use Rattle.bit_values.specs.Bits.{Word, word}
 use Rattle.bit_values.specs.Widths.{bit, holds}
 use Rattle.p4_tree.specs.Tree.{assign, next}
-use Rattle.p4_meaning.specs.Standard.{standard_root, ingress_port, egress_spec, egress_port, parser_error}
+use Rattle.p4_meaning.specs.Standard.{standard_root, ingress_port, egress_spec, parser_error}
 use Rattle.p4_meaning.specs.Store.{Store, shown, zero_of, set_value, set_valid, zeroed, made}
-use Rattle.p4_meaning.specs.Statements.{no_calls, Go, Run, Ended, after, in_store, meaning_of, meaning_of_stmt}
+use Rattle.p4_meaning.specs.Statements.{Calls, no_calls, Go, Run, Ended, after, in_store, meaning_of, meaning_of_stmt}
 use Rattle.p4_meaning.specs.Parsing.{ParserEnd}
 use Rattle.p4_meaning.specs.Parts.{Parts, whole}
 use Rattle.p4_meaning.specs.Pass as pass
-use Rattle.p4_meaning.specs.Pass.{Registers, Queued, error_number, store_behind, run_from, is_dropped, unless_dropped, to_egress, entered_from, parts_enter}
+use Rattle.p4_meaning.specs.Pass.{Registers, Kept, Queued, calls_of, error_number, store_behind, run_from, is_dropped, unless_dropped, to_egress, entered_from, parts_enter}
 use Rattle.indus_tree.specs.Tree.{Decl, Property}
 use Rattle.indus_tree.specs.State.{Contents, Held}
 use Rattle.indus_tree.specs.Start.{tele_start}
@@ -23,14 +23,16 @@ use Rattle.network_run.specs.PathMeaning.{Reads, Doing, nothing_yet, entry_part}
 use Rattle.linkage.specs.Linkage as linkage
 use Rattle.linkage.specs.HalvesLaws.{SameQueued, EnterAgrees}
 use Rattle.linked_halves.specs.Monitor.{number, tele_header, mark_path, rejects_register, lowered_block, entry_stmts, entry_stmt}
-use Rattle.linked_halves.specs.Regions.{is_mine, is_readable}
+use Rattle.linked_halves.specs.Regions.{is_mine}
 use Rattle.linked_halves.specs.Forwarding.{IsForwarding}
 use Rattle.linked_halves.specs.LinkedParts.{linked_parts}
 use Rattle.linked_halves.specs.Telemetry.{tele_bytes, telemetry_of, IsFitTele}
 use Rattle.linked_halves.specs.Networks.{network_digest, entered_of}
 use Rattle.linked_halves.specs.Relations.{is_report, bare, Alike, IsPort, Others, Monitor, KeptBy, HeldBy}
 use Rattle.linked_halves.proofs.Apart.{readable_free, free_apart, free_above}
-use Rattle.linked_halves.proofs.Own.{Ran, stays_then, set_alike, AreAlikeCalls, no_calls_alike, all_ran}
+use Rattle.linked_halves.specs.OwnCode.{Ran, AreAlikeCalls, HoldSame}
+use Rattle.linked_halves.proofs.Own.{set_alike, no_calls_alike, all_ran}
+use Rattle.linked_halves.proofs.OwnCalls.{calls_alike}
 use Rattle.linked_halves.proofs.ExitRuns.{unless_port}
 use Rattle.p4_meaning.proofs.Sequences.{then_runs}
 use Rattle.linked_halves.proofs.Lower.{Stands, assignment, lowers}
@@ -100,7 +102,7 @@ record Opened (ds : List Decl) (a b : Run) (e : Ended) (d : Doing Held Held) : T
   digests : e.0.digests ≡ b.digests
   goes : e.1 ≡ Go
 
-module _ (f : Parts) (own : IsForwarding f) (p : Property) (small : IsSmall p) (linked_ports : List ℕ) (low : AllByRecursion (λ n. n < 512) linked_ports) (net : Wiring) where
+module _ (calls : Calls) (p : Property) (small : IsSmall p) (linked_ports : List ℕ) (low : AllByRecursion (λ n. n < 512) linked_ports) where
   opened_stands : (port : ℕ) (s : Store) (z : Held) → Begun p.decls port s → Stands p.decls false (opened s) (nothing_yet (tele_start p.decls) z)
   opened_stands port s z h =
       record {
@@ -118,18 +120,18 @@ module _ (f : Parts) (own : IsForwarding f) (p : Property) (small : IsSmall p) (
       }
 
   -- the header is made and marked, and then init runs
-  entry_runs : (port : ℕ) (b : Run) → Begun p.decls port b.store → meaning_of no_calls (entry_stmts p) b ≡ meaning_of no_calls (lowered_block p.init) (in_store b (opened b.store))
+  entry_runs : (port : ℕ) (b : Run) → Begun p.decls port b.store → meaning_of calls (entry_stmts p) b ≡ meaning_of calls (lowered_block p.init) (in_store b (opened b.store))
   entry_runs port b h =
       let made_run = in_store b (set_valid (zeroed b.store tele_header) tele_header true) in
-      ap (λ o. meaning_of no_calls (next (assign 0 mark_path (number 8 72)) (lowered_block p.init)) (in_store b (made o true b.store tele_header))) h.invalid
-      ∙ ap (λ e. after e.1 e.0 (meaning_of no_calls (lowered_block p.init))) (assignment made_run 0 mark_path (number 8 72) (word 8 0) (word 8 72) refl tt (ap zero_of h.mark) refl)
+      ap (λ o. meaning_of calls (next (assign 0 mark_path (number 8 72)) (lowered_block p.init)) (in_store b (made o true b.store tele_header))) h.invalid
+      ∙ ap (λ e. after e.1 e.0 (meaning_of calls (lowered_block p.init))) (assignment calls made_run 0 mark_path (number 8 72) (word 8 0) (word 8 72) refl tt (ap zero_of h.mark) refl)
 
   -- the entry statement's test
-  entry_test : (port : ℕ) (b : Run) → b.store.headers (standard_root ∷ []) ≡ None → b.store.values ingress_port ≡ word 9 port → port < 512 → meaning_of_stmt no_calls (entry_stmt p linked_ports) b ≡ (if is_in port linked_ports then (b, Go) else meaning_of no_calls (entry_stmts p) b)
+  entry_test : (port : ℕ) (b : Run) → b.store.headers (standard_root ∷ []) ≡ None → b.store.values ingress_port ≡ word 9 port → port < 512 → meaning_of_stmt calls (entry_stmt p linked_ports) b ≡ (if is_in port linked_ports then (b, Go) else meaning_of calls (entry_stmts p) b)
   entry_test port b s h lt =
-      unless_port ingress_port linked_ports (entry_stmts p) b
-      ∙ ap (λ w. if holds (bit (not (holds w))) then meaning_of no_calls (entry_stmts p) b else (b, Go)) (one_of_is ingress_port linked_ports b.store port (ap₂ shown s h) lt low)
-      ∙ out (is_in port linked_ports) (meaning_of no_calls (entry_stmts p) b) (b, Go)
+      unless_port calls ingress_port linked_ports (entry_stmts p) b
+      ∙ ap (λ w. if holds (bit (not (holds w))) then meaning_of calls (entry_stmts p) b else (b, Go)) (one_of_is ingress_port linked_ports b.store port (ap₂ shown s h) lt low)
+      ∙ out (is_in port linked_ports) (meaning_of calls (entry_stmts p) b) (b, Go)
     where
       out : (t : Bool) (x y : Ended) → (if holds (bit (not (holds (bit t)))) then x else y) ≡ (if t then y else x)
       out true x y = refl
@@ -139,13 +141,13 @@ module _ (f : Parts) (own : IsForwarding f) (p : Property) (small : IsSmall p) (
   abbrev init_doing : Reads Contents → (tele sensors : Held) → Doing Held Held
   init_doing r t z = run_of (hop_for p.decls r) p.init (nothing_yet t z)
 
-  entry_edge : (port : ℕ) (r : Reads Contents) (z : Held) (a b : Run) → Alike a b → Begun p.decls port b.store → port < 512 → is_in port linked_ports ≡ false → Opened p.decls a b (meaning_of_stmt no_calls (entry_stmt p linked_ports) b) (init_doing r (tele_start p.decls) z)
+  entry_edge : (port : ℕ) (r : Reads Contents) (z : Held) (a b : Run) → Alike a b → Begun p.decls port b.store → port < 512 → is_in port linked_ports ≡ false → Opened p.decls a b (meaning_of_stmt calls (entry_stmt p linked_ports) b) (init_doing r (tele_start p.decls) z)
   entry_edge port r z a b h g lt out =
       let c = in_store b (opened b.store) in
       let d : Doing Held Held = nothing_yet (tele_start p.decls) z in
-      let e = meaning_of no_calls (lowered_block p.init) c in
-      let ran = lowers (hop_for p.decls r) small.decls false p.init c d small.init (opened_stands port b.store z g) in
-      let same : meaning_of_stmt no_calls (entry_stmt p linked_ports) b ≡ e = entry_test port b g.standard g.arrived lt ∙ (ap (λ t. if t then (b, Go) else meaning_of no_calls (entry_stmts p) b) out ∙ entry_runs port b g) in
+      let e = meaning_of calls (lowered_block p.init) c in
+      let ran = lowers calls (hop_for p.decls r) small.decls false p.init c d small.init (opened_stands port b.store z g) in
+      let same : meaning_of_stmt calls (entry_stmt p linked_ports) b ≡ e = entry_test port b g.standard g.arrived lt ∙ (ap (λ t. if t then (b, Go) else meaning_of calls (entry_stmts p) b) out ∙ entry_runs port b g) in
       let done : Opened p.decls a b e (init_doing r (tele_start p.decls) z) =
       record {
         alike = others_alike a c e.0 (opened_alike a b h) ran.others;
@@ -158,15 +160,26 @@ module _ (f : Parts) (own : IsForwarding f) (p : Property) (small : IsSmall p) (
       } in
       subst (λ e. Opened p.decls a b e (init_doing r (tele_start p.decls) z)) (sym same) done
 
-  entry_link : (port : ℕ) (t z : Held) (a b : Run) → Alike a b → Taken p.decls port t b.store → port < 512 → is_in port linked_ports ≡ true → Opened p.decls a b (meaning_of_stmt no_calls (entry_stmt p linked_ports) b) (nothing_yet t z)
+  entry_link : (port : ℕ) (t z : Held) (a b : Run) → Alike a b → Taken p.decls port t b.store → port < 512 → is_in port linked_ports ≡ true → Opened p.decls a b (meaning_of_stmt calls (entry_stmt p linked_ports) b) (nothing_yet t z)
   entry_link port t z a b h g lt at =
-      let same : meaning_of_stmt no_calls (entry_stmt p linked_ports) b ≡ (b, Go) = entry_test port b g.monitor.standard g.arrived lt ∙ ap (λ t. if t then (b, Go) else meaning_of no_calls (entry_stmts p) b) at in
+      let same : meaning_of_stmt calls (entry_stmt p linked_ports) b ≡ (b, Go) = entry_test port b g.monitor.standard g.arrived lt ∙ ap (λ t. if t then (b, Go) else meaning_of calls (entry_stmts p) b) at in
       let done : Opened p.decls a b (b, Go) (nothing_yet t z) = record { alike = h; monitor = g.monitor; reports = refl; spec = g.spec; cells = refl; digests = refl; goes = refl } in
       subst (λ e. Opened p.decls a b e (nothing_yet t z)) (sym same) done
 
+module _ (f : Parts) (own : IsForwarding f) (p : Property) (small : IsSmall p) (linked_ports : List ℕ) (low : AllByRecursion (λ n. n < 512) linked_ports) (net : Wiring) (a b : Kept) (tables : HoldSame a.tables b.tables) where
+  -- what own actions and tables do, in the forwarding switch and in the linked one
+  abbrev calls : Calls
+  calls = calls_of f a.tables
+
+  abbrev linked_calls : Calls
+  linked_calls = calls_of f b.tables
+
+  same_calls : AreAlikeCalls calls linked_calls
+  same_calls = calls_alike f.actions own.actions f.tables a.tables b.tables own.tables tables
+
   -- a linked entry half does what a plain one does, and a part
   abbrev Agrees : (s : ℕ) (first : Bool) (c : ℕ → Contents) (k : ℕ) → Doing Held Held → (plain linked : pass.Entered) → Type 0
-  Agrees s first c k d plain linked = EnterAgrees net (law_of p) (telemetry_of p.decls) KeptBy (HeldBy p.decls) (IsFitTele p.decls) s first c k d (entered_of plain) (entered_of linked)
+  Agrees s first c k d plain linked = EnterAgrees net (law_of p) (telemetry_of p.decls) KeptBy (HeldBy p.decls) (IsFitTele p.decls) s first c k d (entered_of a.tables plain) (entered_of b.tables linked)
 
   -- both queue the packet, or both drop it
   both_queued : (s : ℕ) (first : Bool) (t : Held) (x y : Store) (rest rest' : List ℕ) → Alike (bare x) (bare y) → Monitor p.decls y t → rest' ≡ rest → SameQueued (λ q q'. HeldBy p.decls s first q t q') (unless_dropped (is_dropped x) (record { store = to_egress f x; rest = rest })) (unless_dropped (is_dropped y) (record { store = to_egress (linked_parts f p linked_ports) y; rest = rest' }))
@@ -188,27 +201,30 @@ module _ (f : Parts) (own : IsForwarding f) (p : Property) (small : IsSmall p) (
 
   -- the run behind ingress's variables
   abbrev set_up : Run → Run
-  set_up u = (meaning_of no_calls f.ingress.locals u).0
+  set_up u = (meaning_of calls f.ingress.locals u).0
+
+  abbrev linked_up : Run → Run
+  linked_up v = (meaning_of linked_calls f.ingress.locals v).0
 
   -- behind the variables and the entry statement the program's own ingress runs
-  ingress_agrees : (s : ℕ) (first : Bool) (c : ℕ → Contents) (k : ℕ) (d : Doing Held Held) (u v : Run) (rest rest' : List ℕ) → v.cells rejects_register ≡ word 32 (k % 2 ^ 32) ∷ [] → filter is_report v.digests ≡ [] → rest' ≡ rest → Ran v (meaning_of no_calls f.ingress.locals u) (meaning_of no_calls f.ingress.locals v) → Opened p.decls (set_up u) (set_up v) (meaning_of_stmt no_calls (entry_stmt p linked_ports) (set_up v)) d → Agrees s first c k d (entered_from f rest u) (entered_from (linked_parts f p linked_ports) rest' v)
+  ingress_agrees : (s : ℕ) (first : Bool) (c : ℕ → Contents) (k : ℕ) (d : Doing Held Held) (u v : Run) (rest rest' : List ℕ) → v.cells rejects_register ≡ word 32 (k % 2 ^ 32) ∷ [] → filter is_report v.digests ≡ [] → rest' ≡ rest → Ran v (meaning_of calls f.ingress.locals u) (meaning_of linked_calls f.ingress.locals v) → Opened p.decls (set_up u) (linked_up v) (meaning_of_stmt linked_calls (entry_stmt p linked_ports) (linked_up v)) d → Agrees s first c k d (entered_from f a.tables rest u) (entered_from (linked_parts f p linked_ports) b.tables rest' v)
   ingress_agrees s first c k d u v rest rest' count silent same begun h =
-      let e = meaning_of_stmt no_calls (entry_stmt p linked_ports) (set_up v) in
+      let e = meaning_of_stmt linked_calls (entry_stmt p linked_ports) (linked_up v) in
       let body = f.ingress.body in
-      let x = (meaning_of no_calls body (set_up u)).0 in
-      let y = (meaning_of no_calls body e.0).0 in
-      let ran = all_ran no_calls no_calls no_calls_alike body (set_up u) e.0 own.ingress.body h.alike in
-      let plain_is : (meaning_of no_calls (whole f.ingress) u).0 ≡ x =
-      ap (λ (r : Ended). r.0) (then_runs no_calls f.ingress.locals body u) ∙ ap (λ g. (after g (set_up u) (meaning_of no_calls body)).0) begun.goes in
-      let linked_is : (meaning_of no_calls (whole (linked_parts f p linked_ports).ingress) v).0 ≡ y =
-      ap (λ (r : Ended). r.0) (then_runs no_calls f.ingress.locals (next (entry_stmt p linked_ports) body) v)
-      ∙ ap (λ g. (after g (set_up v) (meaning_of no_calls (next (entry_stmt p linked_ports) body))).0) begun.goes_on
-      ∙ ap (λ g. (after g e.0 (meaning_of no_calls body)).0) h.goes in
+      let x = (meaning_of calls body (set_up u)).0 in
+      let y = (meaning_of linked_calls body e.0).0 in
+      let ran = all_ran calls linked_calls same_calls body (set_up u) e.0 own.ingress.body h.alike in
+      let plain_is : (meaning_of calls (whole f.ingress) u).0 ≡ x =
+      ap (λ (r : Ended). r.0) (then_runs calls f.ingress.locals body u) ∙ ap (λ g. (after g (set_up u) (meaning_of calls body)).0) begun.goes in
+      let linked_is : (meaning_of linked_calls (whole (linked_parts f p linked_ports).ingress) v).0 ≡ y =
+      ap (λ (r : Ended). r.0) (then_runs linked_calls f.ingress.locals (next (entry_stmt p linked_ports) body) v)
+      ∙ ap (λ g. (after g (linked_up v) (meaning_of linked_calls (next (entry_stmt p linked_ports) body))).0) begun.goes_on
+      ∙ ap (λ g. (after g e.0 (meaning_of linked_calls body)).0) h.goes in
       let reports : filter is_report y.digests ≡ [] = ran.stays.reports ∙ (ap (filter is_report) h.digests ∙ (begun.stays.reports ∙ silent)) in
       let rejects : y.cells rejects_register ≡ word 32 (k % 2 ^ 32) ∷ [] = ran.stays.cells rejects_register refl ∙ (ap (λ g. g rejects_register) h.cells ∙ (begun.stays.cells rejects_register refl ∙ count)) in
       let done : Agrees s first c k d (pass.entered f u.store rest x) (pass.entered (linked_parts f p linked_ports) v.store rest' y) =
       record {
-        kept = record { own = λ n i. ran.alike.cells n i; rejects = rejects };
+        kept = record { own = λ n i. ran.alike.cells n i; rejects = rejects; tables = tables };
         queued = both_queued s first d.tele x.store y.store rest rest' (bare_alike x y ran.alike) (monitor_stays p.decls d.tele e.0 y h.monitor ran.stays) same;
         digests =
             record {
@@ -216,42 +232,42 @@ module _ (f : Parts) (own : IsForwarding f) (p : Property) (small : IsSmall p) (
               others = filter-map (λ d. not (linkage.is_report d)) network_digest y.digests ∙ ap (map network_digest) ran.alike.digests;
             };
       } in
-      subst (λ y. Agrees s first c k d (entered_from f rest u) (pass.entered (linked_parts f p linked_ports) v.store rest' y)) (sym linked_is)
+      subst (λ y. Agrees s first c k d (entered_from f a.tables rest u) (pass.entered (linked_parts f p linked_ports) v.store rest' y)) (sym linked_is)
       (subst (λ x. Agrees s first c k d (pass.entered f u.store rest x) (pass.entered (linked_parts f p linked_ports) v.store rest' y)) (sym plain_is) done)
 
   -- a frame by an edge port: init runs
-  pub enter_edge : (s port k : ℕ) (a b : Registers) (c : ℕ → Contents) (t z : Held) (frame : List ℕ) (r : Reads Contents) → KeptBy s a z c k b → port < 512 → is_in port linked_ports ≡ false → t ≡ tele_start p.decls → r.first ≡ true → EnterAgrees net (law_of p) (telemetry_of p.decls) KeptBy (HeldBy p.decls) (IsFitTele p.decls) s true c k (entry_part (law_of p) r t z) (entered_of (parts_enter f a port frame)) (entered_of (parts_enter (linked_parts f p linked_ports) b port frame))
+  pub enter_edge : (s port k : ℕ) (c : ℕ → Contents) (t z : Held) (frame : List ℕ) (r : Reads Contents) → KeptBy s a z c k b → port < 512 → is_in port linked_ports ≡ false → t ≡ tele_start p.decls → r.first ≡ true → EnterAgrees net (law_of p) (telemetry_of p.decls) KeptBy (HeldBy p.decls) (IsFitTele p.decls) s true c k (entry_part (law_of p) r t z) (entered_of a.tables (parts_enter f a.tables a.registers port frame)) (entered_of b.tables (parts_enter (linked_parts f p linked_ports) b.tables b.registers port frame))
   unfolding parts_enter
-  enter_edge s port k a b c t z frame r kept lt out start first =
+  enter_edge s port k c t z frame r kept lt out start first =
       let x = plain_end f own p linked_ports low port frame in
       let y = linked_end f own p linked_ports low port frame in
       let h = edge_parsed f own p linked_ports low port frame lt out in
-      let u = run_from (store_behind x) a in
-      let v = run_from (store_behind y) b in
-      let ran = all_ran no_calls no_calls no_calls_alike f.verify u v own.verify (behind_alike x y a b h.alike h.error kept.own) in
+      let u = run_from (store_behind x) a.registers in
+      let v = run_from (store_behind y) b.registers in
+      let ran = all_ran no_calls no_calls no_calls_alike f.verify u v own.verify (behind_alike x y a.registers b.registers h.alike h.error kept.own) in
       let u' = (meaning_of no_calls f.verify u).0 in
       let v' = (meaning_of no_calls f.verify v).0 in
       let g = begun_stays p.decls port v v' (behind_begun p.decls port y h.fact) ran.stays in
-      let vars = all_ran no_calls no_calls no_calls_alike f.ingress.locals u' v' own.ingress.locals ran.alike in
-      let g' = begun_stays p.decls port v' (set_up v') g vars.stays in
-      let done = ingress_agrees s true c k (init_doing r (tele_start p.decls) z) u' v' x.reading.rest y.reading.rest (ran.stays.cells rejects_register refl ∙ kept.rejects) ran.stays.reports h.rest vars (entry_edge port r z (set_up u') (set_up v') vars.alike g' lt out) in
-      subst (λ b'. Agrees s true c k (if b' then init_doing r t z else nothing_yet t z) (parts_enter f a port frame) (parts_enter (linked_parts f p linked_ports) b port frame)) (sym first)
-      (subst (λ t. Agrees s true c k (init_doing r t z) (parts_enter f a port frame) (parts_enter (linked_parts f p linked_ports) b port frame)) (sym start) done)
+      let vars = all_ran calls linked_calls same_calls f.ingress.locals u' v' own.ingress.locals ran.alike in
+      let g' = begun_stays p.decls port v' (linked_up v') g vars.stays in
+      let done = ingress_agrees s true c k (init_doing linked_calls p small linked_ports low r (tele_start p.decls) z) u' v' x.reading.rest y.reading.rest (ran.stays.cells rejects_register refl ∙ kept.rejects) ran.stays.reports h.rest vars (entry_edge linked_calls p small linked_ports low port r z (set_up u') (linked_up v') vars.alike g' lt out) in
+      subst (λ b'. Agrees s true c k (if b' then init_doing linked_calls p small linked_ports low r t z else nothing_yet t z) (parts_enter f a.tables a.registers port frame) (parts_enter (linked_parts f p linked_ports) b.tables b.registers port frame)) (sym first)
+      (subst (λ t. Agrees s true c k (init_doing linked_calls p small linked_ports low r t z) (parts_enter f a.tables a.registers port frame) (parts_enter (linked_parts f p linked_ports) b.tables b.registers port frame)) (sym start) done)
 
   -- a frame by a link: nothing is done
-  pub enter_link : (s port k : ℕ) (a b : Registers) (c : ℕ → Contents) (t z : Held) (frame : List ℕ) (r : Reads Contents) → KeptBy s a z c k b → port < 512 → is_in port linked_ports ≡ true → IsFitTele p.decls t → r.first ≡ false → EnterAgrees net (law_of p) (telemetry_of p.decls) KeptBy (HeldBy p.decls) (IsFitTele p.decls) s false c k (entry_part (law_of p) r t z) (entered_of (parts_enter f a port frame)) (entered_of (parts_enter (linked_parts f p linked_ports) b port (tele_bytes p.decls t ++ frame)))
+  pub enter_link : (s port k : ℕ) (c : ℕ → Contents) (t z : Held) (frame : List ℕ) (r : Reads Contents) → KeptBy s a z c k b → port < 512 → is_in port linked_ports ≡ true → IsFitTele p.decls t → r.first ≡ false → EnterAgrees net (law_of p) (telemetry_of p.decls) KeptBy (HeldBy p.decls) (IsFitTele p.decls) s false c k (entry_part (law_of p) r t z) (entered_of a.tables (parts_enter f a.tables a.registers port frame)) (entered_of b.tables (parts_enter (linked_parts f p linked_ports) b.tables b.registers port (tele_bytes p.decls t ++ frame)))
   unfolding parts_enter
-  enter_link s port k a b c t z frame r kept lt at fits first =
+  enter_link s port k c t z frame r kept lt at fits first =
       let x = plain_end f own p linked_ports low port frame in
       let y = linked_end f own p linked_ports low port (tele_bytes p.decls t ++ frame) in
       let h = link_parsed f own p linked_ports low port frame t lt at fits in
-      let u = run_from (store_behind x) a in
-      let v = run_from (store_behind y) b in
-      let ran = all_ran no_calls no_calls no_calls_alike f.verify u v own.verify (behind_alike x y a b h.alike h.error kept.own) in
+      let u = run_from (store_behind x) a.registers in
+      let v = run_from (store_behind y) b.registers in
+      let ran = all_ran no_calls no_calls no_calls_alike f.verify u v own.verify (behind_alike x y a.registers b.registers h.alike h.error kept.own) in
       let u' = (meaning_of no_calls f.verify u).0 in
       let v' = (meaning_of no_calls f.verify v).0 in
       let g = taken_stays p.decls port t v v' (behind_taken p.decls port t y h.fact) ran.stays in
-      let vars = all_ran no_calls no_calls no_calls_alike f.ingress.locals u' v' own.ingress.locals ran.alike in
-      let g' = taken_stays p.decls port t v' (set_up v') g vars.stays in
-      let done = ingress_agrees s false c k (nothing_yet t z) u' v' x.reading.rest y.reading.rest (ran.stays.cells rejects_register refl ∙ kept.rejects) ran.stays.reports h.rest vars (entry_link port t z (set_up u') (set_up v') vars.alike g' lt at) in
-      subst (λ b'. Agrees s false c k (if b' then init_doing r t z else nothing_yet t z) (parts_enter f a port frame) (parts_enter (linked_parts f p linked_ports) b port (tele_bytes p.decls t ++ frame))) (sym first) done
+      let vars = all_ran calls linked_calls same_calls f.ingress.locals u' v' own.ingress.locals ran.alike in
+      let g' = taken_stays p.decls port t v' (linked_up v') g vars.stays in
+      let done = ingress_agrees s false c k (nothing_yet t z) u' v' x.reading.rest y.reading.rest (ran.stays.cells rejects_register refl ∙ kept.rejects) ran.stays.reports h.rest vars (entry_link linked_calls p small linked_ports low port t z (set_up u') (linked_up v') vars.alike g' lt at) in
+      subst (λ b'. Agrees s false c k (if b' then init_doing linked_calls p small linked_ports low r t z else nothing_yet t z) (parts_enter f a.tables a.registers port frame) (parts_enter (linked_parts f p linked_ports) b.tables b.registers port (tele_bytes p.decls t ++ frame))) (sym first) done

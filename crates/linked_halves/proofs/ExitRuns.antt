@@ -6,13 +6,13 @@ use Rattle.std.specs.List.{AllByRecursion}
 use Rattle.std.proofs.Math.Nat.{mod-eq_of_lt}
 use Rattle.bit_values.specs.Bits.{Word, word, add, cast}
 use Rattle.bit_values.specs.Widths.{bit, holds, either_width, sound_width, cast_word}
-use Rattle.p4_tree.specs.Tree.{Expr, path, negation, binary, Stmt, Stmts, done, next, and_then}
+use Rattle.p4_tree.specs.Tree.{Expr, path, negation, binary, Stmt, Stmts, done, next}
 use Rattle.p4_tree.specs.declared.statement.Op.TheVariants as p4
 use Rattle.p4_meaning.specs.Standard.{standard_root, egress_spec, egress_port}
 use Rattle.p4_meaning.specs.Store.{shown, set_value, set_valid, made}
 use Rattle.p4_meaning.specs.Value.{value_of}
 use Rattle.p4_meaning.proofs.Sequences.{then_runs}
-use Rattle.p4_meaning.specs.Statements.{no_calls, Flow, Go, Return, Exit, Run, Ended, after, in_store, cell_at, cell_set, put_cells, meaning_of_stmt, meaning_of}
+use Rattle.p4_meaning.specs.Statements.{Calls, Go, Return, Exit, Run, Ended, after, in_store, cell_at, cell_set, put_cells, meaning_of_stmt, meaning_of}
 use Rattle.p4_meaning.specs.Pass.{is_dropped}
 use Rattle.indus_tree.specs.Tree.{Property}
 use Rattle.indus_tree.specs.State.{Contents, Held}
@@ -26,15 +26,15 @@ use Rattle.linked_halves.proofs.Lower.{Stands, open_by, written_open, Lowered, l
 use Rattle.linked_halves.proofs.Fill.{is_in, one_of_is}
 
 -- nothing follows the last statement
-pub last_run : (e : Ended) → (after e.1 e.0 (meaning_of no_calls done)).0 ≡ e.0
-last_run (r, Go) = refl
-last_run (r, Return) = refl
-last_run (r, Exit) = refl
+pub last_run : (calls : Calls) (e : Ended) → (after e.1 e.0 (meaning_of calls done)).0 ≡ e.0
+last_run calls (r, Go) = refl
+last_run calls (r, Return) = refl
+last_run calls (r, Exit) = refl
 
 -- what stands in a test of a port alone, which applies no table
-pub unless_port : (p : List (List ℕ)) (ports : List ℕ) (ss : Stmts) (b : Run) → meaning_of_stmt no_calls (only_if (negation 0 (is_port_of p ports)) ss) b ≡ (if holds (value_of (negation 0 (is_port_of p ports)) 1 b.store) then meaning_of no_calls ss b else (b, Go))
-unless_port p [] ss b = refl
-unless_port p (n ∷ ports) ss b = refl
+pub unless_port : (calls : Calls) (p : List (List ℕ)) (ports : List ℕ) (ss : Stmts) (b : Run) → meaning_of_stmt calls (only_if (negation 0 (is_port_of p ports)) ss) b ≡ (if holds (value_of (negation 0 (is_port_of p ports)) 1 b.store) then meaning_of calls ss b else (b, Go))
+unless_port calls p [] ss b = refl
+unless_port calls p (n ∷ ports) ss b = refl
 
 -- a test of one bit, and of the bit turned round
 test_of : (b : Bool) (x y : Ended) → (if holds (bit b) then x else y) ≡ (if b then x else y)
@@ -73,27 +73,27 @@ counted r n =
       digests = r.digests;
     }
 
-counts : (r : Run) (n : ℕ) → r.store.headers [] ≡ None → r.store.headers (standard_root ∷ []) ≡ None → r.cells rejects_register ≡ word 32 n ∷ [] → meaning_of no_calls reject_stmts r ≡ (counted r n, Go)
-counts r n plain standard cells =
+counts : (calls : Calls) (r : Run) (n : ℕ) → r.store.headers [] ≡ None → r.store.headers (standard_root ∷ []) ≡ None → r.cells rejects_register ≡ word 32 n ∷ [] → meaning_of calls reject_stmts r ≡ (counted r n, Go)
+counts calls r n plain standard cells =
     let s1 = set_value r.store (count_name ∷ []) (word 32 0) in
     let s2 = set_value s1 (count_name ∷ []) (word 32 (n % 2 ^ 32)) in
     let r2 = in_store r s2 in
     let r3 : Run = record r2 { cells = put_cells r.cells rejects_register (raised n ∷ []) } in
     let more : Expr = binary 0 p4.Add (path 0 (count_name ∷ [])) (number 0 1) in
-    let loaded : meaning_of_stmt no_calls read_count (in_store r s1) ≡ (r2, Go) =
+    let loaded : meaning_of_stmt calls read_count (in_store r s1) ≡ (r2, Go) =
     ap (λ s. (in_store r s, Go)) (written_open (s1.headers []) s1 (count_name ∷ []) _ (open_by (s1.headers []) None plain tt))
     ∙ ap (λ (cs : List Word). (in_store r (set_value s1 (count_name ∷ []) (cast_word 32 (cell_at cs 0))), Go)) cells in
     let sum_of : Word → (place : ℕ) → Word = λ w place. word (sound_width (either_width place 32)) (add (sound_width (either_width place 32)) (cast (sound_width (either_width place 32)) w.value) (cast (sound_width (either_width place 32)) (cast (sound_width (either_width 0 (either_width place 32))) 1))) in
     let sum : value_of more 32 s2 ≡ word 32 (((n % 2 ^ 32) % 2 ^ 32 + 1) % 2 ^ 32) =
     ap (λ o. sum_of (shown o (word 32 (n % 2 ^ 32))) (either_width (shown o (word 32 (n % 2 ^ 32))).width 0)) plain in
-    let stored : meaning_of_stmt no_calls write_count r2 ≡ (r3, Go) =
+    let stored : meaning_of_stmt calls write_count r2 ≡ (r3, Go) =
     ap (λ (cs : List Word). (record r2 { cells = put_cells r.cells rejects_register (cell_set cs 0 (value_of more (cell_at cs 0).width s2)) }, Go)) cells
     ∙ ap (λ (v : Word). (record r2 { cells = put_cells r.cells rejects_register (cell_set (word 32 n ∷ []) 0 v) }, Go)) sum in
-    let gone : meaning_of_stmt no_calls drop_packet r3 ≡ (counted r n, Go) =
+    let gone : meaning_of_stmt calls drop_packet r3 ≡ (counted r n, Go) =
     ap (λ s. (in_store r3 s, Go)) (written_open (s2.headers (standard_root ∷ [])) s2 egress_spec (word 9 511) (open_by (s2.headers (standard_root ∷ [])) None standard tt)) in
-    ap (λ (e : Ended). after e.1 e.0 (meaning_of no_calls (next write_count (next drop_packet done)))) loaded
-    ∙ ap (λ (e : Ended). after e.1 e.0 (meaning_of no_calls (next drop_packet done))) stored
-    ∙ ap (λ (e : Ended). after e.1 e.0 (meaning_of no_calls done)) gone
+    ap (λ (e : Ended). after e.1 e.0 (meaning_of calls (next write_count (next drop_packet done)))) loaded
+    ∙ ap (λ (e : Ended). after e.1 e.0 (meaning_of calls (next drop_packet done))) stored
+    ∙ ap (λ (e : Ended). after e.1 e.0 (meaning_of calls done)) gone
 
 -- the header goes
 abbrev pub closed : Run → Run
@@ -104,8 +104,8 @@ abbrev pub flagged : Run → Run
 flagged r = in_store r (set_value r.store (rejected_name ∷ []) (word 1 0))
 
 -- behind telemetry
-abbrev pub updated : Property → Run → Run
-updated p r = (meaning_of no_calls (lowered_block p.tele) r).0
+abbrev pub updated : Calls → Property → Run → Run
+updated calls p r = (meaning_of calls (lowered_block p.tele) r).0
 
 abbrev pub telemetry_part : Property → Reads Contents → (tele sensors : Held) → Doing Held Held
 telemetry_part p r t z = run_of (hop_for p.decls r) p.tele (nothing_yet t z)
@@ -114,12 +114,12 @@ telemetry_part p r t z = run_of (hop_for p.decls r) p.tele (nothing_yet t z)
 abbrev pub unflagged : Doing Held Held → Doing Held Held
 unflagged d = record d { rejected = false }
 
-module _ (p : Property) (small : IsSmall p) (linked_ports : List ℕ) (low : AllByRecursion (λ n. n < 512) linked_ports) where
+module _ (calls : Calls) (p : Property) (small : IsSmall p) (linked_ports : List ℕ) (low : AllByRecursion (λ n. n < 512) linked_ports) where
   -- the exit part runs where forwarding does not drop the packet
-  pub exit_test : (b : Run) → b.store.headers (standard_root ∷ []) ≡ None → IsPort (b.store.values egress_spec) → meaning_of_stmt no_calls (exit_stmt p linked_ports) b ≡ (if is_dropped b.store then (b, Go) else meaning_of no_calls (exit_stmts p linked_ports) b)
+  pub exit_test : (b : Run) → b.store.headers (standard_root ∷ []) ≡ None → IsPort (b.store.values egress_spec) → meaning_of_stmt calls (exit_stmt p linked_ports) b ≡ (if is_dropped b.store then (b, Go) else meaning_of calls (exit_stmts p linked_ports) b)
   exit_test b standard port =
       let w = b.store.values egress_spec in
-      let body = meaning_of no_calls (exit_stmts p linked_ports) b in
+      let body = meaning_of calls (exit_stmts p linked_ports) b in
       let pick : Bool → Ended = λ t. if t then body else (b, Go) in
       let differs : Word → ℕ → Bool = λ v n. holds (bit (not (nat_eq (cast (sound_width (either_width n 0)) v.value) (cast (sound_width (either_width n 0)) (cast (sound_width (either_width n 0)) 511))))) in
       ap (λ o. pick (differs (shown o w) (shown o w).width)) standard
@@ -128,22 +128,22 @@ module _ (p : Property) (small : IsSmall p) (linked_ports : List ℕ) (low : All
       ∙ test_of_not (nat_eq w.value 511) body (b, Go)
 
   -- the checker runs where the port has no link
-  pub check_test : (b : Run) (port : ℕ) → b.store.headers (standard_root ∷ []) ≡ None → b.store.values egress_port ≡ word 9 port → port < 512 → meaning_of_stmt no_calls (check_stmt p linked_ports) b ≡ (if is_in port linked_ports then (b, Go) else meaning_of no_calls (check_stmts p) b)
+  pub check_test : (b : Run) (port : ℕ) → b.store.headers (standard_root ∷ []) ≡ None → b.store.values egress_port ≡ word 9 port → port < 512 → meaning_of_stmt calls (check_stmt p linked_ports) b ≡ (if is_in port linked_ports then (b, Go) else meaning_of calls (check_stmts p) b)
   check_test b port standard h lt =
-      let body = meaning_of no_calls (check_stmts p) b in
-      unless_port egress_port linked_ports (check_stmts p) b
+      let body = meaning_of calls (check_stmts p) b in
+      unless_port calls egress_port linked_ports (check_stmts p) b
       ∙ ap (λ w. if holds (bit (not (holds w))) then body else (b, Go)) (one_of_is egress_port linked_ports b.store port (ap₂ shown standard h) lt low)
       ∙ test_of_negation (is_in port linked_ports) body (b, Go)
 
-  pub telemetry_runs : (r : Reads Contents) (b : Run) (t z : Held) → Monitor p.decls b.store t → Lowered p.decls false b (meaning_of no_calls (lowered_block p.tele) b) (telemetry_part p r t z)
-  telemetry_runs r b t z m = lowers (hop_for p.decls r) small.decls false p.tele b (nothing_yet t z) small.tele (record { monitor = m; rejected = λ e. absurd (cc); reports = refl })
+  pub telemetry_runs : (r : Reads Contents) (b : Run) (t z : Held) → Monitor p.decls b.store t → Lowered p.decls false b (meaning_of calls (lowered_block p.tele) b) (telemetry_part p r t z)
+  telemetry_runs r b t z m = lowers calls (hop_for p.decls r) small.decls false p.tele b (nothing_yet t z) small.tele (record { monitor = m; rejected = λ e. absurd (cc); reports = refl })
 
   -- up to the checker
-  pub exit_runs : (r : Reads Contents) (b : Run) (t z : Held) → Monitor p.decls b.store t → (meaning_of no_calls (exit_stmts p linked_ports) b).0 ≡ (meaning_of_stmt no_calls (check_stmt p linked_ports) (updated p b)).0
+  pub exit_runs : (r : Reads Contents) (b : Run) (t z : Held) → Monitor p.decls b.store t → (meaning_of calls (exit_stmts p linked_ports) b).0 ≡ (meaning_of_stmt calls (check_stmt p linked_ports) (updated calls p b)).0
   exit_runs r b t z m =
       let tail = next (check_stmt p linked_ports) done in
-      ap (λ (e : Ended). e.0) (then_runs no_calls (lowered_block p.tele) tail b ∙ ap (λ g. after g (updated p b) (meaning_of no_calls tail)) (telemetry_runs r b t z m).goes)
-      ∙ last_run (meaning_of_stmt no_calls (check_stmt p linked_ports) (updated p b))
+      ap (λ (e : Ended). e.0) (then_runs calls (lowered_block p.tele) tail b ∙ ap (λ g. after g (updated calls p b) (meaning_of calls tail)) (telemetry_runs r b t z m).goes)
+      ∙ last_run calls (meaning_of_stmt calls (check_stmt p linked_ports) (updated calls p b))
 
   -- with the flag, the store stands for the state in front of the checker
   pub flag_stands : (b : Run) (d : Doing Held Held) → Stands p.decls false b.store d → Stands p.decls true (flagged b).store (unflagged d)
@@ -154,17 +154,17 @@ module _ (p : Property) (small : IsSmall p) (linked_ports : List ℕ) (low : All
         reports = s.reports;
       }
 
-  pub check_runs : (r : Reads Contents) (b : Run) (d : Doing Held Held) → Stands p.decls true b.store d → Lowered p.decls true b (meaning_of no_calls (lowered_block p.check) b) (run_of (hop_for p.decls r) p.check d)
-  check_runs r b d s = lowers (hop_for p.decls r) small.decls true p.check b d small.check s
+  pub check_runs : (r : Reads Contents) (b : Run) (d : Doing Held Held) → Stands p.decls true b.store d → Lowered p.decls true b (meaning_of calls (lowered_block p.check) b) (run_of (hop_for p.decls r) p.check d)
+  check_runs r b d s = lowers calls (hop_for p.decls r) small.decls true p.check b d small.check s
 
   -- behind the checker
-  pub end_runs : (r : Run) (n : ℕ) (d : Doing Held Held) → Stands p.decls true r.store d → r.cells rejects_register ≡ word 32 n ∷ [] → (meaning_of no_calls end_stmts r).0 ≡ (if d.rejected then counted (closed r) n else closed r)
+  pub end_runs : (r : Run) (n : ℕ) (d : Doing Held Held) → Stands p.decls true r.store d → r.cells rejects_register ≡ word 32 n ∷ [] → (meaning_of calls end_stmts r).0 ≡ (if d.rejected then counted (closed r) n else closed r)
   end_runs r n d s cells =
       let c = closed r in
       let test : Stmt = only_if (path 0 (rejected_name ∷ [])) reject_stmts in
-      let shut : meaning_of no_calls end_stmts r ≡ meaning_of no_calls (next test done) c = ap (λ o. meaning_of no_calls (next test done) (in_store r (made o false r.store tele_header))) s.monitor.valid in
-      let tested : meaning_of_stmt no_calls test c ≡ (if d.rejected then (counted c n, Go) else (c, Go)) =
-      ap (λ w. if holds w then meaning_of no_calls reject_stmts c else (c, Go)) (ap₂ shown s.monitor.plain (s.rejected refl))
-      ∙ test_of d.rejected (meaning_of no_calls reject_stmts c) (c, Go)
-      ∙ ap (λ (e : Ended). if d.rejected then e else (c, Go)) (counts c n s.monitor.plain s.monitor.standard cells) in
-      ap (λ (e : Ended). e.0) shut ∙ last_run (meaning_of_stmt no_calls test c) ∙ ap (λ (e : Ended). e.0) tested ∙ run_of_either d.rejected (counted c n) c
+      let shut : meaning_of calls end_stmts r ≡ meaning_of calls (next test done) c = ap (λ o. meaning_of calls (next test done) (in_store r (made o false r.store tele_header))) s.monitor.valid in
+      let tested : meaning_of_stmt calls test c ≡ (if d.rejected then (counted c n, Go) else (c, Go)) =
+      ap (λ w. if holds w then meaning_of calls reject_stmts c else (c, Go)) (ap₂ shown s.monitor.plain (s.rejected refl))
+      ∙ test_of d.rejected (meaning_of calls reject_stmts c) (c, Go)
+      ∙ ap (λ (e : Ended). if d.rejected then e else (c, Go)) (counts calls c n s.monitor.plain s.monitor.standard cells) in
+      ap (λ (e : Ended). e.0) shut ∙ last_run calls (meaning_of_stmt calls test c) ∙ ap (λ (e : Ended). e.0) tested ∙ run_of_either d.rejected (counted c n) c

@@ -9,13 +9,12 @@ use Rattle.std.proofs.Math.Nat.{mod-eq_of_lt}
 use Rattle.bit_values.specs.Bits.{Word, word, cast}
 use Rattle.p4_tree.specs.Tree.{Stmts, done, next, and_then}
 use Rattle.p4_meaning.specs.Standard.{egress_spec, egress_port}
-use Rattle.p4_meaning.specs.Statements as p4
-use Rattle.p4_meaning.specs.Statements.{no_calls, Run, Ended, after, meaning_of_stmt, meaning_of}
+use Rattle.p4_meaning.specs.Statements.{Calls, no_calls, Run, Ended, after, meaning_of_stmt, meaning_of}
 use Rattle.p4_meaning.specs.Parsing.{fields_bits, if_valid, deparse_of}
 use Rattle.p4_meaning.specs.Parts.{Parts, whole}
 use Rattle.p4_meaning.specs.Pass as pass
 use Rattle.bit_writer.specs.Bytes.{words_bits, bytes_of}
-use Rattle.p4_meaning.specs.Pass.{Registers, Queued, run_from, is_dropped, unless_dropped, left_behind, parts_leave}
+use Rattle.p4_meaning.specs.Pass.{Kept, Queued, calls_of, run_from, is_dropped, unless_dropped, left_behind, parts_leave}
 use Rattle.indus_tree.specs.Tree.{Property}
 use Rattle.indus_tree.specs.State.{Contents, Held}
 use Rattle.indus_tree.specs.Meaning.{run_of}
@@ -33,13 +32,16 @@ use Rattle.linked_halves.specs.LinkedParts.{tele_fields, linked_parts}
 use Rattle.linked_halves.specs.Telemetry.{tele_words, tele_bytes, telemetry_of, IsFitTele}
 use Rattle.linked_halves.specs.Networks.{network_digest, going_of, leaving_of}
 use Rattle.linked_halves.specs.Relations.{is_report, bare, Alike, IsPort, Others, Monitor, KeptBy, HeldBy}
-use Rattle.linked_halves.proofs.Apart.{readable_free, apart_names, free_apart}
-use Rattle.linked_halves.proofs.Own.{Ran, no_calls_alike, all_ran}
+use Rattle.linked_halves.proofs.Apart.{apart_names, free_apart}
+use Rattle.linked_halves.specs.OwnCode.{Ran, AreAlikeCalls}
+use Rattle.linked_halves.proofs.Own.{no_calls_alike, all_ran}
+use Rattle.linked_halves.proofs.OwnCalls.{calls_alike}
 use Rattle.linked_halves.proofs.Lower.{others_then, others_set, Lowered}
 use Rattle.linked_halves.proofs.Bits.{words_written, bytes_of-append}
 use Rattle.linked_halves.proofs.Fill.{tele_for, tele_has, tele_whole, is_in}
 use Rattle.linked_halves.proofs.Parse.{deparsed_same}
 use Rattle.linked_halves.proofs.EnterParse.{monitor_stays}
+use Rattle.linked_halves.proofs.Enter.{filter-map, others_alike}
 use Rattle.linked_halves.proofs.ExitRuns.{last_run, run_unless, raised, counted, closed, flagged, unflagged, updated, telemetry_part, exit_test, check_test, telemetry_runs, exit_runs, flag_stands, check_runs, end_runs}
 pub use Rattle.p4_meaning.proofs.Sequences.{then_runs}
 
@@ -52,39 +54,12 @@ then_then : (x y z : Stmts) → and_then x (and_then y z) ≡ and_then (and_then
 then_then done y z = refl
 then_then (next s ss) y z = ap (next s) (then_then ss y z)
 
--- a program's digests that are reports, and the others, as the network takes them
-reports_told : (ds : List p4.Digest) → filter law.is_report (map network_digest ds) ≡ map network_digest (filter is_report ds)
-reports_told [] = refl
-reports_told (d ∷ ds) = ap (λ l. if is_report d then network_digest d ∷ l else l) (reports_told ds) ∙ out (is_report d)
-  where
-    out : (b : Bool) → (if b then network_digest d ∷ map network_digest (filter is_report ds) else map network_digest (filter is_report ds)) ≡ map network_digest (if b then d ∷ filter is_report ds else filter is_report ds)
-    out true = refl
-    out false = refl
-
-others_told : (ds : List p4.Digest) → filter (λ d. not (law.is_report d)) (map network_digest ds) ≡ map network_digest (filter (λ d. not (is_report d)) ds)
-others_told [] = refl
-others_told (d ∷ ds) = ap (λ l. if not (is_report d) then network_digest d ∷ l else l) (others_told ds) ∙ out (not (is_report d))
-  where
-    out : (b : Bool) → (if b then network_digest d ∷ map network_digest (filter (λ d. not (is_report d)) ds) else map network_digest (filter (λ d. not (is_report d)) ds)) ≡ map network_digest (if b then d ∷ filter (λ d. not (is_report d)) ds else filter (λ d. not (is_report d)) ds)
-    out true = refl
-    out false = refl
-
 -- alike runs tell the same, where there is no report
 same_digests : (a b : Run) (reported : List Report) → Alike a b → filter is_report b.digests ≡ [] → reported ≡ [] → SameDigests (map network_digest a.digests) (map network_digest b.digests) reported
 same_digests a b reported h none nothing =
     record {
-      reports = reports_told b.digests ∙ ap (map network_digest) none ∙ sym (ap (map law.report_digest) nothing);
-      others = others_told b.digests ∙ ap (map network_digest) h.digests;
-    }
-
--- where something of the monitor's changes, the runs stay alike
-alike_others : (a b c : Run) → Alike a b → Others b c → Alike a c
-alike_others a b c h o =
-    record {
-      values = λ q i. o.values q (readable_free q i) ∙ h.values q i;
-      headers = λ q i. ap (λ g. g q) o.headers ∙ h.headers q i;
-      cells = λ x i. ap (λ g. g x) o.cells ∙ h.cells x i;
-      digests = ap (filter (λ d. not (is_report d))) o.digests ∙ h.digests;
+      reports = filter-map law.is_report network_digest b.digests ∙ ap (map network_digest) none ∙ sym (ap (map law.report_digest) nothing);
+      others = filter-map (λ d. not (law.is_report d)) network_digest b.digests ∙ ap (map network_digest) h.digests;
     }
 
 module _ (f : Parts) (own : IsForwarding f) (p : Property) (small : IsSmall p) (linked_ports : List ℕ) (low : AllByRecursion (λ n. n < 512) linked_ports) where
@@ -128,22 +103,32 @@ module _ (f : Parts) (own : IsForwarding f) (p : Property) (small : IsSmall p) (
       bytes_without (computed a) (computed b) rest ran.alike (ran.stays.headers tele_header refl ∙ m)
 
   -- a passage's exit half
-  module _ (net : Wiring) (s k : ℕ) (first : Bool) (c : ℕ → Contents) (wired : (port : ℕ) → is_in port linked_ports ≡ not (at_edge net s port)) (a b : Registers) (t z : Held) (q q' : Queued) (kept : KeptBy s a z c k b) (held : HeldBy p.decls s first q t q') where
+  module _ (net : Wiring) (s k : ℕ) (first : Bool) (c : ℕ → Contents) (wired : (port : ℕ) → is_in port linked_ports ≡ not (at_edge net s port)) (a b : Kept) (t z : Held) (q q' : Queued) (kept : KeptBy s a z c k b) (held : HeldBy p.decls s first q t q') where
+    -- what own actions and tables do, in the forwarding switch and in the linked one
+    abbrev calls : Calls
+    calls = calls_of f a.tables
+
+    abbrev linked_calls : Calls
+    linked_calls = calls_of f b.tables
+
+    same_calls : AreAlikeCalls calls linked_calls
+    same_calls = calls_alike f.actions own.actions f.tables a.tables b.tables own.tables kept.tables
+
     -- behind egress: in the forwarding program, in the linked one the own part alone, and all of it
     abbrev plain_run : Run
-    plain_run = (meaning_of no_calls (whole f.egress) (run_from q.store a)).0
+    plain_run = (meaning_of calls (whole f.egress) (run_from q.store a.registers)).0
 
     abbrev own_run : Run
-    own_run = (meaning_of no_calls (whole f.egress) (run_from q'.store b)).0
+    own_run = (meaning_of linked_calls (whole f.egress) (run_from q'.store b.registers)).0
 
     abbrev whole_run : Run
-    whole_run = (meaning_of no_calls (whole (linked_parts f p linked_ports).egress) (run_from q'.store b)).0
+    whole_run = (meaning_of linked_calls (whole (linked_parts f p linked_ports).egress) (run_from q'.store b.registers)).0
 
-    ran : Ran (run_from q'.store b) (meaning_of no_calls (whole f.egress) (run_from q.store a)) (meaning_of no_calls (whole f.egress) (run_from q'.store b))
-    ran = all_ran no_calls no_calls no_calls_alike (whole f.egress) (run_from q.store a) (run_from q'.store b) (own_then f.egress.locals f.egress.body own.egress.locals own.egress.body) (record { values = λ x i. held.alike.values x i; headers = λ x o. held.alike.headers x o; cells = kept.own; digests = refl })
+    ran : Ran (run_from q'.store b.registers) (meaning_of calls (whole f.egress) (run_from q.store a.registers)) (meaning_of linked_calls (whole f.egress) (run_from q'.store b.registers))
+    ran = all_ran calls linked_calls same_calls (whole f.egress) (run_from q.store a.registers) (run_from q'.store b.registers) (own_then f.egress.locals f.egress.body own.egress.locals own.egress.body) (record { values = λ x i. held.alike.values x i; headers = λ x o. held.alike.headers x o; cells = kept.own; digests = refl })
 
     monitor : Monitor p.decls own_run.store t
-    monitor = monitor_stays p.decls t (run_from q'.store b) own_run held.monitor ran.stays
+    monitor = monitor_stays p.decls t (run_from q'.store b.registers) own_run held.monitor ran.stays
 
     own_port : IsPort (own_run.store.values egress_port)
     own_port = subst IsPort (sym (ran.stays.values egress_port refl)) held.going
@@ -160,21 +145,21 @@ module _ (f : Parts) (own : IsForwarding f) (p : Property) (small : IsSmall p) (
     own_rejects : own_run.cells rejects_register ≡ word 32 (k % 2 ^ 32) ∷ []
     own_rejects = ran.stays.cells rejects_register refl ∙ kept.rejects
 
-    whole_is : whole_run ≡ (if is_dropped own_run.store then own_run else (meaning_of no_calls (exit_stmts p linked_ports) own_run).0)
+    whole_is : whole_run ≡ (if is_dropped own_run.store then own_run else (meaning_of linked_calls (exit_stmts p linked_ports) own_run).0)
     whole_is =
         let tail = next (exit_stmt p linked_ports) done in
-        ap (λ ss. (meaning_of no_calls ss (run_from q'.store b)).0) (then_then f.egress.locals f.egress.body tail)
-        ∙ ap (λ (e : Ended). e.0) (then_runs no_calls (whole f.egress) tail (run_from q'.store b) ∙ ap (λ g. after g own_run (meaning_of no_calls tail)) ran.goes_on)
-        ∙ last_run (meaning_of_stmt no_calls (exit_stmt p linked_ports) own_run)
-        ∙ ap (λ (e : Ended). e.0) (exit_test p small linked_ports low own_run monitor.standard (ran.stays.spec held.spec))
-        ∙ run_unless (is_dropped own_run.store) own_run (meaning_of no_calls (exit_stmts p linked_ports) own_run)
+        ap (λ ss. (meaning_of linked_calls ss (run_from q'.store b.registers)).0) (then_then f.egress.locals f.egress.body tail)
+        ∙ ap (λ (e : Ended). e.0) (then_runs linked_calls (whole f.egress) tail (run_from q'.store b.registers) ∙ ap (λ g. after g own_run (meaning_of linked_calls tail)) ran.goes_on)
+        ∙ last_run linked_calls (meaning_of_stmt linked_calls (exit_stmt p linked_ports) own_run)
+        ∙ ap (λ (e : Ended). e.0) (exit_test linked_calls p small linked_ports low own_run monitor.standard (ran.stays.spec held.spec))
+        ∙ run_unless (is_dropped own_run.store) own_run (meaning_of linked_calls (exit_stmts p linked_ports) own_run)
 
     -- what is sent where egress ended so
-    abbrev plain_leaving : Leaving Registers
-    plain_leaving = leaving_of (left_behind f q.rest plain_run)
+    abbrev plain_leaving : Leaving Kept
+    plain_leaving = leaving_of a.tables (left_behind f q.rest plain_run)
 
-    abbrev linked_leaving : Run → Leaving Registers
-    linked_leaving r = leaving_of (left_behind (linked_parts f p linked_ports) q'.rest r)
+    abbrev linked_leaving : Run → Leaving Kept
+    linked_leaving r = leaving_of b.tables (left_behind (linked_parts f p linked_ports) q'.rest r)
 
     abbrev sent : pass.Going
     sent = record { port = cast 9 (plain_run.store.values egress_port).value; frame = frame_of f q.rest plain_run; exit_state = plain_run.store }
@@ -192,10 +177,10 @@ module _ (f : Parts) (own : IsForwarding f) (p : Property) (small : IsSmall p) (
     drops : is_dropped plain_run.store ≡ true → Drops whole_run
     drops e =
         let dropped : is_dropped own_run.store ≡ true = same_drop ∙ e in
-        let same : whole_run ≡ own_run = whole_is ∙ ap (λ d. if d then own_run else (meaning_of no_calls (exit_stmts p linked_ports) own_run).0) dropped in
+        let same : whole_run ≡ own_run = whole_is ∙ ap (λ d. if d then own_run else (meaning_of linked_calls (exit_stmts p linked_ports) own_run).0) dropped in
         let all : Drops own_run =
         record {
-          kept = record { own = λ x i. ran.alike.cells x i; rejects = own_rejects };
+          kept = record { own = λ x i. ran.alike.cells x i; rejects = own_rejects; tables = kept.tables };
           going = ap (λ d. going_of (unless_dropped d (linked_sent own_run))) dropped;
           digests = same_digests plain_run own_run [] ran.alike own_reports refl;
         } in
@@ -222,36 +207,36 @@ module _ (f : Parts) (own : IsForwarding f) (p : Property) (small : IsSmall p) (
     module _ (undropped : is_dropped plain_run.store ≡ false) where
       -- telemetry ran
       abbrev told : Run
-      told = updated p own_run
+      told = updated linked_calls p own_run
 
-      told_by : (last : Bool) → Lowered p.decls false own_run (meaning_of no_calls (lowered_block p.tele) own_run) (telemetry_part p (reads last) t z)
-      told_by last = telemetry_runs p small linked_ports low (reads last) own_run t z monitor
+      told_by : (last : Bool) → Lowered p.decls false own_run (meaning_of linked_calls (lowered_block p.tele) own_run) (telemetry_part p (reads last) t z)
+      told_by last = telemetry_runs linked_calls p small linked_ports low (reads last) own_run t z monitor
 
       told_port : told.store.values egress_port ≡ own_run.store.values egress_port
       told_port = (told_by true).others.values egress_port refl
 
-      whole_told : whole_run ≡ (if is_in going.port linked_ports then told else (meaning_of no_calls (check_stmts p) told).0)
+      whole_told : whole_run ≡ (if is_in going.port linked_ports then told else (meaning_of linked_calls (check_stmts p) told).0)
       whole_told =
           let n = (own_run.store.values egress_port).value in
           let word_is : told.store.values egress_port ≡ word 9 n = told_port ∙ ap (λ w. word w n) own_port.width in
           let same : n ≡ going.port = sym (mod-eq_of_lt own_port.low) ∙ ap (λ (w : Word). cast 9 w.value) same_port in
           whole_is
-          ∙ ap (λ d. if d then own_run else (meaning_of no_calls (exit_stmts p linked_ports) own_run).0) (same_drop ∙ undropped)
-          ∙ exit_runs p small linked_ports low (reads true) own_run t z monitor
-          ∙ ap (λ (e : Ended). e.0) (check_test p small linked_ports low told n (told_by true).stands.monitor.standard word_is own_port.low)
-          ∙ run_unless (is_in n linked_ports) told (meaning_of no_calls (check_stmts p) told)
-          ∙ ap (λ n. if is_in n linked_ports then told else (meaning_of no_calls (check_stmts p) told).0) same
+          ∙ ap (λ d. if d then own_run else (meaning_of linked_calls (exit_stmts p linked_ports) own_run).0) (same_drop ∙ undropped)
+          ∙ exit_runs linked_calls p small linked_ports low (reads true) own_run t z monitor
+          ∙ ap (λ (e : Ended). e.0) (check_test linked_calls p small linked_ports low told n (told_by true).stands.monitor.standard word_is own_port.low)
+          ∙ run_unless (is_in n linked_ports) told (meaning_of linked_calls (check_stmts p) told)
+          ∙ ap (λ n. if is_in n linked_ports then told else (meaning_of linked_calls (check_stmts p) told).0) same
 
       -- onto a link
       goes_link : is_in going.port linked_ports ≡ true → Agrees false (part false) whole_run
       goes_link at =
           let h = told_by false in
-          let same : whole_run ≡ told = whole_told ∙ ap (λ d. if d then told else (meaning_of no_calls (check_stmts p) told).0) at in
-          let alike = alike_others plain_run own_run told ran.alike h.others in
+          let same : whole_run ≡ told = whole_told ∙ ap (λ d. if d then told else (meaning_of linked_calls (check_stmts p) told).0) at in
+          let alike = others_alike plain_run own_run told ran.alike h.others in
           let frame = ap (λ l. frame_of (linked_parts f p linked_ports) l told) held.rest ∙ frame_with plain_run told (part false).tele q.rest alike h.stands.monitor in
           let all : Agrees false (part false) told =
           record {
-            kept = record { own = λ x i. alike.cells x i; rejects = ap (λ g. g rejects_register) h.others.cells ∙ (own_rejects ∙ ap (λ j. word 32 (j % 2 ^ 32) ∷ []) (sym (add-zero k))) };
+            kept = record { own = λ x i. alike.cells x i; rejects = ap (λ g. g rejects_register) h.others.cells ∙ (own_rejects ∙ ap (λ j. word 32 (j % 2 ^ 32) ∷ []) (sym (add-zero k))); tables = kept.tables };
             fit = h.stands.monitor.fits;
             going = goes_by false (part false).tele told undropped told_port (h.others.values egress_spec refl) frame;
             digests = same_digests plain_run told (part false).reports alike (ap (filter is_report) h.others.digests ∙ own_reports) h.stands.reports;
@@ -263,10 +248,10 @@ module _ (f : Parts) (own : IsForwarding f) (p : Property) (small : IsSmall p) (
       verdict = run_of (hop_for p.decls (reads true)) p.check (unflagged (telemetry_part p (reads true) t z))
 
       abbrev checked : Run
-      checked = (meaning_of no_calls (lowered_block p.check) (flagged told)).0
+      checked = (meaning_of linked_calls (lowered_block p.check) (flagged told)).0
 
-      checked_by : Lowered p.decls true (flagged told) (meaning_of no_calls (lowered_block p.check) (flagged told)) verdict
-      checked_by = check_runs p small linked_ports low (reads true) (flagged told) (unflagged (telemetry_part p (reads true) t z)) (flag_stands p small linked_ports low told (telemetry_part p (reads true) t z) (told_by true).stands)
+      checked_by : Lowered p.decls true (flagged told) (meaning_of linked_calls (lowered_block p.check) (flagged told)) verdict
+      checked_by = check_runs linked_calls p small linked_ports low (reads true) (flagged told) (unflagged (telemetry_part p (reads true) t z)) (flag_stands linked_calls p small linked_ports low told (telemetry_part p (reads true) t z) (told_by true).stands)
 
       checked_others : Others own_run checked
       checked_others = others_then own_run (flagged told) checked (others_then own_run told (flagged told) (told_by true).others (others_set told (rejected_name ∷ []) (word 1 0) refl)) checked_by.others
@@ -275,7 +260,7 @@ module _ (f : Parts) (own : IsForwarding f) (p : Property) (small : IsSmall p) (
       checked_rejects = ap (λ g. g rejects_register) checked_others.cells ∙ own_rejects
 
       checked_alike : Alike plain_run checked
-      checked_alike = alike_others plain_run own_run checked ran.alike checked_others
+      checked_alike = others_alike plain_run own_run checked ran.alike checked_others
 
       checked_digests : SameDigests plain_leaving.digests (map network_digest checked.digests) (part true).reports
       checked_digests =
@@ -286,9 +271,9 @@ module _ (f : Parts) (own : IsForwarding f) (p : Property) (small : IsSmall p) (
       whole_checked : is_in going.port linked_ports ≡ false → whole_run ≡ (if verdict.rejected then counted (closed checked) (k % 2 ^ 32) else closed checked)
       whole_checked at =
           whole_told
-          ∙ ap (λ d. if d then told else (meaning_of no_calls (check_stmts p) told).0) at
-          ∙ ap (λ (e : Ended). e.0) (then_runs no_calls (lowered_block p.check) end_stmts (flagged told) ∙ ap (λ g. after g checked (meaning_of no_calls end_stmts)) checked_by.goes)
-          ∙ end_runs p small linked_ports low checked (k % 2 ^ 32) verdict checked_by.stands checked_rejects
+          ∙ ap (λ d. if d then told else (meaning_of linked_calls (check_stmts p) told).0) at
+          ∙ ap (λ (e : Ended). e.0) (then_runs linked_calls (lowered_block p.check) end_stmts (flagged told) ∙ ap (λ g. after g checked (meaning_of linked_calls end_stmts)) checked_by.goes)
+          ∙ end_runs linked_calls p small linked_ports low checked (k % 2 ^ 32) verdict checked_by.stands checked_rejects
 
       closed_alike : Alike plain_run (closed checked)
       closed_alike =
@@ -304,7 +289,7 @@ module _ (f : Parts) (own : IsForwarding f) (p : Property) (small : IsSmall p) (
       passes =
           let frame = ap (λ l. frame_of (linked_parts f p linked_ports) l (closed checked)) held.rest ∙ frame_without plain_run (closed checked) q.rest closed_alike refl in
           record {
-            kept = record { own = λ x i. checked_alike.cells x i; rejects = checked_rejects ∙ ap (λ j. word 32 (j % 2 ^ 32) ∷ []) (sym (add-zero k)) };
+            kept = record { own = λ x i. checked_alike.cells x i; rejects = checked_rejects ∙ ap (λ j. word 32 (j % 2 ^ 32) ∷ []) (sym (add-zero k)); tables = kept.tables };
             fit = checked_by.stands.monitor.fits;
             going = goes_by true (part true).tele (closed checked) undropped (checked_others.values egress_port refl) (checked_others.values egress_spec refl) frame;
             digests = record { reports = checked_digests.reports; others = checked_digests.others };
@@ -318,6 +303,7 @@ module _ (f : Parts) (own : IsForwarding f) (p : Property) (small : IsSmall p) (
             kept = record {
               own = λ x i. ap (λ b. if b then raised (k % 2 ^ 32) ∷ [] else checked.cells x) (apart_names is_mine rejects_register x refl i) ∙ checked_alike.cells x i;
               rejects = ap (λ j. word 32 j ∷ []) more;
+              tables = kept.tables;
             };
             fit = checked_by.stands.monitor.fits;
             going = tt;
@@ -339,6 +325,6 @@ module _ (f : Parts) (own : IsForwarding f) (p : Property) (small : IsSmall p) (
     leave_by false e = goes_to e (at_edge net s going.port) (wired going.port)
 
     -- a leave of the linked program does what the forwarding program's does, and the exit part
-    pub leaves_agree : LeaveAgrees net (law_of p) (telemetry_of p.decls) KeptBy (HeldBy p.decls) (IsFitTele p.decls) s first c k z t (leaving_of (parts_leave f a q)) (leaving_of (parts_leave (linked_parts f p linked_ports) b q')) (leaving_of (parts_leave f a q)).going
+    pub leaves_agree : LeaveAgrees net (law_of p) (telemetry_of p.decls) KeptBy (HeldBy p.decls) (IsFitTele p.decls) s first c k z t (leaving_of a.tables (parts_leave f a.tables a.registers q)) (leaving_of b.tables (parts_leave (linked_parts f p linked_ports) b.tables b.registers q')) (leaving_of a.tables (parts_leave f a.tables a.registers q)).going
     unfolding parts_leave
     leaves_agree = leave_by (is_dropped plain_run.store) refl

@@ -1,5 +1,6 @@
 pub mod Apart
 pub mod Own
+pub mod OwnCalls
 pub mod Lower
 pub mod Bits
 pub mod Fill

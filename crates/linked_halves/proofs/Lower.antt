@@ -14,7 +14,7 @@ use Rattle.p4_meaning.specs.Store.{Store, read, shown, set_value, written, write
 use Rattle.p4_tree.specs.Operators.{operate}
 use Rattle.p4_meaning.specs.Value.{value_of, own_width}
 use Rattle.p4_tree.specs.declared.statement.Op.TheVariants as p4
-use Rattle.p4_meaning.specs.Statements.{no_calls, application, tested_by, Go, Run, Ended, after, in_store, meaning_of_stmt, meaning_of, meaning_of_else}
+use Rattle.p4_meaning.specs.Statements.{Calls, application, tested_by, Go, Run, Ended, after, in_store, meaning_of_stmt, meaning_of, meaning_of_else}
 use Rattle.indus_tree.specs.Tree as indus
 use Rattle.network_run.specs.PathMeaning.{Doing}
 use Rattle.indus_tree.specs.State.{Hop, Held, lookup, held_width, shape_width, put, put_cell, set_by_kind, set_cell}
@@ -79,12 +79,12 @@ no_application ds (indus.inversion p a) i = absurd i
 no_application ds (indus.cast p w a) i = absurd i
 
 -- what an `if` does, whose test applies a table or none
-abbrev meaning_of_if : Option (List ℕ × Bool) → Expr → Stmt → MaybeStmt → Run → Ended
-meaning_of_if t e x y r = (let i = tested_by no_calls t e r in after i.flow i.run (λ q. cond i.hit (meaning_of_stmt no_calls x q) (meaning_of_else no_calls y q)))
+abbrev meaning_of_if : Calls → Option (List ℕ × Bool) → Expr → Stmt → MaybeStmt → Run → Ended
+meaning_of_if calls t e x y r = (let i = tested_by calls t e r in after i.flow i.run (λ q. cond i.hit (meaning_of_stmt calls x q) (meaning_of_else calls y q)))
 
 -- what an assignment does, where the place's old word and the value are known
-pub assignment : (b : Run) (q : ℕ) (p : List (List ℕ)) (e : Expr) (u w : Word) → is_assignable p ≡ true → IsOpen (b.store.headers (parent p)) → b.store.values p ≡ u → value_of e u.width b.store ≡ w → meaning_of_stmt no_calls (assign q p e) b ≡ (in_store b (set_value b.store p (cast_word (sound_width u.width) w)), Go)
-assignment b q p e u w a o h k =
+pub assignment : (calls : Calls) (b : Run) (q : ℕ) (p : List (List ℕ)) (e : Expr) (u w : Word) → is_assignable p ≡ true → IsOpen (b.store.headers (parent p)) → b.store.values p ≡ u → value_of e u.width b.store ≡ w → meaning_of_stmt calls (assign q p e) b ≡ (in_store b (set_value b.store p (cast_word (sound_width u.width) w)), Go)
+assignment calls b q p e u w a o h k =
     ap (λ t. (in_store b (cond t (write b.store p (cast_word (sound_width (b.store.values p).width) (value_of e (b.store.values p).width b.store))) b.store), Go)) a
     ∙ ap (λ s. (in_store b s, Go)) (written_open (b.store.headers (parent p)) b.store p _ o)
     ∙ ap (λ (v : Word). (in_store b (set_value b.store p (cast_word (sound_width v.width) (value_of e v.width b.store))), Go)) h
@@ -266,9 +266,9 @@ module _ (ds : List indus.Decl) (checks : Bool) where
   low_if b true false e e' d d' q h k = absurd (cc)
   low_if b false true e e' d d' q h k = absurd (cc)
 
-module _ (h : Hop) (decls : All IsByteDecl h.decls) (checks : Bool) where
+module _ (calls : Calls) (h : Hop) (decls : All IsByteDecl h.decls) (checks : Bool) where
   -- an assignment to a variable
-  lowers_assign : (p : ℕ) (x : List ℕ) (e : indus.Expr) (b : Run) (d : Doing Held Held) → is_declared h.decls x ≡ true → IsSmallSum h.decls e → Stands h.decls checks b.store d → Lowered h.decls checks b (meaning_of_stmt no_calls (lowered_stmt (indus.assign p x e)) b) (stmt_run h [] (indus.assign p x e) d)
+  lowers_assign : (p : ℕ) (x : List ℕ) (e : indus.Expr) (b : Run) (d : Doing Held Held) → is_declared h.decls x ≡ true → IsSmallSum h.decls e → Stands h.decls checks b.store d → Lowered h.decls checks b (meaning_of_stmt calls (lowered_stmt (indus.assign p x e)) b) (stmt_run h [] (indus.assign p x e) d)
   lowers_assign p x e b d is i s =
       let cell = s.monitor.fits x is in
       let w = indus_value.value_of (seen_by h [] d) e 8 in
@@ -277,8 +277,8 @@ module _ (h : Hop) (decls : All IsByteDecl h.decls) (checks : Bool) where
       let c = in_store b (set_value b.store (tele_path x) (word 8 n)) in
       let d' : Doing Held Held = record d { tele = put d.tele x (word 8 n ∷ []) } in
       let old : b.store.values (tele_path x) ≡ word 8 (tele_word d.tele x).value = s.monitor.tele x is ∙ ap (λ ws. scalar ws 8) cell.one in
-      let low : meaning_of_stmt no_calls (assign 0 (tele_path x) (lowered e)) b ≡ (c, Go) =
-      assignment b 0 (tele_path x) (lowered e) (word 8 (tele_word d.tele x).value) w refl (open_by (b.store.headers tele_header) (Some true) s.monitor.valid tt) old (sum_same h decls b.store d.tele d.sensors s.monitor e i) in
+      let low : meaning_of_stmt calls (assign 0 (tele_path x) (lowered e)) b ≡ (c, Go) =
+      assignment calls b 0 (tele_path x) (lowered e) (word 8 (tele_word d.tele x).value) w refl (open_by (b.store.headers tele_header) (Some true) s.monitor.valid tt) old (sum_same h decls b.store d.tele d.sensors s.monitor e i) in
       let value : value_for h [] d x e ≡ word 8 n = ap (λ k. cast_word (sound_width k) (indus_value.value_of (seen_by h [] d) e k)) (held_is h.decls decls x is) in
       let own : set_cell (lookup h.decls x) x 0 (value_for h [] d x e) d ≡ d' =
       set_is h.decls decls x (value_for h [] d x e) d is ∙ ap (λ v. set_by_kind kind.Tele x 0 v d) value ∙ ap (λ ws. let r : Doing Held Held = record d { tele = put d.tele x (put_cell ws 0 (word 8 n)) } in r) cell.one in
@@ -286,30 +286,30 @@ module _ (h : Hop) (decls : All IsByteDecl h.decls) (checks : Bool) where
       subst (λ r. Lowered h.decls checks b r (set_cell (lookup h.decls x) x 0 (value_for h [] d x e) d)) (sym low) (subst (λ r. Lowered h.decls checks b (c, Go) r) (sym own) one)
 
   -- a rejection
-  lowers_reject : (p : ℕ) (b : Run) (d : Doing Held Held) → checks ≡ true → Stands h.decls checks b.store d → Lowered h.decls checks b (meaning_of_stmt no_calls (lowered_stmt (indus.reject p)) b) (record d { rejected = true })
+  lowers_reject : (p : ℕ) (b : Run) (d : Doing Held Held) → checks ≡ true → Stands h.decls checks b.store d → Lowered h.decls checks b (meaning_of_stmt calls (lowered_stmt (indus.reject p)) b) (record d { rejected = true })
   lowers_reject p b d is s =
       let c = in_store b (set_value b.store (rejected_name ∷ []) (bit true)) in
-      let low : meaning_of_stmt no_calls (assign 0 (rejected_name ∷ []) (flag 0 true)) b ≡ (c, Go) =
-      assignment b 0 (rejected_name ∷ []) (flag 0 true) (bit d.rejected) (bit true) refl (open_by (b.store.headers []) None s.monitor.plain tt) (s.rejected is) refl in
+      let low : meaning_of_stmt calls (assign 0 (rejected_name ∷ []) (flag 0 true)) b ≡ (c, Go) =
+      assignment calls b 0 (rejected_name ∷ []) (flag 0 true) (bit d.rejected) (bit true) refl (open_by (b.store.headers []) None s.monitor.plain tt) (s.rejected is) refl in
       let one : Lowered h.decls checks b (c, Go) (record d { rejected = true }) =
       record { stands = set_rejected h.decls checks checks b d true s; others = others_set b (rejected_name ∷ []) (bit true) refl; goes = refl } in
       subst (λ r. Lowered h.decls checks b r (record d { rejected = true })) (sym low) one
 
   mutual
     -- a statement
-    lowers_one : (o : indus.Stmt) (b : Run) (d : Doing Held Held) → IsSmallStmt h.decls checks o → Stands h.decls checks b.store d → Lowered h.decls checks b (meaning_of_stmt no_calls (lowered_stmt o) b) (stmt_run h [] o d)
+    lowers_one : (o : indus.Stmt) (b : Run) (d : Doing Held Held) → IsSmallStmt h.decls checks o → Stands h.decls checks b.store d → Lowered h.decls checks b (meaning_of_stmt calls (lowered_stmt o) b) (stmt_run h [] o d)
     lowers_one (indus.assign p x e) b d i s = lowers_assign p x e b d i.0 i.1 s
     lowers_one (indus.choice p e a c) b d i s =
         let test = value_of (lowered e) 1 b.store in
         let own_test = indus_value.value_of (seen_by h [] d) e 1 in
-        subst (λ t. Lowered h.decls checks b (meaning_of_if t (lowered e) (block 0 (lowered_block a)) (lowered_else c) b) (cond (holds own_test) (run_of h a d) (run_of h c d))) (sym (no_application h.decls e i.0))
-        (subst (λ c. Lowered h.decls checks b (cond (holds test) (meaning_of no_calls (lowered_block a) b) (meaning_of_else no_calls (lowered_else c) b)) (cond (holds own_test) (run_of h a d) (run_of h c d))) (sym i.2)
-        (low_if h.decls checks b (holds test) (holds own_test) (meaning_of no_calls (lowered_block a) b) (b, Go) (run_of h a d) d (ap holds (test_same h decls b.store d.tele d.sensors s.monitor e i.0)) (lowers a b d i.1 s) (low_same h.decls checks b d s)))
+        subst (λ t. Lowered h.decls checks b (meaning_of_if calls t (lowered e) (block 0 (lowered_block a)) (lowered_else c) b) (cond (holds own_test) (run_of h a d) (run_of h c d))) (sym (no_application h.decls e i.0))
+        (subst (λ c. Lowered h.decls checks b (cond (holds test) (meaning_of calls (lowered_block a) b) (meaning_of_else calls (lowered_else c) b)) (cond (holds own_test) (run_of h a d) (run_of h c d))) (sym i.2)
+        (low_if h.decls checks b (holds test) (holds own_test) (meaning_of calls (lowered_block a) b) (b, Go) (run_of h a d) d (ap holds (test_same h decls b.store d.tele d.sensors s.monitor e i.0)) (lowers a b d i.1 s) (low_same h.decls checks b d s)))
     lowers_one (indus.reject p) b d i s = lowers_reject p b d i s
     lowers_one _ b d i s = absurd i
 
     -- a block
-    pub lowers : (ss : indus.Stmts) (b : Run) (d : Doing Held Held) → IsSmallBlock h.decls checks ss → Stands h.decls checks b.store d → Lowered h.decls checks b (meaning_of no_calls (lowered_block ss) b) (run_of h ss d)
+    pub lowers : (ss : indus.Stmts) (b : Run) (d : Doing Held Held) → IsSmallBlock h.decls checks ss → Stands h.decls checks b.store d → Lowered h.decls checks b (meaning_of calls (lowered_block ss) b) (run_of h ss d)
     lowers indus.done b d i s = low_same h.decls checks b d s
     lowers (indus.next o ss) b d i s =
-        low_after h.decls checks b (meaning_of_stmt no_calls (lowered_stmt o) b) (meaning_of no_calls (lowered_block ss)) (stmt_run h [] o d) (run_of h ss (stmt_run h [] o d)) (lowers_one o b d i.0 s) (λ q t. lowers ss q (stmt_run h [] o d) i.1 t)
+        low_after h.decls checks b (meaning_of_stmt calls (lowered_stmt o) b) (meaning_of calls (lowered_block ss)) (stmt_run h [] o d) (run_of h ss (stmt_run h [] o d)) (lowers_one o b d i.0 s) (λ q t. lowers ss q (stmt_run h [] o d) i.1 t)

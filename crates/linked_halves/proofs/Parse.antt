@@ -5,7 +5,6 @@ use Rattle.std.specs.Prelude.{nat_eq, nat_lt, bit_and}
 use Rattle.std.specs.List.{AllByRecursion}
 use Rattle.bit_values.specs.Bits.{Word, word, cast as cast_number}
 use Rattle.bit_values.specs.BitLists.{number_bits, number_of}
-use Rattle.bit_values.specs.Widths.{sound_width, cast_word}
 use Rattle.lex_text.specs.Names.{same_text, same_path}
 use Rattle.p4_tree.specs.Tree.{Expr, path, Arg, one, Stmt, assign, call, Keyset, any, only, masked, Case, Transition, nowhere, to, select, ParserState}
 use Rattle.p4_meaning.specs.Store.{Store}

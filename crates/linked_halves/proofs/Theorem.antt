@@ -5,7 +5,7 @@ use Rattle.std.specs.Prelude.{if◌then◌else◌, is_none, is_some, nat_eq, All
 use Rattle.std.proofs.lemmas.List.Elements.{All-head, All-tail, All-cons, All-nil}
 use Rattle.bit_values.specs.Bits.{Word}
 use Rattle.p4_meaning.specs.Parts.{Cells}
-use Rattle.p4_meaning.specs.Pass.{Registers, parts_enter, zero_cells, start_cells}
+use Rattle.p4_meaning.specs.Pass.{Kept, parts_enter, zero_cells, start_cells}
 use Rattle.indus_tree.specs.State.{Contents, Held}
 use Rattle.indus_tree.specs.Start.{tele_start}
 use Rattle.indus_tree.specs.Law.{law_of}
@@ -66,7 +66,7 @@ cells_own : (rs : List Cells) (x : List ℕ) → is_mine x ≡ false → start_c
 cells_own rs x o = ap (λ b. cond b (zero_cells 32 1) (start_cells rs x)) (apart_names is_mine rejects_register x refl o)
 
 -- the registers of the forwarding program hold the same
-same_cells : (rs : List Cells) (a b : Registers) → AllByRecursion (λ c. is_mine c.name ≡ false) rs → ((x : List ℕ) → is_mine x ≡ false → b x ≡ a x) → All (λ x. cells_of b x ≡ cells_of a x) (map (λ c. c.name) rs)
+same_cells : (rs : List Cells) (a b : Kept) → AllByRecursion (λ c. is_mine c.name ≡ false) rs → ((x : List ℕ) → is_mine x ≡ false → b.registers x ≡ a.registers x) → All (λ x. cells_of b x ≡ cells_of a x) (map (λ c. c.name) rs)
 same_cells [] a b h same = All-nil (λ x. cells_of b x ≡ cells_of a x)
 same_cells (r ∷ rs) a b h same =
     All-cons (λ x. cells_of b x ≡ cells_of a x) r.name (map (λ c. c.name) rs) (ap (map (λ (w : Word). w.value)) (same r.name h.0)) (same_cells rs a b h.1 same)
@@ -78,18 +78,18 @@ module _ (g : Given) (is : IsGiven g) where
   wired : (s port : ℕ) → is_in port (ports_at g.network.links s) ≡ not (at_edge g.network s port)
   wired s port = listed g.network.links s port ∙ none_is (far_end_among g.network.links s port)
 
-  abbrev Enters : ℕ → ℕ → ℕ → Registers → Registers → (ℕ → Contents) → (tele sensors : Held) → List ℕ → Bool → Type 0
+  abbrev Enters : ℕ → ℕ → ℕ → Kept → Kept → (ℕ → Contents) → (tele sensors : Held) → List ℕ → Bool → Type 0
   Enters s port k a b c t z frame e =
       EnterAgrees g.network (law_of g.property) (telemetry_of g.property.decls) KeptBy (HeldBy g.property.decls) (IsFitTele g.property.decls) s e c k
       (entry_part (law_of g.property) (reads_at s e false [] c) t z)
-      (entered_of (parts_enter g.forwarding a port frame))
-      (entered_of (parts_enter (linked_parts g.forwarding g.property (ports_at g.network.links s)) b port (carried (telemetry_of g.property.decls) e t frame)))
+      (entered_of a.tables (parts_enter g.forwarding a.tables a.registers port frame))
+      (entered_of b.tables (parts_enter (linked_parts g.forwarding g.property (ports_at g.network.links s)) b.tables b.registers port (carried (telemetry_of g.property.decls) e t frame)))
 
-  enters : (s port k : ℕ) (a b : Registers) (c : ℕ → Contents) (t z : Held) (frame : List ℕ) (e : Bool) → at_edge g.network s port ≡ e → port < 512 → KeptBy s a z c k b → IsFitTele g.property.decls t → (e ≡ true → t ≡ tele_start g.property.decls) → Enters s port k a b c t z frame e
+  enters : (s port k : ℕ) (a b : Kept) (c : ℕ → Contents) (t z : Held) (frame : List ℕ) (e : Bool) → at_edge g.network s port ≡ e → port < 512 → KeptBy s a z c k b → IsFitTele g.property.decls t → (e ≡ true → t ≡ tele_start g.property.decls) → Enters s port k a b c t z frame e
   enters s port k a b c t z frame true e lt kept fits start =
-      enter_edge g.forwarding is.forwarding g.property is.property (ports_at g.network.links s) (low s) g.network s port k a b c t z frame (reads_at s true false [] c) kept lt (wired s port ∙ ap not e) (start refl) refl
+      enter_edge g.forwarding is.forwarding g.property is.property (ports_at g.network.links s) (low s) g.network a b kept.tables s port k c t z frame (reads_at s true false [] c) kept lt (wired s port ∙ ap not e) (start refl) refl
   enters s port k a b c t z frame false e lt kept fits start =
-      enter_link g.forwarding is.forwarding g.property is.property (ports_at g.network.links s) (low s) g.network s port k a b c t z frame (reads_at s false false [] c) kept lt (wired s port ∙ ap not e) fits refl
+      enter_link g.forwarding is.forwarding g.property is.property (ports_at g.network.links s) (low s) g.network a b kept.tables s port k c t z frame (reads_at s false false [] c) kept lt (wired s port ∙ ap not e) fits refl
 
   pub laws : KeepsHalves g
   laws =
@@ -98,7 +98,7 @@ module _ (g : Given) (is : IsGiven g) where
         leaves = λ s k first a b z c t q q' known kept held.
             leaves_agree g.forwarding is.forwarding g.property is.property (ports_at g.network.links s) (low s) g.network s k first c (wired s) a b t z q q' kept held;
         sets = λ s v k a b z c x known kept named fit. absurd named;
-        starts = λ s e c known fit fits. record { own = λ x o. cells_own g.forwarding.registers x o; rejects = refl };
+        starts = λ s e c known fit fits. record { own = λ x o. cells_own g.forwarding.registers x o; rejects = refl; tables = λ x o. refl };
         forwards = λ s k a b z c known kept. same_cells g.forwarding.registers a b is.forwarding.registers kept.own;
         monitors = λ s k a b z c known kept. record { sensors = All-nil _; rejects = ap (map (λ (w : Word). w.value)) kept.rejects };
         start_fits = start_fits g.property.decls is.property.decls;

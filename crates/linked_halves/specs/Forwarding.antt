@@ -1,10 +1,12 @@
 -- Which forwarding programs are linked: they use no name of the monitor's, do not read the packet's length, write of
 -- the standard metadata at most `egress_spec` and `checksum_error`, and tell no reports. `return` and `exit` are taken
--- out of them before. Read `Regions` before.
+-- out of them before, of actions too. Read `Regions` before.
 use Rattle.std.specs.Prelude.{◌≡◌, ℕ, List, [], ◌∷◌, Bool, true, false, Option, Some, None, nat_eq}
 use Rattle.std.specs.List.{AllByRecursion}
 use Rattle.p4_tree.specs.Tree.{Expr, num, flag, path, valid, applied, error_name, negation, inversion, opposite, binary, conditional, slice, cast, Arg, one, Stmt, Stmts, MaybeStmt, nothing, block, var, assign, choice, return_, exit_, call, done, next, without, otherwise, Keyset, any, only, masked, Case, Transition, nowhere, to, select, ParserState}
 use Rattle.p4_meaning.specs.Statements.{Act, makes, drops, reads, writes, tells, sums, runs, applies, idle, act_of, application}
+use Rattle.p4_meaning.specs.Actions.{Action}
+use Rattle.p4_meaning.specs.Tables.{Table}
 use Rattle.p4_meaning.specs.Parts.{Parts, Body}
 use Rattle.linkage.specs.Linkage.{report_receiver}
 use Rattle.linked_halves.specs.Regions.{is_mine, is_free, is_readable, is_writable, is_own_header}
@@ -104,11 +106,24 @@ pub record IsOwnBody (b : Body) : Type 0 where
   pub locals : AreOwnStmts b.locals
   pub body : AreOwnStmts b.body
 
+-- an action has own names, and its body is own. Whatever it calls or applies does nothing
+pub record IsOwnAction (a : Action) : Type 0 where
+  pub name : is_mine a.name ≡ false
+  pub params : AllByRecursion (λ p. is_mine p.name ≡ false) a.params
+  pub body : AreOwnStmts a.body
+
+-- a table has an own name, and its keys read own paths. It may hold anything
+pub record IsOwnTable (t : Table) : Type 0 where
+  pub name : is_mine t.name ≡ false
+  pub keys : AllByRecursion (λ k. IsOwnExpr k.value) t.keys
+
 pub record IsForwarding (f : Parts) : Type 0 where
   pub registers : AllByRecursion (λ c. is_mine c.name ≡ false) f.registers
   pub headers : AllByRecursion (λ h. is_own_header h.path ≡ true) f.headers
   pub metadata : AllByRecursion (λ m. is_mine m.name ≡ false) f.metadata
   pub states : AllByRecursion IsOwnState f.states
+  pub actions : AllByRecursion IsOwnAction f.actions
+  pub tables : AllByRecursion IsOwnTable f.tables
   pub verify : AreOwnStmts f.verify
   pub ingress : IsOwnBody f.ingress
   pub egress : IsOwnBody f.egress

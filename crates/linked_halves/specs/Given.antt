@@ -1,7 +1,8 @@
 -- What is linked, and what is said of it: the laws of the two halves, and linkage.
 use Rattle.std.specs.Prelude.{ℕ, ◌≤◌}
 use Rattle.p4_meaning.specs.Parts.{Parts}
-use Rattle.p4_meaning.specs.Pass.{Registers, Queued}
+use Rattle.p4_meaning.specs.Tables.{Tables}
+use Rattle.p4_meaning.specs.Pass.{Kept, Queued}
 use Rattle.indus_tree.specs.Tree.{Property}
 use Rattle.indus_tree.specs.State.{Contents}
 use Rattle.indus_tree.specs.Law.{law_of}
@@ -31,15 +32,15 @@ pub record IsGiven (g : Given) : Type 0 where
   pub ports : g.network.ports ≤ 512
 
 -- the same program at each switch
-abbrev pub forwarding_machine : Given → Machine (Unit {0}) Registers Queued Contents
+abbrev pub forwarding_machine : Given → Machine Tables Kept Queued Contents
 forwarding_machine g = machine_of (λ s. g.forwarding)
 
 -- the linked program of each switch
-abbrev pub linked_machine : Given → Machine (Unit {0}) Registers Queued Contents
+abbrev pub linked_machine : Given → Machine Tables Kept Queued Contents
 linked_machine g = machine_of (λ s. linked_parts g.forwarding g.property (ports_at g.network.links s))
 
--- there are no entries, and no control variables
-abbrev pub AnyEntries : (switch : ℕ) → Unit {0} → Type 0
+-- a switch's tables may hold any entries and defaults at the start, and there are no control variables
+abbrev pub AnyEntries : (switch : ℕ) → Tables → Type 0
 AnyEntries s e = Unit {0}
 
 abbrev pub NoVariable : ℕ → Type 0

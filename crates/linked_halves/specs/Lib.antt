@@ -8,4 +8,5 @@ pub mod Telemetry
 pub mod Networks
 -- The relations in which the laws of the halves are stated.
 pub mod Relations
+pub mod OwnCode
 pub mod Given

@@ -50,6 +50,8 @@ linked_parts f p linked_ports =
       headers = telemetry p.decls ∷ f.headers;
       metadata = f.metadata;
       states = linked_states linked_ports f.states;
+      actions = f.actions;
+      tables = f.tables;
       verify = f.verify;
       ingress = record f.ingress { body = next (entry_stmt p linked_ports) f.ingress.body };
       egress = record f.egress { body = and_then f.egress.body (next (exit_stmt p linked_ports) done) };

@@ -5,7 +5,7 @@ use Rattle.bit_values.specs.Bits.{Word, word}
 use Rattle.p4_meaning.specs.Standard.{standard_root, egress_spec, egress_port}
 use Rattle.p4_meaning.specs.Store.{Store}
 use Rattle.p4_meaning.specs.Statements.{Digest, Run}
-use Rattle.p4_meaning.specs.Pass.{Registers, Queued}
+use Rattle.p4_meaning.specs.Pass.{Kept, Queued}
 use Rattle.indus_tree.specs.Tree.{Decl}
 use Rattle.indus_tree.specs.Names.{is_declared}
 use Rattle.linkage.specs.Linkage.{report_receiver}
@@ -58,10 +58,11 @@ pub record Monitor (ds : List Decl) (s : Store) (t : Held) : Type 0 where
   pub tele : (x : List ℕ) → is_declared ds x ≡ true → s.values (tele_path x) ≡ tele_word t x
   pub fits : IsFitTele ds t
 
--- what a switch keeps in the linked network: its own registers, and the number of rejected packets
-pub record KeptBy (s : ℕ) (a : Registers) (z : Held) (c : ℕ → Contents) (k : ℕ) (b : Registers) : Type 0 where
-  pub own : (x : List ℕ) → is_mine x ≡ false → b x ≡ a x
-  pub rejects : b rejects_register ≡ word 32 (k % 2 ^ 32) ∷ []
+-- what a switch keeps in the linked network: its own registers, the number of rejected packets, and what own tables hold
+pub record KeptBy (s : ℕ) (a : Kept) (z : Held) (c : ℕ → Contents) (k : ℕ) (b : Kept) : Type 0 where
+  pub own : (x : List ℕ) → is_mine x ≡ false → b.registers x ≡ a.registers x
+  pub rejects : b.registers rejects_register ≡ word 32 (k % 2 ^ 32) ∷ []
+  pub tables : (x : List ℕ) → is_mine x ≡ false → b.tables x ≡ a.tables x
 
 -- a queued packet of the linked network: the own headers, metadata and remaining bytes, and the telemetry
 pub record HeldBy (ds : List Decl) (s : ℕ) (first : Bool) (q : Queued) (t : Held) (q' : Queued) : Type 0 where

@@ -1,5 +1,5 @@
 -- The values of the variables that travel with a packet, as words and as bytes.
-use Rattle.std.specs.Prelude.{◌≡◌, ℕ, suc, ◌<◌, List, [], ◌∷◌, ◌++◌, length, map, true}
+use Rattle.std.specs.Prelude.{◌≡◌, ℕ, suc, ◌<◌, List, [], ◌∷◌, length, map, true}
 use Rattle.bit_values.specs.Bits.{Word, word}
 use Rattle.bit_writer.specs.Bytes.{words_bits, bytes_of}
 use Rattle.indus_tree.specs.Tree.{Decl}

@@ -2,3 +2,5 @@
 pub mod Networks
 pub mod Linking
 pub mod LinkingLaws
+-- A P4 program with an action and a table.
+pub mod Routing

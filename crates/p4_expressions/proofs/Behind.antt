@@ -10,7 +10,7 @@ use Rattle.p4_tree.specs.declared.statement.Op.{Op}
 use Rattle.p4_spelling.specs.Operators.{op_at}
 use Rattle.p4_expressions.specs.Reading.{op_in, square_at}
 
--- no slice, no call and no further name of a path stands there
+-- what stands there begins no slice, no call and no further name of a path
 pub record Calm (o : Option Lexeme) : Type 0 where
   pub square : at_key SquareOpen o ≡ false
   pub round : at_key Open o ≡ false
@@ -24,28 +24,36 @@ NoJoin l o = (m : ℕ) → m < l → op_in (m + 1) (key_in o) ≡ None
 pub record Ends (l : ℕ) (o : Option Lexeme) : Type 0 where
   pub joins : NoJoin l o
   pub question : 11 ≤ l → at_key Question o ≡ false
-  pub calm : Calm o
+  pub square : at_key SquareOpen o ≡ false
 
 -- what stands there is not joined on a level below l, and not by `? :`
 pub record Free (l : ℕ) (o : Option Lexeme) : Type 0 where
   pub joins : (m : ℕ) → m + 1 < l → op_in (m + 1) (key_in o) ≡ None
   pub question : 11 ≤ l → at_key Question o ≡ false
-  pub calm : Calm o
+  pub square : at_key SquareOpen o ≡ false
 
 pub ends_free : (l : ℕ) (o : Option Lexeme) → Ends l o → Free l o
-ends_free l o e = record { joins = λ m lt. e.joins m (omega arith); question = e.question; calm = e.calm }
+ends_free l o e = record { joins = λ m lt. e.joins m (omega arith); question = e.question; square = e.square }
 
 -- on a level below
 pub free_below : (l : ℕ) (o : Option Lexeme) → Free (suc l) o → Ends l o
-free_below l o f = record { joins = λ m lt. f.joins m (omega arith); question = λ le. f.question (omega arith); calm = f.calm }
+free_below l o f = record { joins = λ m lt. f.joins m (omega arith); question = λ le. f.question (omega arith); square = f.square }
 
 -- nothing stands there
 pub nothing_ends : (l : ℕ) → Ends l None
-nothing_ends l = record { joins = λ m lt. refl; question = λ le. refl; calm = record { square = refl; round = refl; dot = refl } }
+nothing_ends l = record { joins = λ m lt. refl; question = λ le. refl; square = refl }
 
 -- a key that joins nothing
-pub key_ends : (l : ℕ) (k : Key) → op_at k ≡ None → at_key Question (Some (key k)) ≡ false → Calm (Some (key k)) → Ends l (Some (key k))
-key_ends l k e q calm = record { joins = λ m lt. rw e refl; question = λ le. q; calm = calm }
+pub key_ends : (l : ℕ) (k : Key) → op_at k ≡ None → at_key Question (Some (key k)) ≡ false → at_key SquareOpen (Some (key k)) ≡ false → Ends l (Some (key k))
+key_ends l k e q square = record { joins = λ m lt. rw e refl; question = λ le. q; square = square }
+
+-- the key goes on with no expression
+pub record Closes (k : Key) : Type 0 where
+  pub joins : op_at k ≡ None
+  pub question : at_key Question (Some (key k)) ≡ false
+  pub square : at_key SquareOpen (Some (key k)) ≡ false
+  pub dot : at_key Dot (Some (key k)) ≡ false
+  pub round : at_key Open (Some (key k)) ≡ false
 
 pub ends_at : (l : ℕ) (o : Option Lexeme) (k : Key) → o ≡ Some (key k) → Ends l (Some (key k)) → Ends l o
 ends_at l o k e f = subst (Ends l) (sym e) f
@@ -82,7 +90,7 @@ pub op_free : (l : ℕ) (k : Key) (op : Op) → op_at k ≡ Some (suc l, op) →
 op_free l k op e = record {
   joins = λ m lt. let f : (suc l == m + 1) ≡ false = ne_eqb (suc l) (m + 1) (λ y. omega (arith, y)) in rw (e, f) refl;
   question = λ le. op-no_question k _ e;
-  calm = op-calm k _ e;
+  square = (op-calm k _ e).square;
 }
 
 -- what joins is no round bracket

@@ -5,7 +5,7 @@ use Rattle.std.proofs.lemmas.Bool.{eq-eqb, eqb-true}
 use Rattle.std.specs.Prelude.{slice_get, ◌==◌}
 use Rattle.lex_text.specs.declared.literal.Literal.{Literal}
 use Rattle.lex_words.specs.declared.key.Key.{Key}
-use Rattle.lex_words.specs.declared.key.Key.TheVariants.{Question, Colon, Dot, Open, Close, SquareOpen, Times}
+use Rattle.lex_words.specs.declared.key.Key.TheVariants.{Question, Colon, Dot, Close, SquareOpen, Times}
 use Rattle.lex_words.specs.Seen.{Lexeme, name, key, key_in, at_key}
 use Rattle.lex_words.specs.Brackets.{left, left_by}
 use Rattle.lex_words.specs.Reading.{Read, ◌>>=◌}
@@ -20,7 +20,8 @@ use Rattle.p4_spelling.specs.Expressions.{SpellsPostfix, a_number, a_true, a_fal
 use Rattle.p4_expressions.specs.Reading.{Reader, op_in, is_scalar, slices_at, right_at, chain, behind_at, conditional_at, expr_at, inside_of, below_of}
 use Rattle.p4_expressions.proofs.Layers.{below_is, expr_zero, expr_suc, inside_suc}
 use Rattle.p4_expressions.proofs.Turns.{chain_ends, chain_goes_on, slices_end, slices_go_on, expr_tall}
-use Rattle.p4_expressions.proofs.Behind.{Ends, Free, ends_free, free_below, key_ends, ends_at, free_at, op-low, op_free, op-plain}
+use Rattle.p4_expressions.proofs.Behind.{Ends, Free, ends_free, free_below, key_ends, ends_at, free_at, op-low, op-calm, op_free, op-plain, Closes}
+use Rattle.p4_expressions.proofs.Tails.{operand_path, last_path, Quiet, quiet_key}
 use Rattle.p4_expressions.proofs.Balanced.{scalar_left, path_left, valid_end, slice_end, balanced, balanced_postfix}
 use Rattle.p4_expressions.proofs.CompleteSteps.{goes_on, path_first, path_read, validity_read, application_read, number_leaf, true_leaf, false_leaf, error_leaf, path_leaf, bounds_read, Operand, leaf_read, negation_read, inversion_read, opposite_read, cast_read, brackets_read, conditional_ends, conditional_read}
 
@@ -56,7 +57,7 @@ top_none (Some Times) = refl
 top_none (Some _) = refl
 
 top_ends : (o : Option Lexeme) → Free top o → Ends top o
-top_ends o f = record { joins = λ m lt. by m lt (m == 10) refl; question = f.question; calm = f.calm }
+top_ends o f = record { joins = λ m lt. by m lt (m == 10) refl; question = f.question; square = f.square }
   where
     by : (m : ℕ) → m < 11 → (t : Bool) → (m == 10) ≡ t → op_in (m + 1) (key_in o) ≡ None
     by m lt true e = let z : m ≡ 10 = eqb-true m 10 e in ap (λ x. op_in (x + 1) (key_in o)) z ∙ top_none (key_in o)
@@ -140,33 +141,33 @@ module _ (ws : List Lexeme) (n : ℕ) where
   zero_is h b p q t e = expr_zero ws n h b 0 p refl ∙ e
 
   close_ends : (o : Option Lexeme) → o ≡ Some (key Close) → Ends top o
-  close_ends o w = ends_at top o Close w (key_ends top Close refl refl (record { square = refl; round = refl; dot = refl }))
+  close_ends o w = ends_at top o Close w (key_ends top Close refl refl refl)
 
   colon_ends : (o : Option Lexeme) → o ≡ Some (key Colon) → Ends top o
-  colon_ends o w = ends_at top o Colon w (key_ends top Colon refl refl (record { square = refl; round = refl; dot = refl }))
+  colon_ends o w = ends_at top o Colon w (key_ends top Colon refl refl refl)
 
   question_ends : (o : Option Lexeme) → o ≡ Some (key Question) → Ends 10 o
-  question_ends o w = ends_at 10 o Question w (record { joins = λ m lt. refl; question = λ le. absurd (omega (arith, le)); calm = record { square = refl; round = refl; dot = refl } })
+  question_ends o w = ends_at 10 o Question w (record { joins = λ m lt. refl; question = λ le. absurd (omega (arith, le)); square = refl })
 
   -- ---- by recursion on the spelling
 
   mutual
-    complete_postfix : {p : ℕ} {t : Expr} {u : List Lexeme} → SpellsPostfix p t u → (h b q : ℕ) → Stands ws p u q → expr_height t ≤ h → left b u ≡ Some b → length u < n
-        → at_key Open (slice_get ws q) ≡ false → at_key Dot (slice_get ws q) ≡ false → DonePostfix h b p t u q
-    complete_postfix {p = p} (a_number v) h b q st low lv lt round dot = (n, omega arith, leaf_done h b p (p + 1) q (num p v) (leaf_read ws n h b p _ _ _ _ (p + 1) st.0 refl refl refl refl (number_leaf ws n h b p v st.0 low)) st.1)
-    complete_postfix {p = p} a_true h b q st low lv lt round dot = (n, omega arith, leaf_done h b p (p + 1) q (flag p true) (leaf_read ws n h b p _ _ _ _ (p + 1) st.0 refl refl refl refl (true_leaf ws n h b p st.0 low)) st.1)
-    complete_postfix {p = p} a_false h b q st low lv lt round dot = (n, omega arith, leaf_done h b p (p + 1) q (flag p false) (leaf_read ws n h b p _ _ _ _ (p + 1) st.0 refl refl refl refl (false_leaf ws n h b p st.0 low)) st.1)
-    complete_postfix {p = p} (an_error x) h b q st low lv lt round dot =
+    complete_postfix : {p : ℕ} {t : Expr} {u : List Lexeme} (s : SpellsPostfix p t u) (h b q : ℕ) → Stands ws p u q → expr_height t ≤ h → left b u ≡ Some b → length u < n
+        → Quiet (operand_path s) (slice_get ws q) → DonePostfix h b p t u q
+    complete_postfix {p = p} (a_number v) h b q st low lv lt quiet = (n, omega arith, leaf_done h b p (p + 1) q (num p v) (leaf_read ws n h b p _ _ _ _ (p + 1) st.0 refl refl refl refl (number_leaf ws n h b p v st.0 low)) st.1)
+    complete_postfix {p = p} a_true h b q st low lv lt quiet = (n, omega arith, leaf_done h b p (p + 1) q (flag p true) (leaf_read ws n h b p _ _ _ _ (p + 1) st.0 refl refl refl refl (true_leaf ws n h b p st.0 low)) st.1)
+    complete_postfix {p = p} a_false h b q st low lv lt quiet = (n, omega arith, leaf_done h b p (p + 1) q (flag p false) (leaf_read ws n h b p _ _ _ _ (p + 1) st.0 refl refl refl refl (false_leaf ws n h b p st.0 low)) st.1)
+    complete_postfix {p = p} (an_error x) h b q st low lv lt quiet =
         (n, omega arith, leaf_done h b p (p + 1 + 1 + 1) q (error_name p x) (leaf_read ws n h b p _ _ _ _ (p + 1 + 1 + 1) st.0 refl refl refl refl (error_leaf ws n h b p x st.0 st.1.0 st.1.1.0 low)) st.1.1.1)
-    complete_postfix {p = p} (a_path {xs = xs} s) h b q st low lv lt round dot =
+    complete_postfix {p = p} (a_path {xs = xs} s) h b q st low lv lt quiet =
         let f = path_first ws n s p q st in
-        (n, omega arith, leaf_done h b p q q (path p xs) (leaf_read ws n h b p _ _ (name f.0) _ q f.1 refl refl refl refl (path_leaf ws n h b p f.0 f.1 low ∙ path_read ws n b p s q st dot round (omega (arith, lt)))) refl)
-    complete_postfix {p = p} (a_validity {xs = xs} {u = u} s) h zero q st low lv lt round dot =
+        (n, omega arith, leaf_done h b p q q (path p xs) (leaf_read ws n h b p _ _ (name f.0) _ q f.1 refl refl refl refl (path_leaf ws n h b p f.0 f.1 low ∙ path_read ws n b p s q st quiet.0 quiet.1 (omega (arith, lt)))) refl)
+    complete_postfix {p = p} (a_validity {xs = xs} {u = u} s) h zero q st low lv lt quiet =
         let ls = left-split 0 0 u valid_end lv in
         let e = path_left s 0 in
         let z : ls.0 ≡ 0 = (let y = ls.1 in cc) in
         absurd (let x : None ≡ Some 0 = subst (λ c. left c valid_end ≡ Some 0) z ls.2 in cc)
-    complete_postfix {p = p} (a_validity {xs = xs} {u = u} s) h (suc b) q st low lv lt round dot =
+    complete_postfix {p = p} (a_validity {xs = xs} {u = u} s) h (suc b) q st low lv lt quiet =
         let sp = Stands-split ws p q u valid_end st in
         let m = p + length u in
         let f = path_first ws n s p m sp.0 in
@@ -180,8 +181,8 @@ module _ (ws : List Lexeme) (n : ℕ) where
               (path_leaf ws n h (suc b) p f.0 f.1 low ∙ validity_read ws n (suc b) p s (m + 1 + 1) front sp.1.1.1.0 sp.1.1.1.1.0 (omega arith) (omega (arith, lt, len, len'))))
               sp.1.1.1.1.1,
         )
-    complete_postfix {p = p} (an_application t hit) h zero q st low lv lt round dot = absurd (let x : None ≡ Some 0 = lv in cc)
-    complete_postfix {p = p} (an_application t hit) h (suc b) q st low lv lt round dot = (
+    complete_postfix {p = p} (an_application t hit) h zero q st low lv lt quiet = absurd (let x : None ≡ Some 0 = lv in cc)
+    complete_postfix {p = p} (an_application t hit) h (suc b) q st low lv lt quiet = (
       n,
       omega arith,
       leaf_done h (suc b) p (p + 1 + 1 + 1 + 1 + 1 + 1 + 1) q (applied p t hit)
@@ -190,8 +191,8 @@ module _ (ws : List Lexeme) (n : ℕ) where
           ∙ application_read ws n (suc b) p t hit st.0 st.1.0 st.1.1.0 st.1.1.1.0 st.1.1.1.1.0 st.1.1.1.1.1.0 st.1.1.1.1.1.1.0 (omega arith) (omega (arith, lt))))
           st.1.1.1.1.1.1.1,
     )
-    complete_postfix (in_brackets s) h zero q st low lv lt round dot = absurd (let x : None ≡ Some 0 = lv in cc)
-    complete_postfix {p = p} (in_brackets {a = a} {u = u} s) h (suc b) q st low lv lt round dot =
+    complete_postfix (in_brackets s) h zero q st low lv lt quiet = absurd (let x : None ≡ Some 0 = lv in cc)
+    complete_postfix {p = p} (in_brackets {a = a} {u = u} s) h (suc b) q st low lv lt quiet =
         let m = p + 1 + length u in
         let sp = Stands-split ws (p + 1) q u (key Close ∷ []) st.1 in
         let close = sp.1.0 in
@@ -200,10 +201,10 @@ module _ (ws : List Lexeme) (n : ℕ) where
         let lu : left b u ≡ Some b = let x = ls.1 in cc in
         let len = length-append u (key Close ∷ []) in
         let ends = close_ends (slice_get ws m) close in
-        let d = complete s h b m sp.0 low lu (omega (arith, lt, len)) (ends_free top _ ends) in
+        let d = complete s h b m sp.0 low lu (omega (arith, lt, len)) (ends_free top _ ends) (quiet_key (last_path s) _ Close close refl refl) in
         let e = inside_read h b top (p + 1) (a, m) (is_read h b top (p + 1) a u m (omega (arith, lt, len)) ends d) in
         (n, omega arith, leaf_done h (suc b) p (m + 1) q a (brackets_read ws n h (suc b) p _ _ a m st.0 (no_type s ws (p + 1) m sp.0) e close (omega (arith, low, expr_tall a)) (omega arith)) sp.1.1)
-    complete_postfix {p = p} (a_slice {a = a} {u = u} high low hi lo s) h b q st tall lv lt round dot =
+    complete_postfix {p = p} (a_slice {a = a} {u = u} high low hi lo s) h b q st tall lv lt quiet =
         let m = p + length u in
         let sp = Stands-split ws p q u (slice_end high low) st in
         let at = sp.1.0 in
@@ -211,28 +212,28 @@ module _ (ws : List Lexeme) (n : ℕ) where
         let same = balanced_postfix s b ls.0 ls.1 in
         let lu : left b u ≡ Some b = let x = ls.1 in cc in
         let len = length-append u (slice_end high low) in
-        let d = complete_postfix s h b m sp.0 (omega (arith, tall)) lu (omega (arith, lt, len)) (rw at refl) (rw at refl) in
+        let d = complete_postfix s h b m sp.0 (omega (arith, tall)) lu (omega (arith, lt, len)) (quiet_key (operand_path s) _ SquareOpen at refl refl) in
         let turns : 0 < d.0 = omega (arith, d.1, lt, len) in
         (d.0 - 1, omega (arith, d.1, turns, len), d.2 ∙ slice_read h b p d.0 m q a high low turns hi lo sp.1 (omega (arith, tall)))
 
-    complete : {l p : ℕ} {t : Expr} {u : List Lexeme} → Spells l p t u → (h b q : ℕ) → Stands ws p u q → expr_height t ≤ h → left b u ≡ Some b → length u < n → Free l (slice_get ws q) → Done h b l p t u q
-    complete {p = p} (a_postfix {a = a} {u = u} s) h b q st low lv lt free =
-        let d = complete_postfix s h b q st low lv lt free.calm.round free.calm.dot in
-        (n, omega arith, postfix_is_read h b p a u q lt free.calm.square d)
-    complete {p = p} (a_not {a = a} {u = u} s) h b q st low lv lt free =
-        let d = complete s (h - 1) b q st.1 (omega (arith, low)) lv (omega (arith, lt)) free in
+    complete : {l p : ℕ} {t : Expr} {u : List Lexeme} (s : Spells l p t u) (h b q : ℕ) → Stands ws p u q → expr_height t ≤ h → left b u ≡ Some b → length u < n → Free l (slice_get ws q) → Quiet (last_path s) (slice_get ws q) → Done h b l p t u q
+    complete {p = p} (a_postfix {a = a} {u = u} s) h b q st low lv lt free quiet =
+        let d = complete_postfix s h b q st low lv lt quiet in
+        (n, omega arith, postfix_is_read h b p a u q lt free.square d)
+    complete {p = p} (a_not {a = a} {u = u} s) h b q st low lv lt free quiet =
+        let d = complete s (h - 1) b q st.1 (omega (arith, low)) lv (omega (arith, lt)) free quiet in
         let e = below_read h b 0 (p + 1) (a, q) (omega (arith, low)) d.2 in
         (n, omega arith, zero_is h b p q (negation p a) (negation_read ws n h b p _ _ a q st.0 e (omega (arith, low, expr_tall a))))
-    complete {p = p} (an_inversion {a = a} {u = u} s) h b q st low lv lt free =
-        let d = complete s (h - 1) b q st.1 (omega (arith, low)) lv (omega (arith, lt)) free in
+    complete {p = p} (an_inversion {a = a} {u = u} s) h b q st low lv lt free quiet =
+        let d = complete s (h - 1) b q st.1 (omega (arith, low)) lv (omega (arith, lt)) free quiet in
         let e = below_read h b 0 (p + 1) (a, q) (omega (arith, low)) d.2 in
         (n, omega arith, zero_is h b p q (inversion p a) (inversion_read ws n h b p _ _ a q st.0 e (omega (arith, low, expr_tall a))))
-    complete {p = p} (an_opposite {a = a} {u = u} s) h b q st low lv lt free =
-        let d = complete s (h - 1) b q st.1 (omega (arith, low)) lv (omega (arith, lt)) free in
+    complete {p = p} (an_opposite {a = a} {u = u} s) h b q st low lv lt free quiet =
+        let d = complete s (h - 1) b q st.1 (omega (arith, low)) lv (omega (arith, lt)) free quiet in
         let e = below_read h b 0 (p + 1) (a, q) (omega (arith, low)) d.2 in
         (n, omega arith, zero_is h b p q (opposite p a) (opposite_read ws n h b p _ _ a q st.0 e (omega (arith, low, expr_tall a))))
-    complete (a_cast t s) h zero q st low lv lt free = absurd (let x : None ≡ Some 0 = lv in cc)
-    complete {p = p} (a_cast {t = ty} {a = a} {u = u} {v = v} t s) h (suc b) q st low lv lt free =
+    complete (a_cast t s) h zero q st low lv lt free quiet = absurd (let x : None ≡ Some 0 = lv in cc)
+    complete {p = p} (a_cast {t = ty} {a = a} {u = u} {v = v} t s) h (suc b) q st low lv lt free quiet =
         let m = p + 1 + length u in
         let sp = Stands-split ws (p + 1) q u (key Close ∷ v) st.1 in
         let close = sp.1.0 in
@@ -241,15 +242,15 @@ module _ (ws : List Lexeme) (n : ℕ) where
         let z : ls.0 ≡ b = (let y = ls.1 in cc) in
         let lw : left (suc b) v ≡ Some (suc b) = subst (λ c. left (suc c) v ≡ Some (suc b)) z ls.2 in
         let len = length-append u (key Close ∷ v) in
-        let d = complete s (h - 1) (suc b) q sp.1.1 (omega (arith, low)) lw (omega (arith, lt, len)) free in
+        let d = complete s (h - 1) (suc b) q sp.1.1 (omega (arith, low)) lw (omega (arith, lt, len)) free quiet in
         let f = below_read h (suc b) 0 (m + 1) (a, q) (omega (arith, low)) d.2 in
         (n, omega arith, zero_is h (suc b) p q (cast p ty a) (cast_read ws n h (suc b) p _ _ ty u a m q t sp.0 st.0 close f (omega (arith, low, expr_tall a)) (omega arith)))
-    complete {p = p} (tighter {l = l} {a = a} {u = u} s) h b q st low lv lt free =
+    complete {p = p} (tighter {l = l} {a = a} {u = u} s) h b q st low lv lt free quiet =
         let ends = free_below l (slice_get ws q) free in
-        let d = complete s h b q st low lv lt (ends_free l (slice_get ws q) ends) in
+        let d = complete s h b q st low lv lt (ends_free l (slice_get ws q) ends) quiet in
         let e = is_read h b l p a u q lt ends d in
         (n, omega arith, at_more h b l p (a, q) e)
-    complete {p = p} (joined {l = l} {a = a} {b = c} {u = u} {v = v} k op o s t) h b q st low lv lt free =
+    complete {p = p} (joined {l = l} {a = a} {b = c} {u = u} {v = v} k op o s t) h b q st low lv lt free quiet =
         let m = p + length u in
         let sp = Stands-split ws p q u (key k ∷ v) st in
         let at = sp.1.0 in
@@ -260,12 +261,12 @@ module _ (ws : List Lexeme) (n : ℕ) where
         let z : left b v ≡ Some b = cc in
         let len = length-append u (key k ∷ v) in
         let ends = free_below l (slice_get ws q) free in
-        let d = complete s h b m sp.0 (omega (arith, low)) lu (omega (arith, lt, len)) (free_at (suc l) (slice_get ws m) k at (op_free l k op o)) in
-        let f = complete t (h - 1) b q sp.1.1 (omega (arith, low)) z (omega (arith, lt, len)) (ends_free l (slice_get ws q) ends) in
+        let d = complete s h b m sp.0 (omega (arith, low)) lu (omega (arith, lt, len)) (free_at (suc l) (slice_get ws m) k at (op_free l k op o)) (quiet_key (last_path s) _ k at (op-calm k _ o).dot (op-calm k _ o).round) in
+        let f = complete t (h - 1) b q sp.1.1 (omega (arith, low)) z (omega (arith, lt, len)) (ends_free l (slice_get ws q) ends) quiet in
         let e = is_read (h - 1) b l (m + 1) c v q (omega (arith, lt, len)) ends f in
         let turns : 0 < d.0 = omega (arith, d.1, lt, len) in
         (d.0 - 1, omega (arith, d.1, turns, len), d.2 ∙ binary_read h b l p d.0 m q a c k op turns at o (omega (arith, low)) e)
-    complete {p = p} (a_conditional {a = a} {b = c} {c = d} {u = u} {v = v} {w = w} s t r) h b q st low lv lt free =
+    complete {p = p} (a_conditional {a = a} {b = c} {c = d} {u = u} {v = v} {w = w} s t r) h b q st low lv lt free quiet =
         let m = p + length u in
         let j = m + 1 + length v in
         let sp = Stands-split ws p q u (key Question ∷ (v ++ key Colon ∷ w)) st in
@@ -283,11 +284,11 @@ module _ (ws : List Lexeme) (n : ℕ) where
         let at_test = question_ends (slice_get ws m) sp.1.0 in
         let at_colon = colon_ends (slice_get ws j) sq.1.0 in
         let at_end = top_ends (slice_get ws q) free in
-        let x = complete s h b m sp.0 (omega (arith, low)) lu (omega (arith, lt, len)) (ends_free 10 _ at_test) in
+        let x = complete s h b m sp.0 (omega (arith, low)) lu (omega (arith, lt, len)) (ends_free 10 _ at_test) (quiet_key (last_path s) _ Question sp.1.0 refl refl) in
         let e = is_read h b 10 p a u m (omega (arith, lt, len)) at_test x in
-        let y = complete t (h - 1) b j sq.0 (omega (arith, low)) lv' (omega (arith, lt, len, len')) (ends_free top _ at_colon) in
+        let y = complete t (h - 1) b j sq.0 (omega (arith, low)) lv' (omega (arith, lt, len, len')) (ends_free top _ at_colon) (quiet_key (last_path t) _ Colon sq.1.0 refl refl) in
         let f = below_read h b top (m + 1) (c, j) (omega (arith, low)) (is_read (h - 1) b top (m + 1) c v j (omega (arith, lt, len, len')) at_colon y) in
-        let z = complete r (h - 1) b q sq.1.1 (omega (arith, low)) lw (omega (arith, lt, len, len')) free in
+        let z = complete r (h - 1) b q sq.1.1 (omega (arith, low)) lw (omega (arith, lt, len, len')) free quiet in
         let g = below_read h b top (j + 1) (d, q) (omega (arith, low)) (is_read (h - 1) b top (j + 1) d w q (omega (arith, lt, len, len')) at_end z) in (
           n,
           omega arith,
@@ -296,6 +297,12 @@ module _ (ws : List Lexeme) (n : ℕ) where
 
   -- ---- what is spelled is read
 
-  -- where nothing that stands behind it is joined to it
-  pub expr_is_read : {l p : ℕ} {t : Expr} {u : List Lexeme} → Spells l p t u → (h b q : ℕ) → Stands ws p u q → expr_height t ≤ h → left b u ≡ Some b → length u < n → Ends l (slice_get ws q) → expr_at ws n h b l p ≡ Ok (t, q)
-  expr_is_read {l = l} {p = p} {t = t} {u = u} s h b q st low lv lt ends = is_read h b l p t u q lt ends (complete s h b q st low lv lt (ends_free l (slice_get ws q) ends))
+  -- where nothing that stands behind it is joined to it, or goes on with its last path
+  pub expr_is_read : {l p : ℕ} {t : Expr} {u : List Lexeme} (s : Spells l p t u) (h b q : ℕ) → Stands ws p u q → expr_height t ≤ h → left b u ≡ Some b → length u < n → Ends l (slice_get ws q) → Quiet (last_path s) (slice_get ws q)
+      → expr_at ws n h b l p ≡ Ok (t, q)
+  expr_is_read {l = l} {p = p} {t = t} {u = u} s h b q st low lv lt ends quiet = is_read h b l p t u q lt ends (complete s h b q st low lv lt (ends_free l (slice_get ws q) ends) quiet)
+
+  -- before a key that goes on with no expression
+  pub expr_before : {p : ℕ} {t : Expr} {u : List Lexeme} (x : Key) → Closes x → Spells top p t u → (h b q : ℕ) → Stands ws p u q → slice_get ws q ≡ Some (key x) → expr_height t ≤ h → left b u ≡ Some b → length u < n → expr_at ws n h b top p ≡ Ok (t, q)
+  expr_before x closes s h b q st at low lv lt =
+      expr_is_read s h b q st low lv lt (ends_at top (slice_get ws q) x at (key_ends top x closes.joins closes.question closes.square)) (quiet_key (last_path s) (slice_get ws q) x at closes.dot closes.round)

@@ -1,5 +1,5 @@
 -- What is read where the parts stand: one step for each production.
-use Rattle.std.proofs.Common.{◌≡◌, ℕ, zero, suc, ◌+◌, ◌-◌, ◌≤◌, ◌<◌, Bool, true, false, List, [], ◌∷◌, ◌++◌, length, Some, Result, Ok, refl, sym, ap, ◌∙◌, arith}
+use Rattle.std.proofs.Common.{◌≡◌, ℕ, zero, suc, ◌+◌, ◌-◌, ◌≤◌, ◌<◌, Bool, true, false, cond, List, [], ◌∷◌, ◌++◌, length, length-append, Some, Result, Ok, refl, sym, ap, ◌∙◌, arith}
 use Rattle.std.proofs.lemmas.Bool.{le-ltb, le-leb}
 use Rattle.std.specs.Prelude.{slice_get}
 use Rattle.lex_text.specs.Names.{parent}
@@ -19,7 +19,7 @@ use Rattle.p4_spelling.specs.Words.{valid_name, apply_name, outcome_name}
 use Rattle.p4_spelling.specs.Operators.{top}
 use Rattle.p4_spelling.specs.Types.{SpellsScalar, a_bool, a_bit, bits}
 use Rattle.p4_spelling.specs.Expressions.{SpellsPath, last_name, then_names}
-use Rattle.p4_expressions.specs.Reading.{Reader, last_of, is_scalar, small_at, width_at, bits_at, truth_at, scalar_at, more_names_at, names_at, validity_at, outcome_at, application_at, applied_at, called_at, call_of, path_at, flag_at, numeral_at, error_at, leaf_at, bounds_at, slices_at, postfix_at, negation_at, inversion_at, opposite_at, cast_at, bracket_at, opened_at, operand_at, branches_at, conditional_at}
+use Rattle.p4_expressions.specs.Reading.{Reader, last_of, is_called, is_scalar, small_at, width_at, bits_at, truth_at, scalar_at, more_names_at, names_at, validity_at, outcome_at, application_at, applied_at, called_at, call_of, path_at, flag_at, numeral_at, error_at, leaf_at, bounds_at, slices_at, postfix_at, negation_at, inversion_at, opposite_at, cast_at, bracket_at, opened_at, operand_at, branches_at, conditional_at}
 use Rattle.p4_expressions.proofs.LastNames.{last_of-append, parent-append}
 
 -- ---- steps
@@ -35,6 +35,10 @@ room_ok m h i le = rw (le-ltb h m le) refl
 pub path_more : {xs : List (List ℕ)} {u : List Lexeme} (x : List ℕ) → SpellsPath xs u → SpellsPath (xs ++ x ∷ []) (u ++ key Dot ∷ name x ∷ [])
 path_more x (last_name y) = then_names y (last_name x)
 path_more x (then_names y s) = then_names y (path_more x s)
+
+-- `(` goes on behind names and `isValid`
+pub valid_is_called : (xs : List (List ℕ)) → 1 ≤ length xs → is_called (xs ++ valid_name ∷ []) ≡ true
+valid_is_called xs some = rw (le-ltb (length (xs ++ valid_name ∷ [])) 2 (omega (arith, some, length-append xs (valid_name ∷ []))), last_of-append xs valid_name) refl
 
 pub path_some : {xs : List (List ℕ)} {u : List Lexeme} → SpellsPath xs u → 1 ≤ length xs
 path_some (last_name x) = omega arith
@@ -122,28 +126,32 @@ module _ (ws : List Lexeme) (n : ℕ) where
   path_first (then_names x s) i q st = (x, st.0)
 
   module _ (b p : ℕ) where
-    pub path_read : {xs : List (List ℕ)} {u : List Lexeme} → SpellsPath xs u → (q : ℕ) → Stands ws p u q → at_key Dot (slice_get ws q) ≡ false → at_key Open (slice_get ws q) ≡ false → length u ≤ n
+    pub path_read : {xs : List (List ℕ)} {u : List Lexeme} → SpellsPath xs u → (q : ℕ) → Stands ws p u q → at_key Dot (slice_get ws q) ≡ false → (at_key Open (slice_get ws q) ≡ true → is_called xs ≡ false) → length u ≤ n
         → path_at ws n b p ≡ Ok (path p xs, q)
     unfolding path_at
-    path_read {xs = xs} s q st no_dot no_open le = goes_on _ _ (xs, q) _ (names_read s p q st no_dot le) (rw no_open refl)
+    path_read {xs = xs} s q st no_dot quiet le = goes_on _ _ (xs, q) _ (names_read s p q st no_dot le) (alone (at_key Open (slice_get ws q)) (is_called xs) quiet)
+      where
+        alone : (x y : Bool) → (x ≡ true → y ≡ false) → cond x (cond y (call_of ws n b p (parent xs) (last_of xs) q) (Ok (path p xs, q))) (Ok (path p xs, q)) ≡ Ok (path p xs, q)
+        alone false y f = refl
+        alone true false f = refl
+        alone true true f = absurd (let e = f refl in cc)
 
     -- the names xs, behind which a bracket stands at m
-    called_read : {xs : List (List ℕ)} {u : List Lexeme} → SpellsPath xs u → (m : ℕ) → Stands ws p u m → slice_get ws m ≡ Some (key Open) → length u ≤ n → path_at ws n b p ≡ call_of ws n b p (parent xs) (last_of xs) m
+    called_read : {xs : List (List ℕ)} {u : List Lexeme} → SpellsPath xs u → (m : ℕ) → Stands ws p u m → slice_get ws m ≡ Some (key Open) → is_called xs ≡ true → length u ≤ n → path_at ws n b p ≡ call_of ws n b p (parent xs) (last_of xs) m
     unfolding path_at
-    called_read {xs = xs} s m st w le = goes_on _ _ (xs, m) _ (names_read s p m st (rw w refl) le) (rw w refl)
+    called_read {xs = xs} s m st w is le = goes_on _ _ (xs, m) _ (names_read s p m st (rw w refl) le) (rw (w, is) refl)
 
-    valid_called : (xs : List (List ℕ)) (m : ℕ) → 1 ≤ length xs → slice_get ws m ≡ Some (key Open) → slice_get ws (m + 1) ≡ Some (key Close) → 0 < b → call_of ws n b p xs (Some valid_name) m ≡ Ok (valid p xs, m + 1 + 1)
+    valid_called : (xs : List (List ℕ)) (m : ℕ) → slice_get ws m ≡ Some (key Open) → slice_get ws (m + 1) ≡ Some (key Close) → 0 < b → call_of ws n b p xs (Some valid_name) m ≡ Ok (valid p xs, m + 1 + 1)
     unfolding call_of called_at validity_at
-    valid_called xs m some w close few =
-        rw (le-ltb (length xs) 1 some) (goes_on _ _ (Open, m + 1) _ (open_ok b m w few) (goes_on _ _ (Close, m + 1 + 1) _ (expect_ok Close (m + 1) close) refl))
+    valid_called xs m w close few = goes_on _ _ (Open, m + 1) _ (open_ok b m w few) (goes_on _ _ (Close, m + 1 + 1) _ (expect_ok Close (m + 1) close) refl)
 
     pub validity_read : {xs : List (List ℕ)} {u : List Lexeme} → SpellsPath xs u → (m : ℕ) → Stands ws p (u ++ key Dot ∷ name valid_name ∷ []) m → slice_get ws m ≡ Some (key Open) → slice_get ws (m + 1) ≡ Some (key Close)
         → 0 < b → length (u ++ key Dot ∷ name valid_name ∷ []) ≤ n → path_at ws n b p ≡ Ok (valid p xs, m + 1 + 1)
     validity_read {xs = xs} s m st w close few le =
-        called_read (path_more valid_name s) m st w le
+        called_read (path_more valid_name s) m st w (valid_is_called xs (path_some s)) le
         ∙ ap (λ ys. call_of ws n b p ys (last_of (xs ++ valid_name ∷ [])) m) (parent-append xs valid_name)
         ∙ ap (λ o. call_of ws n b p xs o m) (last_of-append xs valid_name)
-        ∙ valid_called xs m (path_some s) w close few
+        ∙ valid_called xs m w close few
 
     outcome_read : (hit : Bool) (i : ℕ) → slice_get ws i ≡ Some (name (outcome_name hit)) → outcome_at ws n i ≡ Ok (hit, i + 1)
     unfolding outcome_at
@@ -161,7 +169,7 @@ module _ (ws : List Lexeme) (n : ℕ) where
         → slice_get ws (p + 1 + 1 + 1 + 1) ≡ Some (key Close) → slice_get ws (p + 1 + 1 + 1 + 1 + 1) ≡ Some (key Dot) → slice_get ws (p + 1 + 1 + 1 + 1 + 1 + 1) ≡ Some (name (outcome_name hit)) → 0 < b → 3 ≤ n
         → path_at ws n b p ≡ Ok (applied p t hit, p + 1 + 1 + 1 + 1 + 1 + 1 + 1)
     application_read t hit x dot y w close dot' there few le =
-        called_read (then_names t (last_name apply_name)) (p + 1 + 1 + 1) (x, (dot, (y, refl))) w le ∙ apply_called t hit (p + 1 + 1 + 1) w close dot' there few
+        called_read (then_names t (last_name apply_name)) (p + 1 + 1 + 1) (x, (dot, (y, refl))) w refl le ∙ apply_called t hit (p + 1 + 1 + 1) w close dot' there few
 
   -- ---- operands
 

@@ -6,6 +6,7 @@ pub mod Turns
 pub mod Locality
 -- What is spelled is read.
 pub mod Behind
+pub mod Tails
 pub mod Balanced
 pub mod CompleteSteps
 pub mod Complete
@@ -15,4 +16,6 @@ pub mod SoundPaths
 pub mod SoundOperands
 pub mod SoundJoins
 pub mod Sound
+-- What goes on with no expression.
+pub mod Going
 pub mod WholeExpressions

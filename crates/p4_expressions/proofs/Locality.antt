@@ -1,7 +1,7 @@
 -- What is read rests on the lexemes up to the place where reading ends, and on no other.
 use Rattle.std.proofs.Common.{◌≡◌, ℕ, zero, suc, ◌+◌, ◌≤◌, Bool, true, false, cond, List, Option, Some, None, Ok, Err, arith}
 use Rattle.std.proofs.Math.Nat.{suc_inj}
-use Rattle.std.specs.Prelude.{slice_get, is_some, length, nat_lt, nat_le, ◌==◌}
+use Rattle.std.specs.Prelude.{slice_get, is_some, nat_le, ◌==◌}
 use Rattle.lex_text.specs.Names.{same_text, parent}
 use Rattle.lex_text.specs.declared.literal.Literal.{Literal}
 use Rattle.lex_words.specs.declared.key.Key.TheVariants.{True, False, Bit, Error, Not, Tilde, Minus, Question, Colon, Dot, Open, Close, SquareOpen, SquareClose, Less, More}
@@ -9,14 +9,14 @@ use Rattle.lex_words.specs.declared.key.Key.TheVariants as k
 use Rattle.lex_words.specs.Seen.{Lexeme, name_in, number_in, at_key}
 use Rattle.lex_words.specs.Reading.{wrong, Read, ◌>>=◌, look, room_at, named_at}
 use Rattle.lex_words.proofs.Joins as joins
-use Rattle.lex_words.proofs.Locality.{Follows, Follows-bind, Follows-cond, Follows-wrong, Follows-spent, Follows-ok, Follows-look, Follows-expect, Follows-more, Follows-named, Follows-numbered, Follows-room, Follows-open}
+use Rattle.lex_words.proofs.Locality.{Follows, Follows-bind, Follows-cond, Follows-wrong, Follows-spent, Follows-ok, Follows-look, Follows-test, Follows-expect, Follows-more, Follows-named, Follows-numbered, Follows-room, Follows-open}
 use Rattle.p4_tree.specs.Tree.{Expr, path}
 use Rattle.p4_tree.specs.Height.{expr_height}
 use Rattle.p4_tree.specs.declared.statement.Op.{Op}
 use Rattle.p4_tree.specs.declared.statement.PTy.TheVariants as type
-use Rattle.p4_spelling.specs.Words.{valid_name, apply_name, outcome_name}
+use Rattle.p4_spelling.specs.Words.{valid_name, outcome_name}
 use Rattle.p4_spelling.specs.Operators.{top, op_at}
-use Rattle.p4_expressions.specs.Reading.{Reader, small, square_at, last_of, outcome, is_scalar, small_at, width_at, bits_at, truth_at, scalar_at, more_names_at, names_at, validity_at, outcome_at, application_at, applied_at, called_at, call_of, path_at, flag_at, numeral_at, error_at, leaf_at, bounds_at, slices_at, postfix_at, negation_at, inversion_at, opposite_at, cast_at, bracket_at, opened_at, operand_at, right_at, chain, branches_at, conditional_at, behind_at, layer, idle, expr_at, inside_of, below_of}
+use Rattle.p4_expressions.specs.Reading.{Reader, small, square_at, last_of, is_called, outcome, is_scalar, small_at, width_at, bits_at, truth_at, scalar_at, more_names_at, names_at, validity_at, outcome_at, application_at, applied_at, called_at, call_of, path_at, flag_at, numeral_at, error_at, leaf_at, bounds_at, slices_at, postfix_at, negation_at, inversion_at, opposite_at, cast_at, bracket_at, opened_at, operand_at, right_at, chain, branches_at, conditional_at, behind_at, layer, idle, expr_at, inside_of, below_of}
 use Rattle.p4_expressions.proofs.Layers.{expr_at-layer}
 
 -- Two readings, of the lexemes ws and vs. Hs: both have the same bound on heights; Bs: on brackets.
@@ -58,7 +58,7 @@ module _ (ws vs : List Lexeme) (Hs Bs : Type 0) where
 
     -- ---- paths and calls
 
-    Follows-more_names : (x : List ℕ) (i : ℕ) → Follows ws vs Hs Bs i (more_names_at ws n x i) (more_names_at vs m x i)
+    pub Follows-more_names : (x : List ℕ) (i : ℕ) → Follows ws vs Hs Bs i (more_names_at ws n x i) (more_names_at vs m x i)
     unfolding more_names_at
     Follows-more_names x i =
         Follows-bind ws vs Hs Bs i _ _ _ _ (Follows-more ws vs Hs Bs (named_at ws n) (named_at vs m) (λ q. Follows-named ws vs Hs Bs n m q) Dot n m i turns) (λ y. Follows-ok ws vs Hs Bs y.1 y.1 _ (omega arith))
@@ -97,9 +97,7 @@ module _ (ws vs : List Lexeme) (Hs Bs : Type 0) where
 
       Follows-called : (p : ℕ) (xs : List (List ℕ)) (x : List ℕ) (i : ℕ) → Follows ws vs Hs Bs i (called_at ws n b p xs x i) (called_at vs m c p xs x i)
       unfolding called_at
-      Follows-called p xs x i =
-          Follows-cond ws vs Hs Bs i (same_text x valid_name) _ _ _ _ (Follows-cond ws vs Hs Bs i (nat_lt (length xs) 1) _ _ _ _ (Follows-wrong ws vs Hs Bs i) (Follows-validity p xs i))
-          (Follows-cond ws vs Hs Bs i (same_text x apply_name) _ _ _ _ (Follows-cond ws vs Hs Bs i (length xs == 1) _ _ _ _ (Follows-applied p (last_of xs) i) (Follows-wrong ws vs Hs Bs i)) (Follows-wrong ws vs Hs Bs i))
+      Follows-called p xs x i = Follows-cond ws vs Hs Bs i (same_text x valid_name) _ _ _ _ (Follows-validity p xs i) (Follows-applied p (last_of xs) i)
 
       Follows-call : (p : ℕ) (xs : List (List ℕ)) (o : Option (List ℕ)) (i : ℕ) → Follows ws vs Hs Bs i (call_of ws n b p xs o i) (call_of vs m c p xs o i)
       unfolding call_of
@@ -107,12 +105,11 @@ module _ (ws vs : List Lexeme) (Hs Bs : Type 0) where
       Follows-call p xs (Some x) i = Follows-called p xs x i
 
       Follows-path : (i : ℕ) → Follows ws vs Hs Bs i (path_at ws n b i) (path_at vs m c i)
-      unfolding path_at look
+      unfolding path_at
       Follows-path i =
           Follows-bind ws vs Hs Bs i _ _ _ _ (Follows-names i) (λ xs.
-          Follows-look ws vs Hs Bs xs.1 (λ o. cond (at_key Open o) (call_of ws n b i (parent xs.0) (last_of xs.0) xs.1) (Ok (path i xs.0, xs.1)))
-          (λ o. cond (at_key Open o) (call_of vs m c i (parent xs.0) (last_of xs.0) xs.1) (Ok (path i xs.0, xs.1)))
-          (λ o. Follows-cond ws vs Hs Bs xs.1 (at_key Open o) _ _ _ _ (Follows-call i (parent xs.0) (last_of xs.0) xs.1) (Follows-ok ws vs Hs Bs xs.1 xs.1 _ (omega arith))))
+          let alone = Follows-ok ws vs Hs Bs xs.1 xs.1 (path i xs.0) (omega arith) in
+          Follows-test ws vs Hs Bs xs.1 (at_key Open) _ _ _ _ (Follows-cond ws vs Hs Bs xs.1 (is_called xs.0) _ _ _ _ (Follows-call i (parent xs.0) (last_of xs.0) xs.1) alone) alone)
 
     -- ---- operands without parts
 

@@ -44,7 +44,7 @@ pub record First (o : Option Lexeme) : Type 0 where
   pub ty : PTy
   pub spells : SpellsScalar ty (lexeme ∷ [])
 
-scalar_lexeme : (o : Option Lexeme) → is_scalar o ≡ true → First o
+pub scalar_lexeme : (o : Option Lexeme) → is_scalar o ≡ true → First o
 scalar_lexeme o e = by (at_key Bit o) (at_key k.Bool o) (λ x. at_key-is Bit o x) (λ x. at_key-is k.Bool o x) e
   where
     by : (x y : Bool) → (x ≡ true → o ≡ Some (key Bit)) → (y ≡ true → o ≡ Some (key k.Bool)) → (x || y) ≡ true → First o

@@ -47,6 +47,15 @@ last_of [] = None
 last_of (x ∷ []) = Some x
 last_of (x ∷ y ∷ rest) = last_of (y ∷ rest)
 
+-- what n names, of which this is the last, are called with: `isValid` behind a header, `apply` behind the one name of a table
+abbrev pub calls : ℕ → Option (List ℕ) → Bool
+calls n None = false
+calls n (Some x) = if same_text x valid_name then true else (if same_text x apply_name then n == 2 else false)
+
+-- `(` goes on behind these names
+abbrev pub is_called : List (List ℕ) → Bool
+is_called xs = if nat_lt (length xs) 2 then false else calls (length xs) (last_of xs)
+
 -- what the name at i asks of a table
 abbrev pub outcome : ℕ → Option (List ℕ) → Read Bool
 outcome i None = Err (wrong i)
@@ -127,11 +136,7 @@ module _ (ws : List Lexeme) (n : ℕ) where
 
   -- a call of the name x behind the path xs, which begins at p
   unfoldable pub called_at : (b p : ℕ) → List (List ℕ) → List ℕ → ℕ → Read Expr
-  called_at b p xs x i =
-      if same_text x valid_name
-      then (if nat_lt (length xs) 1 then Err (wrong i) else validity_at b p xs i)
-      else if same_text x apply_name then (if length xs == 1 then applied_at b p (last_of xs) i else Err (wrong i))
-      else Err (wrong i)
+  called_at b p xs x i = if same_text x valid_name then validity_at b p xs i else applied_at b p (last_of xs) i
 
   unfoldable pub call_of : (b p : ℕ) → List (List ℕ) → Option (List ℕ) → ℕ → Read Expr
   call_of b p xs None i = Err (wrong i)
@@ -141,7 +146,7 @@ module _ (ws : List Lexeme) (n : ℕ) where
   unfoldable pub path_at : (b i : ℕ) → Read Expr
   path_at b i = do
     xs ← names_at i
-    (if at_key Open (slice_get ws xs.1) then call_of b i (parent xs.0) (last_of xs.0) xs.1 else Ok (path i xs.0, xs.1))
+    (if at_key Open (slice_get ws xs.1) then (if is_called xs.0 then call_of b i (parent xs.0) (last_of xs.0) xs.1 else Ok (path i xs.0, xs.1)) else Ok (path i xs.0, xs.1))
 
   -- ---- operands
 

@@ -17,5 +17,5 @@ mod types;
 
 pub use chain::expr;
 pub use found::Found;
-pub use paths::names;
+pub use paths::{more_names, names};
 pub use types::{scalar, small};

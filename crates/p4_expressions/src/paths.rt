@@ -1,9 +1,9 @@
 //! Reading paths and the two calls of expressions.
 
-ghost use Rattle.std.specs.Prelude.{◌≡◌, ◌≤◌, ◌<◌, ◌+◌, length, IfOk};
+ghost use Rattle.std.specs.Prelude.{◌≡◌, ◌≤◌, ◌<◌, ◌+◌, length, Some, IfOk};
 ghost use Rattle.lex_text.specs.Names.{parent};
 ghost use Rattle.lex_words.specs.Moving.{Moves, Stays};
-ghost use Rattle.p4_expressions.specs.Reading.{IsLow, application_at, applied_at, call_of, called_at, last_of, more_names_at, names_at, outcome_at, path_at, tree_of, validity_at};
+ghost use Rattle.p4_expressions.specs.Reading.{IsLow, application_at, applied_at, call_of, called_at, calls, is_called, last_of, more_names_at, names_at, outcome_at, path_at, tree_of, validity_at};
 
 use crate::found::Found;
 use lex_text::Name;
@@ -12,7 +12,7 @@ use p4_tree::Expr;
 use std::alloc::Global;
 
 /// A first name and the names behind it, with a point before each.
-fn more_names(alloc: Global, tokens: &mut Cursor, first: Name) -> Result<Vec<Name>, Halt>
+pub fn more_names(alloc: Global, tokens: &mut Cursor, first: Name) -> Result<Vec<Name>, Halt>
     ensures { Stays (λ x. x.items) (λ ws n. more_names_at ws n first) tokens.old result tokens.new }
 {
     let mut names = Vec::new(alloc);
@@ -123,19 +123,9 @@ fn called(
     ensures low { IfOk result (IsLow 1) }
 {
     if last.as_str() == "isValid" {
-        if front.len() < 1 {
-            Err(Halt::Wrong(tokens.at()))
-        } else {
-            validity(tokens, start, front, brackets)
-        }
-    } else if last.as_str() == "apply" {
-        if front.len() == 1 {
-            applied(alloc, tokens, start, front, brackets)
-        } else {
-            Err(Halt::Wrong(tokens.at()))
-        }
+        validity(tokens, start, front, brackets)
     } else {
-        Err(Halt::Wrong(tokens.at()))
+        applied(alloc, tokens, start, front, brackets)
     }
 }
 
@@ -158,6 +148,32 @@ fn call(
     }
 }
 
+/// Whether a bracket goes on behind so many names, of which this is the last.
+fn calls(count: usize, last: &Name) -> bool
+    ensures { result ≡ calls count (Some last.now) }
+{
+    if last.as_str() == "isValid" {
+        true
+    } else if last.as_str() == "apply" {
+        count == 2
+    } else {
+        false
+    }
+}
+
+/// Whether a bracket goes on behind these names.
+fn is_called(names: &[Name]) -> bool
+    ensures { result ≡ is_called names.now }
+{
+    if names.len() < 2 {
+        return false;
+    }
+    match names.get(names.len() - 1) {
+        None => false,
+        Some(last) => calls(names.len(), last),
+    }
+}
+
 /// A path, perhaps with a call.
 #[tactic(auto, unfolding(crate::specs::Reading::path_at))]
 pub fn path(alloc: Global, tokens: &mut Cursor, brackets: u16) -> Result<Found, Halt>
@@ -167,11 +183,12 @@ pub fn path(alloc: Global, tokens: &mut Cursor, brackets: u16) -> Result<Found, 
     let start = tokens.at();
     let path = names(alloc, tokens)?;
     if tokens.is(Key::Open) {
-        call(alloc, tokens, start, path, brackets)
-    } else {
-        Ok(Found {
-            tree: Expr::Path(start, path),
-            height: 1,
-        })
+        if is_called(&path) {
+            return call(alloc, tokens, start, path, brackets);
+        }
     }
+    Ok(Found {
+        tree: Expr::Path(start, path),
+        height: 1,
+    })
 }

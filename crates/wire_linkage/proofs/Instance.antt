@@ -1,11 +1,12 @@
 -- The linked wire programs have the linked parts of the wire program, which uses no name of the monitor's.
-use Rattle.std.proofs.Common.{◌≡◌, codes, ℕ, suc, List, [], ◌∷◌, ◌++◌, map, length, Bool, true, false, ◌||◌, refl, ap, ap₂, sym, ◌∙◌, subst}
+use Rattle.std.proofs.Common.{◌≡◌, codes, ℕ, None, List, [], ◌∷◌, ◌++◌, map, true, false, ◌||◌, refl, ap, ap₂, sym, ◌∙◌, subst}
 use Rattle.std.specs.Prelude.{if◌then◌else◌}
 use Rattle.std.specs.List.{AllByRecursion}
-use Rattle.lex_text.specs.Names.{same_text}
 use Rattle.p4_tree.specs.Tree.{Expr, num, path, flag, binary, negation, Stmt, assign, choice, block, Stmts, MaybeStmt, otherwise, Case, ParserState, and_then, next, done, without}
 use Rattle.p4_meaning.specs.Parsing.{Field}
-use Rattle.p4_meaning.specs.Parts.{Roots, Parts, path_under, expr_under, stmt_under, stmts_under, else_under, case_under, field_of, parts_of}
+use Rattle.p4_meaning.specs.Scope.{Scope, names_in, names_in_stmt, names_in_else}
+use Rattle.p4_meaning.specs.Under.{expr_under, stmt_under, stmts_under, else_under, case_under}
+use Rattle.p4_meaning.specs.Parts.{Parts, field_of, parts_of}
 use Rattle.p4_tree.specs.declared.statement.Op.TheVariants as p4
 use Rattle.indus_tree.specs.Tree as indus
 use Rattle.lex_text.specs.Marks.{is_one_of as is_name_of}
@@ -18,67 +19,76 @@ use Rattle.linked_halves.specs.Regions.{is_mine}
 use Rattle.linked_halves.specs.Forwarding.{IsForwarding}
 use Rattle.linked_halves.specs.LinkedParts as parts
 use Rattle.linked_halves.specs.LinkedParts.{rejects_cells, telemetry, linked_parts}
-use Rattle.wire_linkage.specs.Declared.{names_in, names_in_stmt, names_in_else, names_of}
+use Rattle.wire_linkage.specs.Declared.{names_of}
 
--- what the parameters of the wire program are called
-abbrev roots : Roots
-roots = record { headers = codes "hdr"; metadata = codes "meta"; standard = codes "standard_metadata" }
+module _ (around : List ℕ) where
+  -- what is in sight in a control or a parser of the wire program, which declares nothing: the roots under fixed names
+  abbrev sight : Scope
+  sight =
+      record {
+        roots = record { headers = codes "hdr"; metadata = codes "meta"; standard = codes "standard_metadata" };
+        control = around;
+        own = [];
+        constants = [];
+        types = [];
+        inner = None;
+      }
 
--- the monitor's code has the fixed roots
-lowered_under : (e : indus.Expr) → expr_under roots (lowered e) ≡ lowered e
-lowered_under (indus.num p n) = refl
-lowered_under (indus.read p x) = refl
-lowered_under (indus.binary p o a b) = ap₂ (binary 0 (lowered_op o)) (lowered_under a) (lowered_under b)
-lowered_under _ = refl
+  -- the monitor's code stands for itself there
+  lowered_under : (e : indus.Expr) → expr_under sight (lowered e) ≡ lowered e
+  lowered_under (indus.num p n) = refl
+  lowered_under (indus.read p x) = refl
+  lowered_under (indus.binary p o a b) = ap₂ (binary 0 (lowered_op o)) (lowered_under a) (lowered_under b)
+  lowered_under _ = refl
 
-mutual
-  stmt_same : (s : indus.Stmt) → stmt_under roots (lowered_stmt s) ≡ lowered_stmt s
-  stmt_same (indus.assign p x e) = ap (assign 0 (Rattle.linked_halves.specs.Monitor.tele_path x)) (lowered_under e)
-  stmt_same (indus.choice p e a b) =
-      ap (λ t. choice 0 t (block 0 (stmts_under roots (lowered_block a))) (else_under roots (lowered_else b))) (lowered_under e)
-      ∙ ap₂ (λ x y. choice 0 (lowered e) (block 0 x) y) (block_same a) (else_same b)
-  stmt_same (indus.reject p) = refl
-  stmt_same _ = refl
+  mutual
+    stmt_same : (s : indus.Stmt) → stmt_under sight (lowered_stmt s) ≡ lowered_stmt s
+    stmt_same (indus.assign p x e) = ap (assign 0 (Rattle.linked_halves.specs.Monitor.tele_path x)) (lowered_under e)
+    stmt_same (indus.choice p e a b) =
+        ap (λ t. choice 0 t (block 0 (stmts_under sight (lowered_block a))) (else_under sight (lowered_else b))) (lowered_under e)
+        ∙ ap₂ (λ x y. choice 0 (lowered e) (block 0 x) y) (block_same a) (else_same b)
+    stmt_same (indus.reject p) = refl
+    stmt_same _ = refl
 
-  block_same : (ss : indus.Stmts) → stmts_under roots (lowered_block ss) ≡ lowered_block ss
-  block_same indus.done = refl
-  block_same (indus.next s ss) = ap₂ next (stmt_same s) (block_same ss)
+    block_same : (ss : indus.Stmts) → stmts_under sight (lowered_block ss) ≡ lowered_block ss
+    block_same indus.done = refl
+    block_same (indus.next s ss) = ap₂ next (stmt_same s) (block_same ss)
 
-  else_same : (ss : indus.Stmts) → else_under roots (lowered_else ss) ≡ lowered_else ss
-  else_same indus.done = refl
-  else_same (indus.next s ss) = ap₂ (λ x y. otherwise (block 0 (next x y))) (stmt_same s) (block_same ss)
+    else_same : (ss : indus.Stmts) → else_under sight (lowered_else ss) ≡ lowered_else ss
+    else_same indus.done = refl
+    else_same (indus.next s ss) = ap₂ (λ x y. otherwise (block 0 (next x y))) (stmt_same s) (block_same ss)
 
-one_of_same : (p : List (List ℕ)) → path_under roots p ≡ p → (linked_ports : List ℕ) → expr_under roots (is_port_of p linked_ports) ≡ is_port_of p linked_ports
-one_of_same p e [] = refl
-one_of_same p e (n ∷ ns) = ap₂ (λ q r. binary 0 p4.Either (binary 0 p4.Equal (path 0 q) (number 0 n)) r) e (one_of_same p e ns)
+  one_of_same : (p : List (List ℕ)) → expr_under sight (path 0 p) ≡ path 0 p → (linked_ports : List ℕ) → expr_under sight (is_port_of p linked_ports) ≡ is_port_of p linked_ports
+  one_of_same p e [] = refl
+  one_of_same p e (n ∷ ns) = ap₂ (λ q r. binary 0 p4.Either (binary 0 p4.Equal q (number 0 n)) r) e (one_of_same p e ns)
 
-joined_under : (a b : Stmts) → stmts_under roots (and_then a b) ≡ and_then (stmts_under roots a) (stmts_under roots b)
-joined_under done b = refl
-joined_under (next s ss) b = ap (next (stmt_under roots s)) (joined_under ss b)
+  joined_under : (a b : Stmts) → stmts_under sight (and_then a b) ≡ and_then (stmts_under sight a) (stmts_under sight b)
+  joined_under done b = refl
+  joined_under (next s ss) b = ap (next (stmt_under sight s)) (joined_under ss b)
 
-joined_same : (a : indus.Stmts) (b : Stmts) → stmts_under roots b ≡ b → stmts_under roots (and_then (lowered_block a) b) ≡ and_then (lowered_block a) b
-joined_same a b e = joined_under (lowered_block a) b ∙ ap₂ and_then (block_same a) e
+  joined_same : (a : indus.Stmts) (b : Stmts) → stmts_under sight b ≡ b → stmts_under sight (and_then (lowered_block a) b) ≡ and_then (lowered_block a) b
+  joined_same a b e = joined_under (lowered_block a) b ∙ ap₂ and_then (block_same a) e
 
-entry_same : (p : indus.Property) (linked_ports : List ℕ) → stmt_under roots (entry_stmt p linked_ports) ≡ entry_stmt p linked_ports
-entry_same p linked_ports =
-    ap₂ (λ t b. choice 0 (negation 0 t) (block 0 (next (Rattle.linked_halves.specs.Monitor.on_header (codes "setValid")) (next (assign 0 Rattle.linked_halves.specs.Monitor.mark_path (number 8 72)) b))) without)
-    (one_of_same Rattle.p4_meaning.specs.Standard.ingress_port refl linked_ports) (block_same p.init)
+  entry_same : (p : indus.Property) (linked_ports : List ℕ) → stmt_under sight (entry_stmt p linked_ports) ≡ entry_stmt p linked_ports
+  entry_same p linked_ports =
+      ap₂ (λ t b. choice 0 (negation 0 t) (block 0 (next (Rattle.linked_halves.specs.Monitor.on_header (codes "setValid")) (next (assign 0 Rattle.linked_halves.specs.Monitor.mark_path (number 8 72)) b))) without)
+      (one_of_same Rattle.p4_meaning.specs.Standard.ingress_port refl linked_ports) (block_same p.init)
 
-check_same : (p : indus.Property) (linked_ports : List ℕ) → stmt_under roots (check_stmt p linked_ports) ≡ check_stmt p linked_ports
-check_same p linked_ports =
-    ap₂ (λ t b. choice 0 (negation 0 t) (block 0 (next (Rattle.p4_tree.specs.Tree.var 0 Rattle.p4_tree.specs.declared.statement.PTy.TheVariants.Bool rejected_name (Rattle.std.specs.Prelude.Some (flag 0 false))) b)) without)
-    (one_of_same Rattle.p4_meaning.specs.Standard.egress_port refl linked_ports) (joined_same p.check end_stmts refl)
+  check_same : (p : indus.Property) (linked_ports : List ℕ) → stmt_under sight (check_stmt p linked_ports) ≡ check_stmt p linked_ports
+  check_same p linked_ports =
+      ap₂ (λ t b. choice 0 (negation 0 t) (block 0 (next (Rattle.p4_tree.specs.Tree.var 0 Rattle.p4_tree.specs.declared.statement.PTy.TheVariants.Bool rejected_name (Rattle.std.specs.Prelude.Some (flag 0 false))) b)) without)
+      (one_of_same Rattle.p4_meaning.specs.Standard.egress_port refl linked_ports) (joined_same p.check end_stmts refl)
 
-exit_same : (p : indus.Property) (linked_ports : List ℕ) → stmt_under roots (exit_stmt p linked_ports) ≡ exit_stmt p linked_ports
-exit_same p linked_ports =
-    ap (λ b. choice 0 (binary 0 p4.Differ (path 0 Rattle.p4_meaning.specs.Standard.egress_spec) (number 0 511)) (block 0 b) without)
-    (joined_same p.tele (next (check_stmt p linked_ports) done) (ap (λ s. next s done) (check_same p linked_ports)))
+  exit_same : (p : indus.Property) (linked_ports : List ℕ) → stmt_under sight (exit_stmt p linked_ports) ≡ exit_stmt p linked_ports
+  exit_same p linked_ports =
+      ap (λ b. choice 0 (binary 0 p4.Differ (path 0 Rattle.p4_meaning.specs.Standard.egress_spec) (number 0 511)) (block 0 b) without)
+      (joined_same p.tele (next (check_stmt p linked_ports) done) (ap (λ s. next s done) (check_same p linked_ports)))
 
-cases_same : (linked_ports : List ℕ) → map (case_under roots) (link_cases linked_ports) ≡ link_cases linked_ports
-cases_same [] = refl
-cases_same (n ∷ ns) = ap (λ cs. link_case n ∷ cs) (cases_same ns)
+  cases_same : (linked_ports : List ℕ) → map (case_under sight) (link_cases linked_ports) ≡ link_cases linked_ports
+  cases_same [] = refl
+  cases_same (n ∷ ns) = ap (λ cs. link_case n ∷ cs) (cases_same ns)
 
-fields_same : (ds : List indus.Decl) → map field_of (map program.tele_field ds) ≡ map parts.tele_field ds
+fields_same : (ds : List indus.Decl) → map (field_of []) (map program.tele_field ds) ≡ map parts.tele_field ds
 fields_same [] = refl
 fields_same (d ∷ ds) = ap (λ fs. parts.tele_field d ∷ fs) (fields_same ds)
 
@@ -94,6 +104,8 @@ built fields cases entry exit =
           ∷ taken_state
           ∷ Rattle.wire_program.specs.WireProgram.passing_state (codes "hydra_start") (codes "accept")
           ∷ [];
+      actions = [];
+      tables = [];
       verify = done;
       ingress = record { locals = done; body = next entry wire_ingress };
       egress = record { locals = done; body = next exit done };
@@ -103,12 +115,14 @@ built fields cases entry exit =
 
 pub linked_wire_parts : (p : indus.Property) (linked_ports : List ℕ) → parts_of (linked_wire p linked_ports) ≡ linked_parts (parts_of wire_program) p linked_ports
 linked_wire_parts p linked_ports =
-    let e0 = stmt_under roots (entry_stmt p linked_ports) in
-    let e1 = stmt_under roots (exit_stmt p linked_ports) in
-    let cs = map (case_under roots) (link_cases linked_ports) in
+    let ingress = codes "WireIngress" in
+    let egress = codes "WireEgress" in
+    let e0 = stmt_under (sight ingress) (entry_stmt p linked_ports) in
+    let e1 = stmt_under (sight egress) (exit_stmt p linked_ports) in
+    let cs = map (case_under (sight [])) (link_cases linked_ports) in
     ap (λ fs. built fs cs e0 e1) (fields_same p.decls)
-    ∙ ap (λ c. built (map parts.tele_field p.decls) c e0 e1) (cases_same linked_ports)
-    ∙ ap₂ (λ a b. built (map parts.tele_field p.decls) (link_cases linked_ports) a b) (entry_same p linked_ports) (exit_same p linked_ports)
+    ∙ ap (λ c. built (map parts.tele_field p.decls) c e0 e1) (cases_same [] linked_ports)
+    ∙ ap₂ (λ a b. built (map parts.tele_field p.decls) (link_cases linked_ports) a b) (entry_same ingress p linked_ports) (exit_same egress p linked_ports)
 
 -- the wire program uses no name of the monitor's
 pub wire_forwards : IsForwarding (parts_of wire_program)
@@ -118,6 +132,8 @@ wire_forwards =
       headers = tt;
       metadata = tt;
       states = (record { name = refl; body = tt; next = refl }, tt);
+      actions = tt;
+      tables = tt;
       verify = tt;
       ingress = record { locals = tt; body = (((tt, (refl, tt)), ((refl, refl, tt), tt), ((refl, refl, tt), tt)), tt) };
       egress = record { locals = tt; body = tt };

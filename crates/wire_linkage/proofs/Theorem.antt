@@ -1,7 +1,8 @@
 -- The linked wire programs are a linkage.
 use Rattle.std.proofs.Common.{◌≡◌, sym, ap, subst, arith}
 use Rattle.p4_meaning.specs.Parts.{parts_of}
-use Rattle.p4_meaning.specs.Pass.{Registers, Queued}
+use Rattle.p4_meaning.specs.Tables.{Tables}
+use Rattle.p4_meaning.specs.Pass.{Kept, Queued}
 use Rattle.indus_tree.specs.Tree.{Property}
 use Rattle.indus_tree.specs.Law.{law_of}
 use Rattle.indus_tree.specs.State.{Contents}
@@ -34,7 +35,7 @@ module _ (p : Property) (small : IsSmall p) where
   wire_linked =
       record {
         linkage =
-            subst (λ (m : Machine (Unit {0}) Registers Queued Contents). Linkage plain_line m wire_line (law_of p) (telemetry_of p.decls) (registers_of (parts_of wire_program)) AnyEntries NoVariable NoContents) same_machine
+            subst (λ (m : Machine Tables Kept Queued Contents). Linkage plain_line m wire_line (law_of p) (telemetry_of p.decls) (registers_of (parts_of wire_program)) AnyEntries NoVariable NoContents) same_machine
             (linked given is_given);
         names = λ s. linked_names p (ports_at wire_line.links s);
         registers = λ s. ap (λ parts. parts.registers) (linked_wire_parts p (ports_at wire_line.links s));

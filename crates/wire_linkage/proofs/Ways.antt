@@ -7,7 +7,7 @@ use Rattle.std.proofs.lemmas.List.Elements.{All-cons, All-nil}
 use Rattle.p4_meaning.specs.Parts.{Parts, parts_of}
 use Rattle.p4_meaning.specs.Statements.{Digest}
 use Rattle.p4_meaning.specs.Pass as pass
-use Rattle.p4_meaning.specs.Pass.{Registers, Queued, parts_enter, parts_leave, start_cells}
+use Rattle.p4_meaning.specs.Pass.{Registers, Kept, Queued, parts_enter, parts_leave}
 use Rattle.indus_tree.specs.Tree.{Property}
 use Rattle.indus_tree.specs.State.{Contents}
 use Rattle.network_run.specs.Machine as law_machine
@@ -23,7 +23,7 @@ use Rattle.wire_machine.specs.Machine.{Machine, goes_to}
 use Rattle.wire_network.specs.Travel.{Net, Fate, left, dropped, lost, left_from, passed, is_end, far_end, Way, on_link, behind, at_switch, no_way, travel}
 use Rattle.wire_network.specs.declared.link.Link.{Link}
 use Rattle.linked_halves.specs.Telemetry.{telemetry_of}
-use Rattle.linked_halves.specs.Networks.{network_digest, machine_of, going_of}
+use Rattle.linked_halves.specs.Networks.{network_digest, kept_behind, machine_of, going_of}
 use Rattle.wire_program.specs.Network.{wire_line}
 use Rattle.wire_linkage.specs.Line.{program_at, line_of, one_packet, run_of_frame}
 use Rattle.wire_linkage.specs.Ways.{wire_line_links, machines, net_before, told_of, edges_of, dropped_of, lost_of, ShowsWay}
@@ -86,25 +86,25 @@ told_twice s before ds es =
 
 module _ (parts : ℕ → Parts) where
   -- the switch at a place
-  machine_is : (f : ℕ → Registers) (s : ℕ) → s < 3 → slice_get (machines parts f) s ≡ Some (record { parts = parts s; registers = f s })
+  machine_is : (f : ℕ → Kept) (s : ℕ) → s < 3 → slice_get (machines parts f) s ≡ Some (record { parts = parts s; kept = f s })
   machine_is f zero h = refl
   machine_is f (suc zero) h = refl
   machine_is f (suc (suc zero)) h = refl
   machine_is f (suc (suc (suc s))) h = absurd (omega arith)
 
-  one_put : (f : ℕ → Registers) (s : ℕ) (a : Registers) → s < 3 → slice_set (machines parts f) s (record { parts = parts s; registers = a }) ≡ machines parts (put f s a)
+  one_put : (f : ℕ → Kept) (s : ℕ) (a : Kept) → s < 3 → slice_set (machines parts f) s (record { parts = parts s; kept = a }) ≡ machines parts (put f s a)
   one_put f zero a h = refl
   one_put f (suc zero) a h = refl
   one_put f (suc (suc zero)) a h = refl
   one_put f (suc (suc (suc s))) a h = absurd (omega arith)
 
-  two_put : (f : ℕ → Registers) (s : ℕ) (a b : Registers) → s < 3 → slice_set (machines parts f) s (record { parts = parts s; registers = b }) ≡ machines parts (put (put f s a) s b)
+  two_put : (f : ℕ → Kept) (s : ℕ) (a b : Kept) → s < 3 → slice_set (machines parts f) s (record { parts = parts s; kept = b }) ≡ machines parts (put (put f s a) s b)
   two_put f zero a b h = refl
   two_put f (suc zero) a b h = refl
   two_put f (suc (suc zero)) a b h = refl
   two_put f (suc (suc (suc s))) a b h = absurd (omega arith)
 
-  put_at : (f : ℕ → Registers) (s : ℕ) (a : Registers) → put f s a s ≡ a
+  put_at : (f : ℕ → Kept) (s : ℕ) (a : Kept) → put f s a s ≡ a
   put_at f s a = ap (λ t. cond t a (f s)) (nat_eq_self s)
 
   module _ (hops limit : ℕ) where
@@ -112,7 +112,7 @@ module _ (parts : ℕ → Parts) where
     limits = record { hops = hops; link = limit }
 
     abbrev W : Type 0
-    W = law.Net Registers Queued Contents
+    W = law.Net Kept Queued Contents
 
     abbrev run : W → List (Event Contents) → W
     run = run_of_halves (machine_of parts) wire_line limits
@@ -158,7 +158,7 @@ module _ (parts : ℕ → Parts) where
 
     module _ (k : ℕ) (more : Way) (onward : Onward k more) (w : W) (n : Net) (s port : ℕ) (frame : List ℕ) (m : ℕ) (comes : Comes w n s port frame m) (passes : m + suc k ≡ hops) where
       -- after the entry half
-      abbrev in_queue : Registers → List Digest → Option Queued → W
+      abbrev in_queue : Kept → List Digest → Option Queued → W
       in_queue cells ds o =
           record w {
             switches = put w.switches s cells;
@@ -169,27 +169,27 @@ module _ (parts : ℕ → Parts) where
           }
 
       -- after the exit half, before the packet goes on
-      abbrev passed_by : Registers → List Digest → Registers → List Digest → Queued → W
+      abbrev passed_by : Kept → List Digest → Kept → List Digest → Queued → W
       passed_by cells ds after es q =
           record (in_queue cells ds (Some q)) {
             switches = put (put w.switches s cells) s after;
             told = (w.told ++ told_by 0 s (map network_digest ds)) ++ told_by 0 s (map network_digest es);
           }
 
-      abbrev net_by : Registers → List Digest → Net
-      net_by after ds = record { switches = slice_set n.switches s (record { parts = parts s; registers = after }); told = n.told ++ map (λ d. (s, d)) ds }
+      abbrev net_by : Kept → List Digest → Net
+      net_by after ds = record { switches = slice_set n.switches s (record { parts = parts s; kept = after }); told = n.told ++ map (λ d. (s, d)) ds }
 
       none_more : w.dropped ++ [] ≡ []
       none_more = append-nil w.dropped ∙ comes.dropped_none
 
       -- what the switches and the digests are after the exit half
-      switches_by : (cells after : Registers) → slice_set n.switches s (record { parts = parts s; registers = after }) ≡ machines parts (put (put w.switches s cells) s after)
-      switches_by cells after = ap (λ l. slice_set l s (record { parts = parts s; registers = after })) comes.switches ∙ two_put w.switches s cells after comes.known
+      switches_by : (cells after : Kept) → slice_set n.switches s (record { parts = parts s; kept = after }) ≡ machines parts (put (put w.switches s cells) s after)
+      switches_by cells after = ap (λ l. slice_set l s (record { parts = parts s; kept = after })) comes.switches ∙ two_put w.switches s cells after comes.known
 
       told_is : (ds es : List Digest) → (w.told ++ told_by 0 s (map network_digest ds)) ++ told_by 0 s (map network_digest es) ≡ map told_of (n.told ++ map (λ d. (s, d)) (ds ++ es))
       told_is ds es = ap (λ l. (l ++ told_by 0 s (map network_digest ds)) ++ told_by 0 s (map network_digest es)) comes.told ∙ told_twice s n.told ds es
 
-      module _ (cells : Registers) (ds : List Digest) (q : Queued) (after : Registers) (es : List Digest) where
+      module _ (cells : Kept) (ds : List Digest) (q : Queued) (after : Kept) (es : List Digest) where
         abbrev here : W
         here = passed_by cells ds after es q
 
@@ -278,31 +278,36 @@ module _ (parts : ℕ → Parts) where
             (by_far g (law.far_end wire_line s g.port) refl)
 
       abbrev machine : Machine
-      machine = record { parts = parts s; registers = w.switches s }
+      machine = record { parts = parts s; kept = w.switches s }
+
+      -- what the switch keeps behind a half: its tables stay
+      abbrev kept_then : Registers → Kept
+      kept_then cells = kept_behind (w.switches s).tables cells
 
       -- where the packet is queued, or dropped
-      queued_by : (cells : Registers) (ds : List Digest) (o : Option Queued) → ShowsWay parts (run (leaves (machine_of parts) wire_line limits (in_queue cells ds o) 0 ((in_queue cells ds o).packets 0)) (behind_it k)) (behind more wire_line_links limit (passed n s (left_from machine cells ds o)) s (left_from machine cells ds o).out)
+      queued_by : (cells : Registers) (ds : List Digest) (o : Option Queued) → ShowsWay parts (run (leaves (machine_of parts) wire_line limits (in_queue (kept_then cells) ds o) 0 ((in_queue (kept_then cells) ds o).packets 0)) (behind_it k)) (behind more wire_line_links limit (passed n s (left_from machine cells ds o)) s (left_from machine cells ds o).out)
       queued_by cells ds None =
-          subst (λ v. ShowsWay parts v (net_by cells ds, dropped)) (sym (over_rests k (in_queue cells ds None) refl))
+          subst (λ v. ShowsWay parts v (net_by (kept_then cells) ds, dropped)) (sym (over_rests k (in_queue (kept_then cells) ds None) refl))
           (record {
-            switches = ap (λ l. slice_set l s (record { parts = parts s; registers = cells })) comes.switches ∙ one_put w.switches s cells comes.known;
+            switches = ap (λ l. slice_set l s (record { parts = parts s; kept = kept_then cells })) comes.switches ∙ one_put w.switches s (kept_then cells) comes.known;
             told = ap (λ l. l ++ told_by 0 s (map network_digest ds)) comes.told ∙ sym (told_more s n.told ds);
             edges = comes.edges;
             dropped = ap (λ l. l ++ 0 ∷ []) comes.dropped_none;
             lost = comes.lost_none;
           })
       queued_by cells ds (Some q) =
-          let half = parts_leave (parts s) cells q in
-          subst (λ cs. ShowsWay parts (run (law_run.left wire_line limits (in_queue cells ds (Some q)) 0 s port m ((machine_of parts).leave s cs q)) (behind_it k)) (behind more wire_line_links limit (passed n s (left_from machine cells ds (Some q))) s (left_from machine cells ds (Some q)).out)) (sym (put_at w.switches s cells))
-          (leaves_by cells ds q half.registers half.digests half.going)
+          let half = parts_leave (parts s) (w.switches s).tables cells q in
+          subst (λ cs. ShowsWay parts (run (law_run.left wire_line limits (in_queue (kept_then cells) ds (Some q)) 0 s port m ((machine_of parts).leave s cs q)) (behind_it k)) (behind more wire_line_links limit (passed n s (left_from machine cells ds (Some q))) s (left_from machine cells ds (Some q)).out)) (sym (put_at w.switches s (kept_then cells)))
+          (leaves_by (kept_then cells) ds q (kept_then half.registers) half.digests half.going)
 
       step : ShowsWay parts (run w (Enter 0 ∷ to_its_end 0 k)) (at_switch more wire_line_links limit n s port frame (slice_get n.switches s))
       step =
-          let half = parts_enter (parts s) (w.switches s) port frame in
-          let enters_is : run w (Enter 0 ∷ to_its_end 0 k) ≡ run (in_queue half.registers half.digests half.queued) (to_its_end 0 k) = ap (λ x. run (enters (machine_of parts) wire_line limits w 0 x) (to_its_end 0 k)) comes.place in
+          let half = parts_enter (parts s) (w.switches s).tables (w.switches s).registers port frame in
+          let queue = in_queue (kept_then half.registers) half.digests half.queued in
+          let enters_is : run w (Enter 0 ∷ to_its_end 0 k) ≡ run queue (to_its_end 0 k) = ap (λ x. run (enters (machine_of parts) wire_line limits w 0 x) (to_its_end 0 k)) comes.place in
           let known_machine : slice_get n.switches s ≡ Some machine = ap (λ l. slice_get l s) comes.switches ∙ machine_is w.switches s comes.known in
-          subst (λ v. ShowsWay parts v (at_switch more wire_line_links limit n s port frame (slice_get n.switches s))) (sym (enters_is ∙ next_events k (in_queue half.registers half.digests half.queued)))
-          (subst (λ o. ShowsWay parts (run (leaves (machine_of parts) wire_line limits (in_queue half.registers half.digests half.queued) 0 ((in_queue half.registers half.digests half.queued).packets 0)) (behind_it k)) (at_switch more wire_line_links limit n s port frame o)) (sym known_machine)
+          subst (λ v. ShowsWay parts v (at_switch more wire_line_links limit n s port frame (slice_get n.switches s))) (sym (enters_is ∙ next_events k queue))
+          (subst (λ o. ShowsWay parts (run (leaves (machine_of parts) wire_line limits queue 0 (queue.packets 0)) (behind_it k)) (at_switch more wire_line_links limit n s port frame o)) (sym known_machine)
           (queued_by half.registers half.digests half.queued))
 
     follows : (k : ℕ) → Follows k (travel k wire_line_links limit)
@@ -310,7 +315,7 @@ module _ (parts : ℕ → Parts) where
     follows (suc k) w n s port frame m comes passes = step (suc k) (travel k wire_line_links limit) (follows k) w n s port frame m comes passes
 
   -- the first step leaves the packet where it is
-  from_start : (k limit : ℕ) (w : law.Net Registers Queued Contents) (n : Net) (s port : ℕ) (frame : List ℕ) → Comes (suc k) limit w n s port frame 0
+  from_start : (k limit : ℕ) (w : law.Net Kept Queued Contents) (n : Net) (s port : ℕ) (frame : List ℕ) → Comes (suc k) limit w n s port frame 0
       → ShowsWay parts (run_of_halves (machine_of parts) wire_line (limits (suc k) limit) w (to_its_end 0 (suc k) ++ [])) (travel k wire_line_links limit n s port frame)
   from_start k limit w n s port frame comes =
       subst (λ es. ShowsWay parts (run_of_halves (machine_of parts) wire_line (limits (suc k) limit) w es) (travel k wire_line_links limit n s port frame)) (sym (append-nil (to_its_end 0 (suc k))))

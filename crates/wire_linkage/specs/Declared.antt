@@ -1,26 +1,7 @@
 -- The names that a program declares.
 use Rattle.std.specs.Prelude.{ℕ, List, [], ◌∷◌, ◌++◌, map}
-use Rattle.p4_tree.specs.Tree.{Stmt, Stmts, MaybeStmt, nothing, block, var, assign, choice, return_, exit_, call, done, next, without, otherwise, stmts_from, ParserState, Action, Local, local_action, local_table, local_register, local_const, local_var, Top, constant, typedef, header_type, struct_type, register, parser, control, Program}
-
-abbrev mutual
-  -- of a statement and its parts
-  pub names_in_stmt : Stmt → List (List ℕ)
-  names_in_stmt (nothing p) = []
-  names_in_stmt (block p ss) = names_in ss
-  names_in_stmt (var p ty x e) = x ∷ []
-  names_in_stmt (assign p target e) = []
-  names_in_stmt (choice p e a b) = names_in_stmt a ++ names_in_else b
-  names_in_stmt (return_ p) = []
-  names_in_stmt (exit_ p) = []
-  names_in_stmt (call p callee args) = []
-
-  pub names_in_else : MaybeStmt → List (List ℕ)
-  names_in_else without = []
-  names_in_else (otherwise s) = names_in_stmt s
-
-  pub names_in : Stmts → List (List ℕ)
-  names_in done = []
-  names_in (next s ss) = names_in_stmt s ++ names_in ss
+use Rattle.p4_meaning.specs.Scope.{names_in}
+use Rattle.p4_tree.specs.Tree.{stmts_from, ParserState, Action, Local, local_action, local_table, local_register, local_const, local_var, Top, constant, typedef, header_type, struct_type, register, parser, control, Program}
 
 -- of an action: its parameters and variables among them
 abbrev pub names_of_action : Action → List (List ℕ)

@@ -3,7 +3,8 @@
 use Rattle.std.specs.Prelude.{ℕ, List, [], ◌∷◌}
 use Rattle.p4_tree.specs.Tree.{Program}
 use Rattle.p4_meaning.specs.Parts.{parts_of}
-use Rattle.p4_meaning.specs.Pass.{Registers, Queued}
+use Rattle.p4_meaning.specs.Tables.{Tables, tables_before}
+use Rattle.p4_meaning.specs.Pass.{Kept, Queued}
 use Rattle.indus_tree.specs.Tree.{Property}
 use Rattle.indus_tree.specs.State.{Contents, members}
 use Rattle.network_run.specs.Machine.{Machine}
@@ -20,25 +21,25 @@ abbrev pub program_at : Property → (switch : ℕ) → Program
 program_at p s = linked_wire p (ports_at wire_line.links s)
 
 -- these programs at the switches
-abbrev pub line_of : (programs : (switch : ℕ) → Program) → Machine (Unit {0}) Registers Queued Contents
+abbrev pub line_of : (programs : (switch : ℕ) → Program) → Machine Tables Kept Queued Contents
 line_of programs = machine_of (λ s. parts_of (programs s))
 
 -- the wire program at each switch
-abbrev pub plain_line : Machine (Unit {0}) Registers Queued Contents
+abbrev pub plain_line : Machine Tables Kept Queued Contents
 plain_line = line_of (λ s. wire_program)
 
 -- one packet that comes to the first switch by port 1 and may pass 64 switches, without a schedule: it goes on
--- to its end. No number names a control variable, so their contents are no matter
-abbrev pub one_packet : (frame : List ℕ) → World (Unit {0}) Contents
+-- to its end. Nothing is loaded into tables, and no number names a control variable, so their contents are no matter
+abbrev pub one_packet : (frame : List ℕ) → World Tables Contents
 one_packet frame =
     record {
       hops = 64;
-      entries = λ s. tt;
+      entries = λ s. tables_before (parts_of wire_program).tables;
       contents = λ s v. members [];
       packets = record { switch = 0; port = 1; frame = frame } ∷ [];
       events = [];
     }
 
 -- the network of these programs at the end, on whose links a frame is longer by the property's telemetry
-unfoldable pub run_of_frame : (programs : (switch : ℕ) → Program) → Property → (frame : List ℕ) → Net Registers Queued Contents
+unfoldable pub run_of_frame : (programs : (switch : ℕ) → Program) → Property → (frame : List ℕ) → Net Kept Queued Contents
 run_of_frame programs p frame = net_at_end (line_of programs) wire_line (telemetry_of p.decls).size (one_packet frame)

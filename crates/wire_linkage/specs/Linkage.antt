@@ -5,7 +5,6 @@ use Rattle.p4_tree.specs.Tree.{Program}
 use Rattle.p4_meaning.specs.Parts.{parts_of}
 use Rattle.indus_tree.specs.Tree.{Property}
 use Rattle.indus_tree.specs.Law.{law_of}
-use Rattle.indus_tree.specs.State.{Contents}
 use Rattle.lex_text.specs.Marks.{is_one_of}
 use Rattle.linkage.specs.Linkage.{Linkage}
 use Rattle.wire_program.specs.WireProgram.{wire_program}

@@ -1,7 +1,8 @@
 -- The way of one packet that the program computes, beside the run of the network law.
 use Rattle.std.specs.Prelude.{◌≡◌, ℕ, List, [], ◌∷◌, map}
 use Rattle.p4_meaning.specs.Parts.{Parts, parts_of}
-use Rattle.p4_meaning.specs.Pass.{Registers, Queued, start_cells}
+use Rattle.p4_meaning.specs.Tables.{tables_before}
+use Rattle.p4_meaning.specs.Pass.{Kept, Queued, kept_before}
 use Rattle.p4_meaning.specs.Statements.{Digest}
 use Rattle.indus_tree.specs.Tree.{Property}
 use Rattle.indus_tree.specs.State.{Contents}
@@ -20,17 +21,20 @@ wire_line_links =
     ∷ []
 
 -- the three switches, each with its program
-abbrev pub machines : (parts : ℕ → Parts) → (registers : ℕ → Registers) → List Machine
+abbrev pub machines : (parts : ℕ → Parts) → (kept : ℕ → Kept) → List Machine
 machines parts f =
-    record { parts = parts 0; registers = f 0 }
-    ∷ record { parts = parts 1; registers = f 1 }
-    ∷ record { parts = parts 2; registers = f 2 }
+    record { parts = parts 0; kept = f 0 }
+    ∷ record { parts = parts 1; kept = f 1 }
+    ∷ record { parts = parts 2; kept = f 2 }
     ∷ []
 
--- the switches before the packet comes
+-- the switches before the packet comes, into whose tables nothing is loaded
 abbrev pub net_before : Property → Net
 net_before p =
-    record { switches = machines (λ s. parts_of (program_at p s)) (λ s. start_cells (parts_of (program_at p s)).registers); told = [] }
+    record {
+      switches = machines (λ s. parts_of (program_at p s)) (λ s. kept_before (parts_of (program_at p s)) (tables_before (parts_of (program_at p s)).tables));
+      told = [];
+    }
 
 -- a digest of packet 0
 abbrev pub told_of : ℕ × Digest → law.Told
@@ -53,7 +57,7 @@ lost_of dropped = []
 lost_of lost = 0 ∷ []
 
 -- the run shows what the way gave
-pub record ShowsWay (parts : ℕ → Parts) (w : law.Net Registers Queued Contents) (way : Net × Fate) : Type 0 where
+pub record ShowsWay (parts : ℕ → Parts) (w : law.Net Kept Queued Contents) (way : Net × Fate) : Type 0 where
   pub switches : way.0.switches ≡ machines parts w.switches
   pub told : w.told ≡ map told_of way.0.told
   pub edges : w.edges ≡ edges_of way.1

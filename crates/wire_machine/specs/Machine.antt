@@ -2,24 +2,25 @@
 use Rattle.std.specs.Prelude.{ℕ, List, Option, Some, None}
 use Rattle.std.specs.Option.{option_map}
 use Rattle.p4_meaning.specs.Parts.{Parts}
-use Rattle.p4_meaning.specs.Pass.{Registers, Queued, Going}
+use Rattle.p4_meaning.specs.Pass.{Kept, Queued, Going}
 use Rattle.wire_parts.specs.PartsIn.{parts_in}
 use Rattle.wire_statements.specs.Fields.{store_of}
 use Rattle.wire_machine.specs.Rests.{rest_in}
 use Rattle.wire_statements.specs.Runs.{cells_in}
+use Rattle.wire_statements.specs.Held.{held_in}
 use Rattle.wire_machine.specs.declared.queued.Queued as code_queued
 use Rattle.wire_machine.specs.declared.switch.Switch as code_switch
 use Rattle.wire_machine.specs.declared.passed.Passed as code_passed
 use Rattle.wire_machine.specs.declared.passed.Passed.TheVariants as passed
 
--- a switch: the parts of its program, and the cells of its registers
+-- a switch: the parts of its program, and what it keeps from packet to packet
 pub record Machine : Type 0 where
   pub parts : Parts
-  pub registers : Registers
+  pub kept : Kept
 
 -- what a switch keeps
 abbrev pub machine_of : code_switch.Switch → Machine
-machine_of s = record { parts = parts_in s.parts; registers = cells_in s.registers.items }
+machine_of s = record { parts = parts_in s.parts; kept = record { registers = cells_in s.registers.items; tables = held_in s.tables.items } }
 
 -- a packet that waits for egress
 abbrev pub queued_of : code_queued.Queued → Queued

@@ -11,8 +11,9 @@ ghost use Rattle.wire_parts.specs.PartsIn.{parts_in};
 
 use bit_values::{Bits, sound_width};
 use lex_text::Name;
+use p4_values::path_of_one;
 use std::alloc::{AllocError, Global};
-use wire_parts::{Field, Header, Parts, path_of_one};
+use wire_parts::{Field, Header, Parts};
 use wire_statements::{Fields, standard_path};
 
 /// A number without its width.
@@ -65,28 +66,22 @@ fn zero_fields(
 ) -> Result<(), AllocError>
     ensures { OnOk result (store_of s.new ≡ zero_fields path.now (map field_in fields.now) (store_of s.old)) }
 {
-    match fields {
-        [] => Ok(()),
-        [f, fields @ ..] => {
-            let zero = Bits::default().cast(sound_width(f.width));
-            s.set_field(alloc, path, &f.name, zero)?;
-            zero_fields(alloc, path, fields, s)
-        }
+    for f in fields {
+        let zero = Bits::default().cast(sound_width(f.width));
+        s.set_field(alloc, path, &f.name, zero)?;
     }
+    Ok(())
 }
 
 /// The headers are invalid, and their fields 0.
 fn no_headers(alloc: Global, headers: &[Header], s: &mut Fields) -> Result<(), AllocError>
     ensures { OnOk result (store_of s.new ≡ no_headers (map header_in headers.now) (store_of s.old)) }
 {
-    match headers {
-        [] => Ok(()),
-        [h, headers @ ..] => {
-            s.set_valid(alloc, &h.path, false)?;
-            zero_fields(alloc, &h.path, &h.fields, s)?;
-            no_headers(alloc, headers, s)
-        }
+    for h in headers {
+        s.set_valid(alloc, &h.path, false)?;
+        zero_fields(alloc, &h.path, &h.fields, s)?;
     }
+    Ok(())
 }
 
 /// The standard metadata before the parser.

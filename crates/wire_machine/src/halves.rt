@@ -4,8 +4,9 @@ ghost use Rattle.std.specs.Prelude.{◌≡◌, ◌≤◌, ◌*◌, ◌++◌, len
 ghost use Rattle.bit_values.specs.Bits.{cast};
 ghost use Rattle.bit_values.specs.Bytes.{bits_of};
 ghost use Rattle.p4_meaning.specs.Statements.{no_calls, meaning_of};
+ghost use Rattle.wire_statements.specs.Held.{held_in};
 ghost use Rattle.p4_meaning.specs.Parts.{whole};
-ghost use Rattle.p4_meaning.specs.Pass.{is_dropped, store_behind, run_from, error_number};
+ghost use Rattle.p4_meaning.specs.Pass.{calls_of, is_dropped, store_behind, run_from, error_number};
 ghost use Rattle.wire_parts.specs.PartsIn.{parts_in};
 ghost use Rattle.wire_statements.specs.Fields.{store_of};
 ghost use Rattle.wire_machine.specs.Places.{error_of};
@@ -20,7 +21,7 @@ use lex_text::Name;
 use std::alloc::{AllocError, Global};
 use std::mem;
 use wire_parts::Parts;
-use wire_statements::{Digest, Fields, Run, run_body};
+use wire_statements::{Digest, Entries, Fields, Held, NoCalls, Run, run_body};
 
 fn error_number(e: ParserError) -> u128
     ensures value { result ≡ error_number (error_of e) }
@@ -74,18 +75,28 @@ fn append(told: &mut Vec<Digest>, digests: Vec<Digest>) -> Result<(), AllocError
     Ok(())
 }
 
-fn run_ingress(alloc: Global, p: &Parts, r: &mut Run) -> Result<(), AllocError>
-    ensures { OnOk result (run_of r.new ≡ (meaning_of no_calls (whole (parts_in p.now).ingress) (meaning_of no_calls (parts_in p.now).verify (run_of r.old)).0).0) }
+fn run_ingress(
+    alloc: Global,
+    p: &Parts,
+    tables: &[(Name, Entries)],
+    r: &mut Run,
+) -> Result<(), AllocError>
+    ensures { OnOk result (run_of r.new ≡ (meaning_of (calls_of (parts_in p.now) (held_in tables.now)) (whole (parts_in p.now).ingress) (meaning_of no_calls (parts_in p.now).verify (run_of r.old)).0).0) }
 {
-    let _ = run_body(alloc, &p.verify, r)?;
-    let _ = run_body(alloc, &p.ingress, r)?;
+    let _ = run_body(alloc, &NoCalls, &p.verify, r)?;
+    let _ = run_body(alloc, &Held { parts: p, tables }, &p.ingress, r)?;
     Ok(())
 }
 
-fn run_egress(alloc: Global, p: &Parts, r: &mut Run) -> Result<(), AllocError>
-    ensures { OnOk result (run_of r.new ≡ (meaning_of no_calls (whole (parts_in p.now).egress) (run_of r.old)).0) }
+fn run_egress(
+    alloc: Global,
+    p: &Parts,
+    tables: &[(Name, Entries)],
+    r: &mut Run,
+) -> Result<(), AllocError>
+    ensures { OnOk result (run_of r.new ≡ (meaning_of (calls_of (parts_in p.now) (held_in tables.now)) (whole (parts_in p.now).egress) (run_of r.old)).0) }
 {
-    let _ = run_body(alloc, &p.egress, r)?;
+    let _ = run_body(alloc, &Held { parts: p, tables }, &p.egress, r)?;
     Ok(())
 }
 
@@ -93,16 +104,17 @@ fn run_egress(alloc: Global, p: &Parts, r: &mut Run) -> Result<(), AllocError>
 pub fn ingress(
     alloc: Global,
     p: &Parts,
+    tables: &[(Name, Entries)],
     fields: Fields,
     registers: &mut Vec<(Name, Vec<Bits>)>,
     told: &mut Vec<Digest>,
 ) -> Result<Fields, AllocError>
-    ensures store { IfOk result (λ s. store_of s ≡ (ingress_run (parts_in p.now) (store_of fields) (cells_in registers.old.items)).store) }
-    ensures cells { OnOk result (cells_in registers.new.items ≡ (ingress_run (parts_in p.now) (store_of fields) (cells_in registers.old.items)).cells) }
-    ensures told { OnOk result (map digest_of told.new.items ≡ map digest_of told.old.items ++ (ingress_run (parts_in p.now) (store_of fields) (cells_in registers.old.items)).digests) }
+    ensures store { IfOk result (λ s. store_of s ≡ (ingress_run (parts_in p.now) (held_in tables.now) (store_of fields) (cells_in registers.old.items)).store) }
+    ensures cells { OnOk result (cells_in registers.new.items ≡ (ingress_run (parts_in p.now) (held_in tables.now) (store_of fields) (cells_in registers.old.items)).cells) }
+    ensures told { OnOk result (map digest_of told.new.items ≡ map digest_of told.old.items ++ (ingress_run (parts_in p.now) (held_in tables.now) (store_of fields) (cells_in registers.old.items)).digests) }
 {
     let mut r = run_from(alloc, fields, registers);
-    let ran = run_ingress(alloc, p, &mut r);
+    let ran = run_ingress(alloc, p, tables, &mut r);
     let Run {
         fields,
         registers: left,
@@ -118,16 +130,17 @@ pub fn ingress(
 pub fn egress(
     alloc: Global,
     p: &Parts,
+    tables: &[(Name, Entries)],
     fields: Fields,
     registers: &mut Vec<(Name, Vec<Bits>)>,
     told: &mut Vec<Digest>,
 ) -> Result<Fields, AllocError>
-    ensures store { IfOk result (λ s. store_of s ≡ (egress_run (parts_in p.now) (store_of fields) (cells_in registers.old.items)).store) }
-    ensures cells { OnOk result (cells_in registers.new.items ≡ (egress_run (parts_in p.now) (store_of fields) (cells_in registers.old.items)).cells) }
-    ensures told { OnOk result (map digest_of told.new.items ≡ map digest_of told.old.items ++ (egress_run (parts_in p.now) (store_of fields) (cells_in registers.old.items)).digests) }
+    ensures store { IfOk result (λ s. store_of s ≡ (egress_run (parts_in p.now) (held_in tables.now) (store_of fields) (cells_in registers.old.items)).store) }
+    ensures cells { OnOk result (cells_in registers.new.items ≡ (egress_run (parts_in p.now) (held_in tables.now) (store_of fields) (cells_in registers.old.items)).cells) }
+    ensures told { OnOk result (map digest_of told.new.items ≡ map digest_of told.old.items ++ (egress_run (parts_in p.now) (held_in tables.now) (store_of fields) (cells_in registers.old.items)).digests) }
 {
     let mut r = run_from(alloc, fields, registers);
-    let ran = run_egress(alloc, p, &mut r);
+    let ran = run_egress(alloc, p, tables, &mut r);
     let Run {
         fields,
         registers: left,
@@ -148,7 +161,7 @@ pub fn computed(alloc: Global, p: &Parts, fields: Fields) -> Result<Fields, Allo
         registers: Vec::new(alloc),
         digests: Vec::new(alloc),
     };
-    let _ = run_body(alloc, &p.compute, &mut r)?;
+    let _ = run_body(alloc, &NoCalls, &p.compute, &mut r)?;
     Ok(r.fields)
 }
 

@@ -1,9 +1,10 @@
 //! A switch that runs a P4 program as a tree, on maps by name.
 //!
-//! The layers above get `Switch`: a program's parts and the cells of its registers, with the two
-//! halves of a pass, `enter` and `leave`. Contracts see a switch as a `Machine` of `specs/`, and
-//! what each half does as `parts_enter` and `parts_leave` of the trees' meaning. What statements do,
-//! and the type of a digest, stand in `wire_statements`.
+//! The layers above get `Switch`: a program's parts, the cells of its registers and what its tables
+//! hold, with the two halves of a pass, `enter` and `leave`, and `set_table`, which replaces what one
+//! table holds. Contracts see a switch as a `Machine` of `specs/`, and what each half does as
+//! `parts_enter` and `parts_leave` of the trees' meaning. What statements do, and the types of digests
+//! and entries, stand in `wire_statements`.
 //!
 //! Follows: P4_16 Language Specification and v1model, this project's subset.
 //!
@@ -13,6 +14,7 @@
 
 mod begin;
 mod halves;
+mod held;
 mod parse;
 mod passed;
 mod queued;

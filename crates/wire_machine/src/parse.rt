@@ -10,9 +10,10 @@ ghost use Rattle.wire_machine.specs.Places.{reading_of, parsed_of, StepsWithin};
 use bit_values::take_bits;
 use lex_text::Name;
 use p4_tree::{Arg, Expr, Stmt};
+use p4_values::{same_path, value_of};
 use std::alloc::{AllocError, Global};
-use wire_parts::{Field, Header, same_path};
-use wire_statements::{Fields, assign, value_of};
+use wire_parts::{Field, Header};
+use wire_statements::{Fields, assign};
 
 /// How a parser ends.
 #[derive(Clone, Copy, Debug, PartialEq, Eq)]
@@ -26,13 +27,15 @@ pub enum ParserError {
 fn has_room(fields: &[Field], room: usize) -> bool
     ensures { result ≡ nat_le (width_sum (map field_in fields.now)) room }
 {
-    match fields {
-        [] => true,
-        [f, fields @ ..] => {
-            let width = f.width as usize;
-            width <= room && has_room(fields, room - width)
+    let mut left = room;
+    for f in fields {
+        let width = f.width as usize;
+        if width > left {
+            return false;
         }
+        left -= width;
     }
+    true
 }
 
 /// Reads a field of a header.
@@ -66,14 +69,12 @@ fn take_fields(
     ensures taken { IfOk result (λ end. reading_of s.new frame.now end ≡ fields_taken path.now (map field_in fields.now) (reading_of s.old frame.now at)) }
     ensures end { IfOk result (λ end. end ≡ at + width_sum (map field_in fields.now)) }
 {
-    match fields {
-        [] => Ok(at),
-        [f, fields @ ..] => {
-            let width = f.width;
-            take_field(alloc, path, f, frame, at, s)?;
-            take_fields(alloc, path, fields, frame, at + width as usize, s)
-        }
+    let mut end = at;
+    for f in fields {
+        take_field(alloc, path, f, frame, end, s)?;
+        end += f.width as usize;
     }
+    Ok(end)
 }
 
 /// Where the parser is, in bits from the frame's start, and whether it goes on.
@@ -119,16 +120,12 @@ fn extract_at(
     ensures parsed { IfOk result (λ step. parsed_of step s.new frame.now ≡ extracted_at (map header_in headers.now) path.now (reading_of s.old frame.now at)) }
     ensures within { IfOk result (λ step. StepsWithin step (8 * length frame.now)) }
 {
-    match headers {
-        [] => Ok(Step::On(at)),
-        [h, headers @ ..] => {
-            if same_path(&h.path, path) {
-                extract(alloc, h, frame, at, s)
-            } else {
-                extract_at(alloc, headers, path, frame, at, s)
-            }
+    for h in headers {
+        if same_path(&h.path, path) {
+            return extract(alloc, h, frame, at, s);
         }
     }
+    Ok(Step::On(at))
 }
 
 /// A call in a state.
@@ -203,11 +200,12 @@ pub fn parse_body(
     ensures parsed { IfOk result (λ step. parsed_of step s.new frame.now ≡ body_parsed (map header_in headers.now) (map stmt_of body.now) (reading_of s.old frame.now at)) }
     ensures within { IfOk result (λ step. StepsWithin step (8 * length frame.now)) }
 {
-    match body {
-        [] => Ok(Step::On(at)),
-        [st, body @ ..] => match parse_stmt(alloc, headers, st, frame, at, s)? {
-            Step::Stop(at, e) => Ok(Step::Stop(at, e)),
-            Step::On(at) => parse_body(alloc, headers, body, frame, at, s),
-        },
+    let mut here = at;
+    for st in body {
+        match parse_stmt(alloc, headers, st, frame, here, s)? {
+            Step::Stop(end, e) => return Ok(Step::Stop(end, e)),
+            Step::On(next) => here = next,
+        }
     }
+    Ok(Step::On(here))
 }

@@ -11,8 +11,9 @@ use crate::parse::ParserError;
 use bit_values::Bits;
 use lex_text::Name;
 use p4_tree::{Expr, Keyset, Transition};
+use p4_values::{value_of, values_of};
 use std::alloc::{AllocError, Global};
-use wire_statements::{Fields, value_of, values_of};
+use wire_statements::Fields;
 
 fn fits(k: &Keyset, key: Bits, s: &Fields) -> bool
     ensures { result ≡ fits (keyset_of k.now) key (store_of s.now) }
@@ -31,13 +32,18 @@ fn fits(k: &Keyset, key: Bits, s: &Fields) -> bool
 fn fits_each(sets: &[Keyset], keys: &[Bits], s: &Fields) -> bool
     ensures { result ≡ fits_each (map keyset_of sets.now) keys.now (store_of s.now) }
 {
-    match sets {
-        [] => keys.is_empty(),
-        [k, sets @ ..] => match keys {
-            [] => false,
-            [key, keys @ ..] => fits(k, *key, s) && fits_each(sets, keys, s),
-        },
+    for i in 0..sets.len() {
+        if i >= keys.len() {
+            return false;
+        }
+        if !fits(&sets[i], keys[i], s) {
+            return false;
+        }
     }
+    if sets.len() < keys.len() {
+        return false;
+    }
+    true
 }
 
 fn fits_all(sets: &[Keyset], keys: &[Bits], s: &Fields) -> bool
@@ -59,16 +65,12 @@ fn fits_all(sets: &[Keyset], keys: &[Bits], s: &Fields) -> bool
 fn first_fit<'a>(cases: &'a [(Vec<Keyset>, Name)], keys: &[Bits], s: &Fields) -> Option<&'a Name>
     ensures { name_of result ≡ first_fit (map case_of cases.now) keys.now (store_of s.now) }
 {
-    match cases {
-        [] => None,
-        [c, cases @ ..] => {
-            if fits_all(&c.0, keys, s) {
-                Some(&c.1)
-            } else {
-                first_fit(cases, keys, s)
-            }
+    for c in cases {
+        if fits_all(&c.0, keys, s) {
+            return Some(&c.1);
         }
     }
+    None
 }
 
 /// Where a state leads.

@@ -11,8 +11,9 @@ use crate::parse::{ParserError, Step, parse_body};
 use crate::select::{Led, state_after};
 use lex_text::Name;
 use p4_tree::ParserState;
+use p4_values::same_text;
 use std::alloc::{AllocError, Global};
-use wire_parts::{Header, same_text};
+use wire_parts::Header;
 use wire_statements::Fields;
 
 /// How a state ends: the parser ends, or another state follows.

@@ -1,17 +1,20 @@
 //! A switch.
 
 ghost use Rattle.std.specs.Prelude.{◌≡◌, ◌≤◌, ◌++◌, length, slice_get, IfOk, OnOk, map};
+ghost use Rattle.std.specs.Option.{option_map};
+ghost use Rattle.bit_values.specs.Bits.{cast};
 ghost use Rattle.p4_tree.specs.View.{program_of};
 ghost use Rattle.p4_meaning.specs.Parts.{parts_of};
-ghost use Rattle.p4_meaning.specs.Pass.{parts_enter, parts_leave, registers_before, start_cells, zero_cells};
-ghost use Rattle.wire_parts.specs.PartsIn.{cells_decl};
-ghost use Rattle.bit_values.specs.Bits.{cast};
-ghost use Rattle.wire_machine.specs.Machine.{goes_to, machine_of, passed_of, queued_of};
-ghost use Rattle.std.specs.Option.{option_map};
+ghost use Rattle.p4_meaning.specs.Tables.{tables_before};
+ghost use Rattle.p4_meaning.specs.Pass.{kept_before, parts_enter, parts_leave, start_cells, zero_cells};
+ghost use Rattle.wire_parts.specs.PartsIn.{cells_decl, chosen_in, table_in};
+ghost use Rattle.wire_statements.specs.Held.{default_or, entry_of, held_in, put_entries};
 ghost use Rattle.wire_statements.specs.Runs.{cells_in, digest_of};
+ghost use Rattle.wire_machine.specs.Machine.{goes_to, machine_of, passed_of, queued_of};
 
 use crate::begin::standard_value;
 use crate::halves::{computed, egress, ingress, is_dropped, parse};
+use crate::held::{put_table, start_tables};
 use crate::passed::Passed;
 use crate::queued::{Queued, queue, taken};
 use crate::write::write_frame;
@@ -19,14 +22,15 @@ use bit_values::{Bits, sound_width};
 use lex_text::Name;
 use p4_tree::Program;
 use std::alloc::{AllocError, Global};
-use wire_parts::{Cells, Parts, parts_of};
-use wire_statements::{Digest, cells_of};
+use wire_parts::{Cells, Chosen, Parts, parts_of};
+use wire_statements::{Digest, Entries, Entry, cells_of};
 
-/// A switch that runs a program: its parts, and the cells of its registers.
+/// A switch that runs a program: its parts, the cells of its registers, and what its tables hold.
 #[derive(Drop)]
 pub struct Switch {
     parts: Parts,
     registers: Vec<(Name, Vec<Bits>)>,
+    tables: Vec<(Name, Entries)>,
 }
 
 /// So many cells that are 0.
@@ -55,14 +59,20 @@ fn start_cells(alloc: Global, declared: &[Cells]) -> Result<Vec<(Name, Vec<Bits>
 }
 
 impl Switch {
-    /// A switch that runs a program, with registers that are 0.
+    /// A switch that runs a program: its registers are 0, and each table has no entry and the default
+    /// that is written.
     pub fn new(alloc: Global, program: &Program) -> Result<Switch, AllocError>
         ensures parts { IfOk result (λ s. (machine_of s).parts ≡ parts_of (program_of program.now)) }
-        ensures registers { IfOk result (λ s. (machine_of s).registers ≡ registers_before (program_of program.now)) }
+        ensures kept { IfOk result (λ s. (machine_of s).kept ≡ kept_before (parts_of (program_of program.now)) (tables_before (parts_of (program_of program.now)).tables)) }
     {
         let parts = parts_of(alloc, program)?;
         let registers = start_cells(alloc, &parts.registers)?;
-        Ok(Switch { parts, registers })
+        let tables = start_tables(alloc, &parts.tables)?;
+        Ok(Switch {
+            parts,
+            registers,
+            tables,
+        })
     }
 
     /// A frame enters by a port: parser, verify checksum and ingress. `None` says that the packet
@@ -77,13 +87,21 @@ impl Switch {
         told: &mut Vec<Digest>,
     ) -> Result<Option<Queued>, AllocError>
         requires { length frame.now ≤ 65791 }
-        ensures kept { (machine_of self.new).parts ≡ (machine_of self.old).parts }
-        ensures registers { OnOk result ((machine_of self.new).registers ≡ (parts_enter (machine_of self.old).parts (machine_of self.old).registers port frame.now).registers) }
-        ensures told { OnOk result (map digest_of told.new.items ≡ map digest_of told.old.items ++ (parts_enter (machine_of self.old).parts (machine_of self.old).registers port frame.now).digests) }
-        ensures queued { IfOk result (λ q. option_map queued_of q ≡ (parts_enter (machine_of self.old).parts (machine_of self.old).registers port frame.now).queued) }
+        ensures parts { (machine_of self.new).parts ≡ (machine_of self.old).parts }
+        ensures tables { (machine_of self.new).kept.tables ≡ (machine_of self.old).kept.tables }
+        ensures registers { OnOk result ((machine_of self.new).kept.registers ≡ (parts_enter (machine_of self.old).parts (machine_of self.old).kept.tables (machine_of self.old).kept.registers port frame.now).registers) }
+        ensures told { OnOk result (map digest_of told.new.items ≡ map digest_of told.old.items ++ (parts_enter (machine_of self.old).parts (machine_of self.old).kept.tables (machine_of self.old).kept.registers port frame.now).digests) }
+        ensures queued { IfOk result (λ q. option_map queued_of q ≡ (parts_enter (machine_of self.old).parts (machine_of self.old).kept.tables (machine_of self.old).kept.registers port frame.now).queued) }
     {
         let (fields, at) = parse(alloc, &self.parts, port, frame)?;
-        let fields = ingress(alloc, &self.parts, fields, &mut self.registers, told)?;
+        let fields = ingress(
+            alloc,
+            &self.parts,
+            &self.tables,
+            fields,
+            &mut self.registers,
+            told,
+        )?;
         let queued = queue(alloc, &self.parts, fields, frame, at)?;
         Ok(queued)
     }
@@ -98,13 +116,21 @@ impl Switch {
         queued: Queued,
         told: &mut Vec<Digest>,
     ) -> Result<Passed, AllocError>
-        ensures kept { (machine_of self.new).parts ≡ (machine_of self.old).parts }
-        ensures registers { OnOk result ((machine_of self.new).registers ≡ (parts_leave (machine_of self.old).parts (machine_of self.old).registers (queued_of queued)).registers) }
-        ensures told { OnOk result (map digest_of told.new.items ≡ map digest_of told.old.items ++ (parts_leave (machine_of self.old).parts (machine_of self.old).registers (queued_of queued)).digests) }
-        ensures passed { IfOk result (λ x. passed_of x ≡ goes_to (parts_leave (machine_of self.old).parts (machine_of self.old).registers (queued_of queued)).going) }
+        ensures parts { (machine_of self.new).parts ≡ (machine_of self.old).parts }
+        ensures tables { (machine_of self.new).kept.tables ≡ (machine_of self.old).kept.tables }
+        ensures registers { OnOk result ((machine_of self.new).kept.registers ≡ (parts_leave (machine_of self.old).parts (machine_of self.old).kept.tables (machine_of self.old).kept.registers (queued_of queued)).registers) }
+        ensures told { OnOk result (map digest_of told.new.items ≡ map digest_of told.old.items ++ (parts_leave (machine_of self.old).parts (machine_of self.old).kept.tables (machine_of self.old).kept.registers (queued_of queued)).digests) }
+        ensures passed { IfOk result (λ x. passed_of x ≡ goes_to (parts_leave (machine_of self.old).parts (machine_of self.old).kept.tables (machine_of self.old).kept.registers (queued_of queued)).going) }
     {
         let (waiting, rest) = taken(queued);
-        let left = egress(alloc, &self.parts, waiting, &mut self.registers, told)?;
+        let left = egress(
+            alloc,
+            &self.parts,
+            &self.tables,
+            waiting,
+            &mut self.registers,
+            told,
+        )?;
         let drops = is_dropped(alloc, &left)?;
         if drops {
             return Ok(Passed::Dropped);
@@ -116,9 +142,25 @@ impl Switch {
         Ok(Passed::Out { port, frame })
     }
 
+    /// One table, by its full name, holds these entries, and, where it is given, this default.
+    pub fn set_table(
+        &mut self,
+        alloc: Global,
+        table: &str,
+        listed: Vec<Entry>,
+        default: Option<Chosen>,
+    ) -> Result<(), AllocError>
+        ensures parts { (machine_of self.new).parts ≡ (machine_of self.old).parts }
+        ensures registers { (machine_of self.new).kept.registers ≡ (machine_of self.old).kept.registers }
+        ensures tables { OnOk result ((machine_of self.new).kept.tables ≡ put_entries (machine_of self.old).kept.tables table.now (record { listed = map entry_of listed.items; default = default_or default ((machine_of self.old).kept.tables table.now).default })) }
+    {
+        put_table(alloc, &mut self.tables, table, listed, default)?;
+        Ok(())
+    }
+
     /// A cell of a register; `None` where there is no such cell.
     pub fn cell(&self, register: &str, index: usize) -> Option<Bits>
-        ensures { result ≡ slice_get ((machine_of self.now).registers register.now) index }
+        ensures { result ≡ slice_get ((machine_of self.now).kept.registers register.now) index }
     {
         cells_of(&self.registers, register).get(index).copied()
     }

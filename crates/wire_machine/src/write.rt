@@ -3,7 +3,7 @@
 ghost use Rattle.std.specs.Prelude.{◌≡◌, ◌++◌, IfOk, OnOk, map};
 ghost use Rattle.bit_writer.specs.Bytes.{bytes_of};
 ghost use Rattle.bit_writer.specs.Written.{bits_in};
-ghost use Rattle.p4_meaning.specs.Parsing.{fields_bits, header_bits, deparse_of};
+ghost use Rattle.p4_meaning.specs.Parsing.{fields_bits, header_bits, deparse_of, if_valid};
 ghost use Rattle.wire_statements.specs.Fields.{store_of};
 ghost use Rattle.wire_parts.specs.Headers.{field_in, header_in};
 ghost use Rattle.wire_parts.specs.Paths.{path_in};
@@ -13,8 +13,9 @@ ghost use Rattle.wire_machine.specs.Rests.{rest_in};
 use crate::rest::Rest;
 use bit_writer::BitWriter;
 use lex_text::Name;
+use p4_values::{Sight, same_path};
 use std::alloc::{AllocError, Global};
-use wire_parts::{Field, Header, Parts, same_path};
+use wire_parts::{Field, Header, Parts};
 use wire_statements::Fields;
 
 /// The fields of a header go behind the bits that are written.
@@ -27,13 +28,26 @@ fn put_fields(
 ) -> Result<(), AllocError>
     ensures { OnOk result (bits_in out.new ≡ bits_in out.old ++ fields_bits path.now (map field_in fields.now) (store_of s.now)) }
 {
-    match fields {
-        [] => Ok(()),
-        [f, fields @ ..] => {
-            let v = s.field_value(alloc, path, &f.name)?.cast(f.width);
-            out.put(f.width, v.value)?;
-            put_fields(alloc, path, fields, s, out)
-        }
+    for f in fields {
+        let v = s.field_value(alloc, path, &f.name)?.cast(f.width);
+        out.put(f.width, v.value)?;
+    }
+    Ok(())
+}
+
+/// A header, where it is valid.
+fn put_if_valid(
+    alloc: Global,
+    h: &Header,
+    s: &Fields,
+    out: &mut BitWriter,
+) -> Result<(), AllocError>
+    ensures { OnOk result (bits_in out.new ≡ bits_in out.old ++ if_valid ((store_of s.now).headers (header_in h.now).path) (fields_bits (header_in h.now).path (header_in h.now).fields (store_of s.now))) }
+{
+    match s.header(&h.path) {
+        Some(true) => put_fields(alloc, &h.path, &h.fields, s, out),
+        Some(false) => Ok(()),
+        None => Ok(()),
     }
 }
 
@@ -47,20 +61,12 @@ fn put_header(
 ) -> Result<(), AllocError>
     ensures { OnOk result (bits_in out.new ≡ bits_in out.old ++ header_bits (map header_in headers.now) path.now (store_of s.now)) }
 {
-    match headers {
-        [] => Ok(()),
-        [h, headers @ ..] => {
-            if same_path(&h.path, path) {
-                match s.header(&h.path) {
-                    Some(true) => put_fields(alloc, &h.path, &h.fields, s, out),
-                    Some(false) => Ok(()),
-                    None => Ok(()),
-                }
-            } else {
-                put_header(alloc, headers, path, s, out)
-            }
+    for h in headers {
+        if same_path(&h.path, path) {
+            return put_if_valid(alloc, h, s, out);
         }
     }
+    Ok(())
 }
 
 /// The headers that a deparser emits, where they are valid.
@@ -73,13 +79,10 @@ fn put_headers(
 ) -> Result<(), AllocError>
     ensures { OnOk result (bits_in out.new ≡ bits_in out.old ++ deparse_of (map header_in headers.now) (map path_in emits.now) (store_of s.now)) }
 {
-    match emits {
-        [] => Ok(()),
-        [path, emits @ ..] => {
-            put_header(alloc, headers, path, s, out)?;
-            put_headers(alloc, headers, emits, s, out)
-        }
+    for path in emits {
+        put_header(alloc, headers, path, s, out)?;
     }
+    Ok(())
 }
 
 /// The frame that a deparser makes.

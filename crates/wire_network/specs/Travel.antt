@@ -2,6 +2,7 @@
 use Rattle.std.specs.Prelude.{ℕ, zero, suc, ◌<◌, List, [], ◌∷◌, ◌++◌, length, map, Bool, ◌&&◌, if◌then◌else◌, nat_le, nat_eq, Option, Some, None, slice_get, slice_set}
 use Rattle.p4_tree.specs.Tree.{done}
 use Rattle.p4_meaning.specs.Statements.{Digest}
+use Rattle.p4_meaning.specs.Tables.{tables_before}
 use Rattle.p4_meaning.specs.Pass.{Registers, Queued, parts_enter, parts_leave}
 use Rattle.wire_machine.specs.Machine.{Machine, goes_to}
 use Rattle.wire_network.specs.declared.link.Link.{Link}
@@ -23,20 +24,24 @@ pub record Passage : Type 0 where
   pub digests : List Digest
   pub out : Option (ℕ × List ℕ)
 
+-- a switch, whose registers have other cells
+abbrev pub with_registers : Machine → Registers → Machine
+with_registers m cells = record { parts = m.parts; kept = record { registers = cells; tables = m.kept.tables } }
+
 -- the second half of a passage, where the packet was not dropped in the first
 abbrev pub left_from : Machine → Registers → List Digest → Option Queued → Passage
-left_from m cells ds None = record { machine = record m { registers = cells }; digests = ds; out = None }
+left_from m cells ds None = record { machine = with_registers m cells; digests = ds; out = None }
 left_from m cells ds (Some q) =
     record {
-      machine = record m { registers = (parts_leave m.parts cells q).registers };
-      digests = ds ++ (parts_leave m.parts cells q).digests;
-      out = goes_to (parts_leave m.parts cells q).going;
+      machine = with_registers m (parts_leave m.parts m.kept.tables cells q).registers;
+      digests = ds ++ (parts_leave m.parts m.kept.tables cells q).digests;
+      out = goes_to (parts_leave m.parts m.kept.tables cells q).going;
     }
 
 -- a passage of one switch: enter, and then leave
 abbrev pub passage : Machine → (port : ℕ) → (frame : List ℕ) → Passage
 passage m port frame =
-    left_from m (parts_enter m.parts m.registers port frame).registers (parts_enter m.parts m.registers port frame).digests (parts_enter m.parts m.registers port frame).queued
+    left_from m (parts_enter m.parts m.kept.tables m.kept.registers port frame).registers (parts_enter m.parts m.kept.tables m.kept.registers port frame).digests (parts_enter m.parts m.kept.tables m.kept.registers port frame).queued
 
 -- the network after a passage of the switch at a place
 abbrev pub passed : Net → (switch : ℕ) → Passage → Net
@@ -59,7 +64,7 @@ at_edge i port frame = if nat_le (length frame) 65535 then left i port frame els
 
 -- no switch
 abbrev pub no_machine : Machine
-no_machine = record { parts = record { registers = []; headers = []; metadata = []; states = []; verify = done; ingress = record { locals = done; body = done }; egress = record { locals = done; body = done }; compute = done; emits = [] }; registers = λ x. [] }
+no_machine = record { parts = record { registers = []; headers = []; metadata = []; states = []; actions = []; tables = []; verify = done; ingress = record { locals = done; body = done }; egress = record { locals = done; body = done }; compute = done; emits = [] }; kept = record { registers = λ x. []; tables = tables_before [] } }
 
 -- how a packet goes on from the switch and port that it comes to
 abbrev pub Way : Type 0

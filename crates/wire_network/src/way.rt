@@ -39,9 +39,9 @@ fn leave(
     digests: &mut Vec<Digest>,
 ) -> Result<Option<(u16, Vec<u8>)>, AllocError>
     ensures kept { (machine_of switch.new).parts ≡ (machine_of switch.old).parts }
-    ensures machine { OnOk result (machine_of switch.new ≡ (left_from (machine_of switch.old) (machine_of switch.old).registers (map digest_of digests.old.items) (option_map queued_of queued)).machine) }
-    ensures digests { OnOk result (map digest_of digests.new.items ≡ (left_from (machine_of switch.old) (machine_of switch.old).registers (map digest_of digests.old.items) (option_map queued_of queued)).digests) }
-    ensures out { IfOk result (λ o. frame_in o ≡ (left_from (machine_of switch.old) (machine_of switch.old).registers (map digest_of digests.old.items) (option_map queued_of queued)).out) }
+    ensures machine { OnOk result (machine_of switch.new ≡ (left_from (machine_of switch.old) (machine_of switch.old).kept.registers (map digest_of digests.old.items) (option_map queued_of queued)).machine) }
+    ensures digests { OnOk result (map digest_of digests.new.items ≡ (left_from (machine_of switch.old) (machine_of switch.old).kept.registers (map digest_of digests.old.items) (option_map queued_of queued)).digests) }
+    ensures out { IfOk result (λ o. frame_in o ≡ (left_from (machine_of switch.old) (machine_of switch.old).kept.registers (map digest_of digests.old.items) (option_map queued_of queued)).out) }
 {
     match queued {
         None => Ok(None),

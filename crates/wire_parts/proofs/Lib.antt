@@ -1,2 +1,2 @@
-pub mod PathsLemmas
+pub mod ActionsLemmas
 pub mod UnderLemmas

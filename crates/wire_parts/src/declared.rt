@@ -8,26 +8,39 @@ ghost use Rattle.wire_parts.specs.Headers.{field_in, header_in};
 ghost use Rattle.wire_parts.specs.PartsIn.{parts_in};
 
 use crate::header::{Field, Header};
-use crate::names::{same_path, same_text};
 use crate::parts::Parts;
 use lex_text::Name;
+use p4_values::{same_path, same_text};
+
+/// Whether a path is this one name.
+fn is_one(name: &Name, path: &[Name]) -> bool
+    ensures { result ≡ same_path (name.now ∷ []) path.now }
+{
+    match path {
+        [] => false,
+        [x, rest @ ..] => match rest {
+            [] => same_text(name.as_str(), x.as_str()),
+            [_second, _more @ ..] => false,
+        },
+    }
+}
 
 /// Whether a path is another one with one name more.
 fn is_below(above: &[Name], name: &Name, path: &[Name]) -> bool
     ensures { result ≡ same_path (above.now ++ name.now ∷ []) path.now }
 {
-    match above {
-        [] => match path {
-            [] => false,
-            [x, rest @ ..] => match rest {
-                [] => same_text(name.as_str(), x.as_str()),
-                [_second, _more @ ..] => false,
-            },
-        },
-        [a, above @ ..] => match path {
-            [] => false,
-            [x, rest @ ..] => same_text(a.as_str(), x.as_str()) && is_below(above, name, rest),
-        },
+    for i in 0..above.len() {
+        if i >= path.len() {
+            return false;
+        }
+        if !same_text(above[i].as_str(), path[i].as_str()) {
+            return false;
+        }
+    }
+    if above.len() <= path.len() {
+        is_one(name, &path[above.len()..])
+    } else {
+        false
     }
 }
 
@@ -35,21 +48,23 @@ fn is_below(above: &[Name], name: &Name, path: &[Name]) -> bool
 fn is_field_of(above: &[Name], fields: &[Field], path: &[Name]) -> bool
     ensures { result ≡ is_field_of above.now (map field_in fields.now) path.now }
 {
-    match fields {
-        [] => false,
-        [f, fields @ ..] => is_below(above, &f.name, path) || is_field_of(above, fields, path),
+    for f in fields {
+        if is_below(above, &f.name, path) {
+            return true;
+        }
     }
+    false
 }
 
 fn is_header_field(headers: &[Header], path: &[Name]) -> bool
     ensures { result ≡ is_header_field (map header_in headers.now) path.now }
 {
-    match headers {
-        [] => false,
-        [h, headers @ ..] => {
-            is_field_of(&h.path, &h.fields, path) || is_header_field(headers, path)
+    for h in headers {
+        if is_field_of(&h.path, &h.fields, path) {
+            return true;
         }
     }
+    false
 }
 
 /// Whether a path is a root and a field.
@@ -91,10 +106,12 @@ fn is_any_standard(path: &[Name]) -> bool
 fn is_metadata(fields: &[Field], path: &[Name]) -> bool
     ensures { result ≡ is_field_of (metadata_root ∷ []) (map field_in fields.now) path.now }
 {
-    match fields {
-        [] => false,
-        [f, fields @ ..] => is_pair("meta", f.name.as_str(), path) || is_metadata(fields, path),
+    for f in fields {
+        if is_pair("meta", f.name.as_str(), path) {
+            return true;
+        }
     }
+    false
 }
 
 /// Whether a program declares a path: a field of a header, of the metadata or of the standard
@@ -109,10 +126,12 @@ pub fn is_declared_path(p: &Parts, path: &[Name]) -> bool
 pub fn is_declared_header(headers: &[Header], path: &[Name]) -> bool
     ensures { result ≡ is_declared_header (map header_in headers.now) path.now }
 {
-    match headers {
-        [] => false,
-        [h, headers @ ..] => same_path(&h.path, path) || is_declared_header(headers, path),
+    for h in headers {
+        if same_path(&h.path, path) {
+            return true;
+        }
     }
+    false
 }
 
 /// Whether statements may write a path: of the standard metadata `egress_spec` alone.

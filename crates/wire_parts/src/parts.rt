@@ -1,10 +1,11 @@
 //! The parts of a program that a switch runs.
 
 use crate::header::{Field, Header};
+use bit_values::Bits;
 use lex_text::Name;
-use p4_tree::{ParserState, Stmt};
+use p4_tree::{Expr, ParserState, Stmt};
 
-/// A register: its name, the bits of a cell, and how many cells it has.
+/// A register: its full name, the bits of a cell, and how many cells it has.
 #[derive(Drop)]
 pub struct Cells {
     pub name: Name,
@@ -19,13 +20,55 @@ pub struct Body {
     pub body: Vec<Stmt>,
 }
 
-/// The parts of a program. Paths begin with fixed roots.
+/// A parameter of an action: its full name and its bits.
+#[derive(Drop)]
+pub struct Taken {
+    pub name: Name,
+    pub width: u8,
+}
+
+/// An action by its full name, whose names stand for what they name.
+#[derive(Drop)]
+pub struct Action {
+    pub name: Name,
+    pub params: Vec<Taken>,
+    pub body: Vec<Stmt>,
+}
+
+/// A key of a table, and the name of how it is matched.
+#[derive(Drop)]
+pub struct Key {
+    pub value: Expr,
+    pub kind: Name,
+}
+
+/// An action by its full name, and words for its parameters.
+#[derive(Drop)]
+pub struct Chosen {
+    pub action: Name,
+    pub args: Vec<Bits>,
+}
+
+/// A table by its full name, with the default that is written, and whether it is `const`.
+#[derive(Drop)]
+pub struct Table {
+    pub name: Name,
+    pub keys: Vec<Key>,
+    pub actions: Vec<Name>,
+    pub default: Chosen,
+    pub fixed: bool,
+}
+
+/// The parts of a program. Paths begin with fixed roots, and what controls and actions declare has
+/// its full name.
 #[derive(Drop)]
 pub struct Parts {
     pub registers: Vec<Cells>,
     pub headers: Vec<Header>,
     pub metadata: Vec<Field>,
     pub states: Vec<ParserState>,
+    pub actions: Vec<Action>,
+    pub tables: Vec<Table>,
     pub verify: Body,
     pub ingress: Body,
     pub egress: Body,

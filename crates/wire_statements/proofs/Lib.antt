@@ -1,4 +1,5 @@
 pub mod FieldsLemmas
-pub mod ValueLemmas
 pub mod RegistersLemmas
 pub mod BodyLemmas
+pub mod TablesLemmas
+pub mod PlainLemmas

@@ -1,10 +1,13 @@
--- What a call of code does, where no action is called and no table applied; checksum calls, argument by argument; and
--- a checksum byte by byte.
+-- What a call of code does that is no call of an action and no application of a table; checksum calls, argument by
+-- argument; and a checksum byte by byte.
 use Rattle.std.specs.Prelude.{◌≡◌, ℕ, List, [], ◌∷◌, Bool, Option, Some, None}
 use Rattle.p4_tree.specs.Tree.{Expr, path, Arg, one}
 use Rattle.p4_meaning.specs.Checksum.{bytes_sum}
+use Rattle.bit_values.specs.Bits.{Word, word}
+use Rattle.bit_values.specs.Widths.{sound_width, cast_word}
 use Rattle.p4_meaning.specs.Statements.{Act, sums, idle, no_calls, done_by}
 use Rattle.wire_statements.specs.Runs.{run_of}
+use Rattle.wire_statements.specs.declared.statements.Asked as code_asked
 use Rattle.wire_statements.specs.declared.run.Run as code_run
 
 -- the run behind an act is what the act makes of the run before
@@ -25,3 +28,12 @@ sum_behind verifies c es _ = idle
 abbrev pub sum_from : ℕ → Option ℕ → List ℕ → ℕ
 sum_from sum None bytes = bytes_sum sum bytes
 sum_from sum (Some high) bytes = bytes_sum sum (high ∷ bytes)
+
+-- the table that a test applies, and whether it asks for a hit
+abbrev pub asked_of : code_asked.Asked → List ℕ × Bool
+asked_of a = (a.table.now, a.hit)
+
+-- the word that a parameter of these bits has, where these words are left
+abbrev pub word_at : (width : ℕ) → List Word → Word
+word_at width [] = word (sound_width width) 0
+word_at width (w ∷ ws) = cast_word (sound_width width) w

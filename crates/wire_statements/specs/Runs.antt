@@ -9,6 +9,7 @@ use Rattle.wire_statements.specs.declared.run.Digest as code_digest
 use Rattle.wire_statements.specs.declared.run.Run as code_run
 use Rattle.wire_statements.specs.declared.run.Flow as code_flow
 use Rattle.wire_statements.specs.declared.run.Flow.TheVariants as flow
+use Rattle.wire_statements.specs.declared.run.Tested as code_tested
 
 -- a digest
 abbrev pub digest_of : code_digest.Digest → meaning.Digest
@@ -37,3 +38,11 @@ abbrev pub flow_of : code_flow.Flow → meaning.Flow
 flow_of flow.Go = meaning.Go
 flow_of flow.Return = meaning.Return
 flow_of flow.Exit = meaning.Exit
+
+-- a run, and how its last statement ended
+abbrev pub ended : meaning.Run → meaning.Flow → meaning.Ended
+ended r flow = (r, flow)
+
+-- how a test ends
+abbrev pub tested_of : meaning.Run → code_tested.Tested → meaning.Tested
+tested_of r t = record { run = r; flow = flow_of t.flow; hit = t.hit }

@@ -8,11 +8,11 @@ ghost use Rattle.p4_meaning.specs.Checksum.{ones_sum, bytes_sum, checksum_of, li
 ghost use Rattle.wire_statements.specs.Calls.{sum_from};
 ghost use Rattle.wire_statements.specs.Fields.{store_of};
 
-use crate::eval::values_of;
 use crate::fields::Fields;
 use bit_values::Bits;
 use bit_writer::BitWriter;
 use p4_tree::Expr;
+use p4_values::values_of;
 use std::alloc::{AllocError, Global};
 
 /// The one's complement sum of two numbers of 16 bits.
@@ -68,13 +68,10 @@ pub fn csum16(bytes: &[u8]) -> u16
 fn put_words(values: &[Bits], out: &mut BitWriter) -> Result<(), AllocError>
     ensures { OnOk result (bits_in out.new ≡ bits_in out.old ++ words_bits values.now) }
 {
-    match values {
-        [] => Ok(()),
-        [v, values @ ..] => {
-            out.put(v.width(), v.value)?;
-            put_words(values, out)
-        }
+    for v in values {
+        out.put(v.width(), v.value)?;
     }
+    Ok(())
 }
 
 /// The checksum of the values of expressions.

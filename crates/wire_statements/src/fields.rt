@@ -10,11 +10,9 @@ ghost use Rattle.wire_statements.specs.Fields.{store_of, value_in, header_in, pu
 
 use bit_values::Bits;
 use lex_text::Name;
+use p4_values::{Sight, copy_path, field_path, parent, path_of_one, same_path};
 use std::alloc::{AllocError, Global};
-use wire_parts::{
-    Header, Parts, copy_path, field_path, is_declared_header, is_declared_path, parent,
-    path_of_one, same_path,
-};
+use wire_parts::{Header, Parts, is_declared_header, is_declared_path};
 
 /// The words of paths, and which headers are valid. The first entry of a path counts.
 #[derive(Drop)]
@@ -91,6 +89,22 @@ fn keep_headers(entries: &mut Vec<(Vec<Name>, bool)>, list: &[Header])
     entries.retain(|entry| is_declared_header(list, &entry.0));
 }
 
+impl Sight for Fields {
+    ghost store = { store_of };
+
+    fn read(&self, path: &[Name]) -> Bits {
+        let value = value_of(&self.values, path);
+        match header_of(&self.valid, parent(path)) {
+            Some(false) => zero_of(value),
+            _ => value,
+        }
+    }
+
+    fn header(&self, path: &[Name]) -> Option<bool> {
+        header_of(&self.valid, path)
+    }
+}
+
 impl Fields {
     /// No header, and no path that was set.
     pub fn new(alloc: Global) -> Fields
@@ -102,29 +116,11 @@ impl Fields {
         }
     }
 
-    /// The word that a path reads, 0 where its header is not valid.
-    pub fn read(&self, path: &[Name]) -> Bits
-        ensures { result ≡ read (store_of self.now) path.now }
-    {
-        let value = value_of(&self.values, path);
-        match header_of(&self.valid, parent(path)) {
-            Some(false) => zero_of(value),
-            _ => value,
-        }
-    }
-
     /// The word at a path, whether its header is valid or not.
     pub fn value(&self, path: &[Name]) -> Bits
         ensures { result ≡ (store_of self.now).values path.now }
     {
         value_of(&self.values, path)
-    }
-
-    /// Whether a header is there, and valid.
-    pub fn header(&self, path: &[Name]) -> Option<bool>
-        ensures { result ≡ (store_of self.now).headers path.now }
-    {
-        header_of(&self.valid, path)
     }
 
     /// Sets the word at a path.

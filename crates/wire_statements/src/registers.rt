@@ -9,22 +9,18 @@ ghost use Rattle.wire_statements.specs.Runs.{cells_in, place_in};
 use crate::fields::zero_of;
 use bit_values::{Bits, sound_width};
 use lex_text::Name;
-use wire_parts::same_text;
+use p4_values::same_text;
 
 /// The cells of the first register of a name; none where there is no such register.
 pub fn cells_of<'a>(registers: &'a [(Name, Vec<Bits>)], name: &str) -> &'a [Bits]
     ensures { result.now ≡ cells_in registers.now name.now }
 {
-    match registers {
-        [] => &[],
-        [r, registers @ ..] => {
-            if same_text(r.0.as_str(), name) {
-                &r.1
-            } else {
-                cells_of(registers, name)
-            }
+    for r in registers {
+        if same_text(r.0.as_str(), name) {
+            return &r.1;
         }
     }
+    &[]
 }
 
 /// The number 0, as wide as the cells.

@@ -19,10 +19,17 @@ pub struct Run {
     pub digests: Vec<Digest>,
 }
 
-/// How a statement ends: what follows goes on, the control returns, or it exits.
+/// How a statement ends: what follows goes on, the action or control returns, or the control exits.
 #[derive(Clone, Copy, Debug, PartialEq, Eq)]
 pub enum Flow {
     Go,
     Return,
     Exit,
+}
+
+/// How a test ends: whether what follows goes on, and whether the test holds.
+#[derive(Clone, Copy, Debug, PartialEq, Eq)]
+pub struct Tested {
+    pub flow: Flow,
+    pub hit: bool,
 }

@@ -5,9 +5,10 @@ use crate::nodes::{call, digest, number, path, read, set, two, wide};
 use crate::statements::{byte, start};
 use bit_values::Bits;
 use p4_tree::{Arg, Expr, Stmt};
+use p4_values::Sight;
 use std::alloc::{AllocError, Global};
 use std::test::Fail;
-use wire_statements::{Run, csum16, run_stmts, standard_path};
+use wire_statements::{NoCalls, Run, csum16, run_stmts, standard_path};
 
 /// The header of RFC 1071's example of an IPv4 header, with its checksum 0.
 const HEADER: [u8; 20] = [
@@ -40,7 +41,7 @@ fn behind(alloc: Global, sum: u128, s: Stmt) -> Result<Run, AllocError> {
     run.fields.set(alloc, &error, Bits::new(1, 0))?;
     let mut list = Vec::new(alloc);
     list.push(s)?;
-    let _ = run_stmts(alloc, &list, &mut run)?;
+    let _ = run_stmts(alloc, &NoCalls, &list, &mut run)?;
     Ok(run)
 }
 

@@ -5,12 +5,13 @@ use crate::nodes::{binary, call, digest, if_else, number, path, read, set, two, 
 use bit_values::Bits;
 use lex_text::Name;
 use p4_tree::{Expr, Op, PTy, Stmt};
+use p4_values::{Sight, value_of, values_of};
 use std::alloc::{AllocError, Global};
 use std::test::Fail;
 use wire_parts::parts_of;
 use wire_program::wire_program;
 use wire_statements::{
-    Fields, Flow, Run, assign, cells_of, run_stmts, standard_path, value_of, values_of,
+    Fields, Flow, NoCalls, Run, assign, cells_of, run_stmts, standard_path,
 };
 
 pub fn byte(value: u128) -> Bits {
@@ -83,8 +84,8 @@ fn statements_run(rt: HostRuntime) -> Result<(), Fail> {
     let kind = path(alloc, "h.one.kind")?;
     assert!(rt; run.fields.read(&kind) == byte(0));
     assert!(rt; run.fields.value(&kind) == byte(7));
-    assert!(rt; run_stmts(alloc, &statements(alloc)?, &mut run)? == Flow::Go);
-    assert!(rt; run_stmts(alloc, &last(alloc)?, &mut run)? == Flow::Exit);
+    assert!(rt; run_stmts(alloc, &NoCalls, &statements(alloc)?, &mut run)? == Flow::Go);
+    assert!(rt; run_stmts(alloc, &NoCalls, &last(alloc)?, &mut run)? == Flow::Exit);
     assert!(rt; run.fields.header(&path(alloc, "h.one")?) == Some(true));
     assert!(rt; run.fields.read(&path(alloc, "x")?) == byte(4));
     assert!(rt; run.fields.read(&path(alloc, "m.other")?) == byte(1));

@@ -6,4 +6,4 @@ use Rattle.hydra_cli.proofs.wire.rejected_by.Goals as goal
 
 pub returns-in-None-clause-value : goal.returns-in-None-clause-value
 returns-in-None-clause-value c =
-    cast-no_cell ((machine_of c.args.switch.now).registers (codes "hydra_rejects")) (sym c.cell.ensures ∙ c.in-None.is)
+    cast-no_cell ((machine_of c.args.switch.now).kept.registers (codes "hydra_rejects")) (sym c.cell.ensures ∙ c.in-None.is)

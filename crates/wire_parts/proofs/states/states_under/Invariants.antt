@@ -1,8 +1,8 @@
 use Rattle.std.proofs.Common.{◌≡◌, map, take}
 use Rattle.p4_tree.specs.View.{state_of}
-use Rattle.p4_meaning.specs.Parts.{state_under}
-use Rattle.wire_parts.specs.Lent.{roots_in}
+use Rattle.p4_meaning.specs.Under.{state_under}
+use Rattle.wire_parts.specs.Scopes.{scope_of}
 use Rattle.wire_parts.proofs.states.states_under.Given as goal
 
 abbrev pub invariant-loop-s : goal.invariant-loop-s
-invariant-loop-s l = map state_of l.copies.items ≡ map (state_under (roots_in l.r)) (map state_of (take l.s-index l.list))
+invariant-loop-s l = map state_of l.copies.items ≡ map (state_under (scope_of l.sc)) (map state_of (take l.s-index l.list))

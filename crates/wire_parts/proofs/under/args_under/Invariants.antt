@@ -1,8 +1,8 @@
 use Rattle.std.proofs.Common.{◌≡◌, map, take}
 use Rattle.p4_tree.specs.View.{arg_of}
-use Rattle.p4_meaning.specs.Parts.{arg_under}
-use Rattle.wire_parts.specs.Lent.{roots_in}
+use Rattle.p4_meaning.specs.Under.{arg_under}
+use Rattle.wire_parts.specs.Scopes.{scope_of}
 use Rattle.wire_parts.proofs.under.args_under.Given as goal
 
 abbrev pub invariant-loop-a : goal.invariant-loop-a
-invariant-loop-a l = map arg_of l.copies.items ≡ map (arg_under (roots_in l.r)) (map arg_of (take l.a-index l.list))
+invariant-loop-a l = map arg_of l.copies.items ≡ map (arg_under (scope_of l.sc)) (map arg_of (take l.a-index l.list))

@@ -1,5 +1,0 @@
-use Rattle.std.proofs.Common.{length}
-use Rattle.wire_machine.proofs.parse.+has_room.Given as goal
-
-abbrev pub decreases-has_room : goal.decreases-has_room
-decreases-has_room l = length l.fields.now

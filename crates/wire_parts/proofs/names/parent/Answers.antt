@@ -1,6 +1,0 @@
-use Rattle.std.proofs.Common.{ap, ◌∙◌, take}
-use Rattle.wire_parts.proofs.PathsLemmas.{parent_taken}
-use Rattle.wire_parts.proofs.names.parent.Goals as goal
-
-pub returns : goal.returns
-returns c = ap (λ n. take n c.args.path.now) c.saturating_sub.ensures ∙ parent_taken c.args.path.now
