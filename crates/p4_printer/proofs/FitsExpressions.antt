@@ -1,8 +1,8 @@
 -- What is printed of expressions and statements fits, where they are low.
-use Rattle.std.proofs.Common.{◌≡◌, ℕ, zero, suc, ◌+◌, ◌-◌, ◌≤◌, ◌<◌, ◌^◌, Bool, true, false, List, [], ◌∷◌, ◌++◌, map, max, Option, Some, None, refl, sym, ap, ◌∙◌, arith, inl, inr}
+use Rattle.std.proofs.Common.{ℕ, ◌-◌, ◌≤◌, Bool, true, false, List, [], ◌∷◌, ◌++◌, map, Option, Some, None, refl, arith, inl, inr}
 use Rattle.lex_text.specs.declared.token.Words.TheVariants.{P4}
 use Rattle.lex_words.specs.declared.key.Key.TheVariants as k
-use Rattle.lex_words.specs.Seen.{Lexeme, name, number, key}
+use Rattle.lex_words.specs.Seen.{number, key}
 use Rattle.lex_words.specs.Written.{IsLexeme}
 use Rattle.p4_tree.specs.Tree.{Expr, num, flag, path, valid, applied, error_name, negation, inversion, opposite, binary, conditional, slice, cast, Arg, one, many, Stmt, Stmts, nothing, block, var, assign, choice, return_, exit_, call, done, next, without, otherwise}
 use Rattle.p4_tree.specs.Height.{highest, height_if, expr_height, arg_height, stmt_height, stmts_height}
@@ -12,8 +12,8 @@ use Rattle.p4_printer.specs.Layout.{bare, each_after}
 use Rattle.p4_printer.specs.Expressions.{lexemes_of_type, lexemes_of_name, lexemes_of_path, lexemes_of_expr, lexemes_of_exprs, lexemes_of_arg, lexemes_of_args}
 use Rattle.p4_printer.specs.Statements.{lexemes_of_start, lexemes_of_var, lexemes_of_stmt, lexemes_of_stmts}
 use Rattle.p4_printer.specs.Programs.{lexemes_of_constant}
-use Rattle.p4_printer.specs.CanSpell.{IsName, EachCan, SomeCan, MayCan, CanSpellScalar, CanSpellType, CanSpellPath, CanSpellExpr, CanSpellArg, CanSpellVar, CanSpellConst, CanSpellStmt, CanSpellStmts, IsVar}
-use Rattle.p4_printer.proofs.Fits.{Fits, nil, joins, on, on_name, on_number, bracket, outcome_is_name, with_heights, each_of, fits_each, fits_list, the_op, the_flag, the_Bit, the_Bool, the_If, the_Else, the_Const, the_Return, the_Exit, the_Error, the_BraceOpen, the_BraceClose, the_SquareOpen, the_SquareClose, the_Less, the_More, the_Semicolon, the_Colon, the_Dot, the_Assign, the_Minus, the_Tilde, the_Not, the_Question}
+use Rattle.p4_printer.specs.CanSpell.{IsName, EachCan, MayCan, CanSpellScalar, CanSpellType, CanSpellPath, CanSpellExpr, CanSpellArg, CanSpellVar, CanSpellConst, CanSpellStmt, CanSpellStmts, IsVar}
+use Rattle.p4_printer.proofs.Fits.{Fits, nil, joins, on, on_name, on_number, bracket, outcome_is_name, with_heights, each_of, fits_list, the_op, the_flag, the_Bit, the_Bool, the_If, the_Else, the_Const, the_Return, the_Exit, the_Error, the_BraceOpen, the_BraceClose, the_SquareOpen, the_SquareClose, the_Less, the_More, the_Semicolon, the_Colon, the_Dot, the_Assign, the_Minus, the_Tilde, the_Not, the_Question}
 
 -- ---- types and paths
 

@@ -1,23 +1,19 @@
 -- What is printed of declarations and programs fits, where they are low.
-use Rattle.std.proofs.Common.{◌≡◌, ℕ, zero, suc, ◌+◌, ◌-◌, ◌≤◌, ◌<◌, ◌^◌, Bool, true, false, List, [], ◌∷◌, ◌++◌, map, max, Option, Some, None, refl, arith}
-use Rattle.lex_text.specs.declared.token.Words.TheVariants.{P4}
-use Rattle.lex_words.specs.declared.key.Key.{Key}
-use Rattle.lex_words.specs.declared.key.Key.TheVariants as k
-use Rattle.lex_words.specs.Seen.{Lexeme, name, number, key}
-use Rattle.p4_tree.specs.Tree.{Expr, num, flag, path, one, Stmt, Stmts, assign, call, stmts_from, Keyset, any, only, masked, Case, Transition, nowhere, to, select, ParserState, Action, Table, Local, local_action, local_table, local_register, local_const, local_var, Control, Parser, Top, constant, typedef, header_type, struct_type, register, parser, control, Program}
-use Rattle.p4_tree.specs.Height.{highest, height_if, expr_height, stmt_height, stmts_height, keyset_height, case_height, transition_height, state_height, parser_height, action_height, table_height, local_height, control_height, top_height, height}
+use Rattle.std.proofs.Common.{ℕ, ◌-◌, ◌≤◌, ◌<◌, ◌^◌, Bool, true, false, List, [], ◌∷◌, ◌++◌, map, max, Option, Some, None, refl, arith}
+use Rattle.p4_tree.specs.Tree.{Expr, num, flag, path, one, Stmt, assign, call, stmts_from, Keyset, any, only, masked, Case, Transition, nowhere, to, select, ParserState, Action, Table, Local, local_action, local_table, local_register, local_const, local_var, Control, Parser, Top, constant, typedef, header_type, struct_type, register, parser, control, Program}
+use Rattle.p4_tree.specs.Height.{highest, height_if, expr_height, stmt_height, transition_height, state_height, parser_height, action_height, table_height, local_height, control_height, top_height, height}
 use Rattle.p4_tree.specs.declared.statement.PTy.{PTy}
 use Rattle.p4_tree.specs.declared.program.Param.{Param}
 use Rattle.p4_tree.specs.declared.program.Register.{Register}
 use Rattle.p4_tree.specs.declared.program.Way.{Way}
 use Rattle.p4_tree.specs.declared.program.Way.TheVariants as way
-use Rattle.p4_printer.specs.Layout.{bare, in_row, separated, braced}
-use Rattle.p4_printer.specs.Expressions.{lexemes_of_type, lexemes_of_expr}
+use Rattle.p4_printer.specs.Layout.{in_row, braced}
+use Rattle.p4_printer.specs.Expressions.{lexemes_of_expr}
 use Rattle.p4_printer.specs.Statements.{lexemes_of_stmt, lexemes_of_stmts}
 use Rattle.p4_printer.specs.Programs.{lexemes_of_way, lexemes_of_param, lexemes_of_params, lexemes_of_keyset, lexemes_of_keys, lexemes_of_case, lexemes_of_transition, lexemes_of_state, lexemes_of_parser, lexemes_of_register, lexemes_of_action_param, lexemes_of_action, lexemes_of_key, lexemes_of_listed, lexemes_of_size, lexemes_of_fixed, lexemes_of_default, lexemes_of_table, lexemes_of_local, lexemes_of_control, lexemes_of_field, lexemes_of_top, lexemes_of_part, lexemes_of_main}
 use Rattle.p4_printer.specs.CanSpell.{EachCan, SomeCan, MayCan, IsName, IsCount, CanSpellExpr, CanSpellParserStmt, CanSpellSimple, CanSpellKeyset, CanSpellCase, CanSpellNext, CanSpellState, CanSpellParam, CanSpellParser, CanSpellField, CanSpellAction, CanSpellKey, CanSpellDefault, CanSpellTable, CanSpellRegister, CanSpellLocal, CanSpellControl, CanSpellTop, CanSpell}
-use Rattle.p4_printer.proofs.Fits.{Fits, nil, joins, on, on_name, on_number, bracket, with_heights, each_of, fits_each, fits_list, IsPlain, the_flag, the_Header, the_Control, the_Const, the_Typedef, the_Struct, the_Register, the_Parser, the_In, the_Out, the_Inout, the_State, the_Transition, the_Select, the_Default, the_Action, the_Table, the_V1Switch, the_Mask, the_BraceOpen, the_BraceClose, the_Less, the_More, the_Semicolon, the_Colon, the_Assign}
-use Rattle.p4_printer.proofs.FitsExpressions.{fits_type, fits_path, fits, fits_exprs, fits_var, fits_const, fits_assign, fits_stmts, fits_block}
+use Rattle.p4_printer.proofs.Fits.{Fits, nil, joins, on, on_name, on_number, bracket, with_heights, each_of, fits_each, fits_list, the_flag, the_Header, the_Control, the_Const, the_Typedef, the_Struct, the_Register, the_Parser, the_In, the_Out, the_Inout, the_State, the_Transition, the_Select, the_Default, the_Action, the_Table, the_V1Switch, the_Mask, the_BraceOpen, the_BraceClose, the_Less, the_More, the_Semicolon, the_Colon, the_Assign}
+use Rattle.p4_printer.proofs.FitsExpressions.{fits_type, fits_path, fits, fits_exprs, fits_var, fits_const, fits_assign, fits_block}
 
 -- ---- parameters and fields
 

@@ -1,19 +1,18 @@
 -- What is printed rests on no place.
-use Rattle.std.proofs.Common.{◌≡◌, ℕ, Bool, true, false, List, [], ◌∷◌, ◌++◌, map, Option, Some, None, refl, sym, ap, ◌∙◌}
+use Rattle.std.proofs.Common.{◌≡◌, ℕ, Bool, List, [], ◌∷◌, ◌++◌, map, Option, Some, None, refl, sym, ap, ◌∙◌}
 use Rattle.std.specs.Option.{option_map}
-use Rattle.lex_words.specs.Seen.{Lexeme, name, number, key}
+use Rattle.lex_words.specs.Seen.{Lexeme, name, key}
 use Rattle.lex_words.specs.declared.key.Key.TheVariants as k
 use Rattle.p4_tree.specs.Tree.{Expr, num, flag, path, valid, applied, error_name, negation, inversion, opposite, binary, conditional, slice, cast, Arg, one, many, Stmt, Stmts, MaybeStmt, nothing, block, var, assign, choice, return_, exit_, call, done, next, without, otherwise, stmts_from, Keyset, any, only, masked, Case, Transition, nowhere, to, select, ParserState, Action, Table, Local, local_action, local_table, local_register, local_const, local_var, Control, Parser, Top, constant, typedef, header_type, struct_type, register, parser, control, Program}
 use Rattle.p4_tree.specs.Places.{plain, plain_arg, plain_stmt, plain_else, plain_stmts, plain_param, plain_keyset, plain_case, plain_transition, plain_state, plain_parser, plain_action, plain_key, plain_default, plain_table, plain_local, plain_control, plain_top, plain_program}
 use Rattle.p4_tree.specs.declared.statement.PTy.{PTy}
 use Rattle.p4_tree.specs.declared.program.Param.{Param}
 use Rattle.p4_printer.specs.Layout.{in_row, separated, bracketed, braced, text_of}
-use Rattle.p4_printer.specs.Expressions.{key_of_op, lexemes_of_type, lexemes_of_path, lexemes_of_bounds, lexemes_of_expr, lexemes_of_exprs, lexemes_of_arg, lexemes_of_args}
+use Rattle.p4_printer.specs.Expressions.{key_of_op, lexemes_of_type, lexemes_of_path, lexemes_of_bounds, lexemes_of_expr, lexemes_of_exprs, lexemes_of_arg}
 use Rattle.p4_printer.specs.Statements.{lexemes_of_start, lexemes_of_var, lexemes_of_stmt, lexemes_of_else, lexemes_of_stmts}
 use Rattle.p4_printer.specs.Programs.{lexemes_of_param, lexemes_of_keyset, lexemes_of_keys, lexemes_of_case, lexemes_of_transition, lexemes_of_state, lexemes_of_parser, lexemes_of_constant, lexemes_of_action_params, lexemes_of_action, lexemes_of_key, lexemes_of_action_list, lexemes_of_size, lexemes_of_fixed, lexemes_of_default, lexemes_of_table, lexemes_of_local, lexemes_of_control, lexemes_of_top, lexemes_of_main, lexemes_of_includes, lexemes_of_program}
 use Rattle.p4_printer.specs.Laws.{SameHaveOneText}
 use Rattle.p4_printer.proofs.Spelt.{two, three}
-use Rattle.lex_words.specs.Seen as lex
 use Rattle.p4_spelling.specs.Words.{apply_name, key_name, default_name}
 
 -- lists of what rests on no place

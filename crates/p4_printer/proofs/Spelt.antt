@@ -1,7 +1,7 @@
 -- What can be spelled is spelled but for places: lists and expressions.
-use Rattle.std.proofs.Common.{◌≡◌, ℕ, zero, suc, ◌+◌, Bool, true, false, List, [], ◌∷◌, ◌++◌, length, map, refl, sym, ap, subst, ◌∙◌, arith}
+use Rattle.std.proofs.Common.{◌≡◌, ℕ, zero, suc, ◌+◌, true, false, List, [], ◌∷◌, ◌++◌, length, map, refl, sym, ap, subst, ◌∙◌, arith}
 use Rattle.std.proofs.lemmas.List.{append-nil}
-use Rattle.lex_words.specs.Seen.{Lexeme, name, number, key}
+use Rattle.lex_words.specs.Seen.{Lexeme, key}
 use Rattle.lex_words.specs.declared.key.Key.TheVariants as k
 use Rattle.p4_tree.specs.Tree.{Expr, num, flag, path, valid, applied, error_name, negation, inversion, opposite, binary, conditional, slice, cast}
 use Rattle.p4_tree.specs.Places.{plain}
@@ -13,7 +13,7 @@ use Rattle.p4_spelling.specs.Operators.{top}
 use Rattle.p4_spelling.specs.Lists.{SpellsList, SpellsSome, SpellsEach, last, then, no_item, items, no_more, one_more}
 use Rattle.p4_spelling.specs.Types.{SpellsScalar, SpellsType, a_bool, bits, a_scalar, a_name}
 use Rattle.p4_spelling.specs.Expressions.{SpellsPath, last_name, then_names, SpellsPostfix, a_number, a_true, a_false, an_error, a_path, a_validity, an_application, in_brackets, a_slice, Spells, a_postfix, a_not, an_inversion, an_opposite, a_cast, tighter, joined, a_conditional}
-use Rattle.p4_printer.specs.Layout.{bare, in_row, each_after, separated}
+use Rattle.p4_printer.specs.Layout.{bare, in_row, separated}
 use Rattle.p4_printer.specs.Expressions.{key_of_op, lexemes_of_type, lexemes_of_path, lexemes_of_expr, lexemes_of_exprs}
 use Rattle.p4_printer.specs.CanSpell.{EachCan, SomeCan, CanSpellScalar, CanSpellType, CanSpellPath, CanSpellExpr}
 

@@ -1,34 +1,27 @@
 -- What can be spelled is spelled but for places: parameters, fields and parsers.
-use Rattle.std.proofs.Common.{◌≡◌, ℕ, ◌+◌, Bool, true, false, List, [], ◌∷◌, ◌++◌, length, map, Option, Some, None, refl, sym, ap, subst, ◌∙◌, arith, append_assoc}
-use Rattle.std.specs.Option.{option_map}
+use Rattle.std.proofs.Common.{◌≡◌, ℕ, ◌+◌, true, false, List, [], ◌∷◌, ◌++◌, length, map, refl, sym, ap, subst, ◌∙◌, append_assoc}
 use Rattle.std.proofs.lemmas.List.{append-nil}
-use Rattle.lex_words.specs.Seen.{Lexeme, name, number, key}
+use Rattle.lex_words.specs.Seen.{name, number, key}
 use Rattle.lex_words.specs.declared.key.Key.TheVariants as k
-use Rattle.p4_tree.specs.Tree.{Expr, num, flag, path, one, Stmt, Stmts, assign, call, stmts_from, Keyset, any, only, masked, Case, Transition, nowhere, to, select, ParserState, Action, Table, Local, local_action, local_table, local_register, local_const, local_var, Control, Parser, Top, constant, typedef, header_type, struct_type, register, parser, control, Program}
-use Rattle.p4_tree.specs.Places.{plain, plain_stmt, plain_stmts, plain_param, plain_register, plain_keyset, plain_case, plain_transition, plain_state, plain_parser, plain_action, plain_key, plain_default, plain_table, plain_local, plain_control, plain_top, plain_program}
+use Rattle.p4_tree.specs.Tree.{Expr, num, flag, path, one, Stmt, assign, call, stmts_from, Keyset, any, only, masked, Case, Transition, nowhere, to, select, ParserState, Parser}
+use Rattle.p4_tree.specs.Places.{plain, plain_stmt, plain_param, plain_register, plain_keyset, plain_case, plain_transition, plain_state, plain_parser}
 use Rattle.p4_tree.specs.declared.statement.PTy.{PTy}
 use Rattle.p4_tree.specs.declared.program.Param.{Param}
 use Rattle.p4_tree.specs.declared.program.Register.{Register}
 use Rattle.p4_tree.specs.declared.program.Way.{Way}
 use Rattle.p4_tree.specs.declared.program.Way.TheVariants as way
-use Rattle.p4_spelling.specs.Operators.{top}
-use Rattle.p4_spelling.specs.Lists.{SpellsList, SpellsSome, SpellsEach, no_more, one_more}
+use Rattle.p4_spelling.specs.Lists.{SpellsList, SpellsEach, no_more, one_more}
 use Rattle.p4_spelling.specs.Types as types
 use Rattle.p4_spelling.specs.Types.{SpellsWay, SpellsParam, a_param, SpellsArgument, an_argument, SpellsField, a_field, SpellsClosed, closed, SpellsRegister, a_register}
-use Rattle.p4_spelling.specs.Expressions.{Spells}
 use Rattle.p4_spelling.specs.Parsers as parsers
 use Rattle.p4_spelling.specs.Parsers.{SpellsParserStmt, an_assignment, SpellsSimple, SpellsKeyset, a_default, a_value, a_mask, SpellsKeys, one_key, in_brackets, SpellsCase, a_case, SpellsNext, no_transition, a_transition, a_select, SpellsState, a_state, SpellsParser, a_parser}
-use Rattle.p4_spelling.specs.Controls as controls
-use Rattle.p4_spelling.specs.Controls.{SpellsAction, TableProp, keys, size, actions, default, SpellsKey, a_key, SpellsActionName, SpellsFixed, fixed, free, SpellsTableProp, the_keys, the_size, the_actions, the_default, AreOnce, table_of, SpellsTable, SpellsLocal, SpellsControl, a_control}
-use Rattle.p4_spelling.specs.Programs as programs
-use Rattle.p4_spelling.specs.Programs.{SpellsTop, SpellsIncludes, no_include, an_include, SpellsPart, a_part, SpellsProgram, a_program}
-use Rattle.p4_printer.specs.Layout.{bare, in_row, separated, braced}
+use Rattle.p4_printer.specs.Layout.{bare}
 use Rattle.p4_printer.specs.Expressions.{lexemes_of_type, lexemes_of_path, lexemes_of_expr, lexemes_of_exprs}
 use Rattle.p4_printer.specs.Statements.{lexemes_of_stmt, lexemes_of_stmts}
-use Rattle.p4_printer.specs.Programs.{lexemes_of_way, lexemes_of_param, lexemes_of_params, lexemes_of_keyset, lexemes_of_keys, lexemes_of_case, lexemes_of_transition, lexemes_of_state, lexemes_of_parser, lexemes_of_register, lexemes_of_action_param, lexemes_of_action_params, lexemes_of_action, lexemes_of_key, lexemes_of_listed, lexemes_of_key_list, lexemes_of_action_list, lexemes_of_size, lexemes_of_fixed, lexemes_of_given, lexemes_of_default, lexemes_of_properties, lexemes_of_table, lexemes_of_local, lexemes_of_control, lexemes_of_field, lexemes_of_top, lexemes_of_part, lexemes_of_program}
-use Rattle.p4_printer.specs.CanSpell.{EachCan, SomeCan, IsName, CanSpellExpr, CanSpellParserStmt, CanSpellSimple, CanSpellKeyset, CanSpellCase, CanSpellNext, CanSpellState, CanSpellParam, CanSpellParser, CanSpellField, CanSpellAction, CanSpellKey, CanSpellTable, CanSpellRegister, CanSpellLocal, CanSpellControl, CanSpellTop, CanSpell}
-use Rattle.p4_printer.proofs.Spelt.{Spelt, two, spelt_each, spelt_list, spelt_some, spelt_type, spelt_path, spelt_expr, spelt_exprs}
-use Rattle.p4_printer.proofs.SpeltStatements.{spelt_var, spelt_const, spelt_assign, spelt_block}
+use Rattle.p4_printer.specs.Programs.{lexemes_of_way, lexemes_of_param, lexemes_of_params, lexemes_of_keyset, lexemes_of_keys, lexemes_of_case, lexemes_of_transition, lexemes_of_state, lexemes_of_parser, lexemes_of_register, lexemes_of_action_param, lexemes_of_field}
+use Rattle.p4_printer.specs.CanSpell.{EachCan, SomeCan, CanSpellParserStmt, CanSpellSimple, CanSpellKeyset, CanSpellCase, CanSpellNext, CanSpellState, CanSpellParam, CanSpellParser, CanSpellField, CanSpellRegister}
+use Rattle.p4_printer.proofs.Spelt.{Spelt, two, spelt_each, spelt_list, spelt_type, spelt_path, spelt_exprs}
+use Rattle.p4_printer.proofs.SpeltStatements.{spelt_assign}
 
 -- ---- parameters and fields
 
@@ -149,4 +142,3 @@ spelt_parser d c p =
     let x = spelt_params d.params c.1 (p + 1 + 1 + 1) in
     let y = spelt_each plain_state SpellsState CanSpellState lexemes_of_state spelt_state d.states c.2 (p + 1 + 1 + 1 + length (lexemes_of_params d.params) + 1 + 1) in
     record { tree = record { at = p; name = d.name; params = x.tree; states = y.tree }; same = two (parser_with d.name) x.same y.same; spells = a_parser d.name x.spells y.spells }
-

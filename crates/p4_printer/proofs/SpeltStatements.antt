@@ -2,17 +2,17 @@
 use Rattle.std.proofs.Common.{◌≡◌, ℕ, ◌+◌, Bool, true, false, List, [], ◌∷◌, ◌++◌, length, map, Option, Some, None, refl, sym, ap, subst, inl, inr}
 use Rattle.std.specs.Option.{option_map}
 use Rattle.std.proofs.lemmas.List.{append-nil}
-use Rattle.lex_words.specs.Seen.{Lexeme, name, key}
+use Rattle.lex_words.specs.Seen.{Lexeme, key}
 use Rattle.lex_words.specs.declared.key.Key.TheVariants as k
 use Rattle.p4_tree.specs.Tree.{Expr, Arg, one, many, Stmt, Stmts, nothing, block, var, assign, choice, return_, exit_, call, done, next, without, otherwise}
-use Rattle.p4_tree.specs.Places.{plain, plain_arg, plain_stmt, plain_else, plain_stmts}
+use Rattle.p4_tree.specs.Places.{plain, plain_arg, plain_stmt, plain_stmts}
 use Rattle.p4_tree.specs.declared.statement.PTy.{PTy}
 use Rattle.p4_spelling.specs.Operators.{top}
 use Rattle.p4_spelling.specs.Lists.{SpellsSome}
 use Rattle.p4_spelling.specs.Expressions.{Spells}
 use Rattle.p4_spelling.specs.Statements.{SpellsStart, no_start, a_start, SpellsVar, a_var, SpellsConst, a_const, SpellsArg, an_expr, several, SpellsAssign, an_assign, SpellsStmt, a_semicolon, a_block, an_assignment, a_call, a_return, an_exit, an_if, an_if_else, SpellsBlock, in_braces, SpellsMany, no_more, then_var, then_stmt}
 use Rattle.p4_printer.specs.Expressions.{lexemes_of_type, lexemes_of_path, lexemes_of_expr, lexemes_of_arg, lexemes_of_args}
-use Rattle.p4_printer.specs.Statements.{lexemes_of_start, lexemes_of_var, lexemes_of_stmt, lexemes_of_else, lexemes_of_stmts}
+use Rattle.p4_printer.specs.Statements.{lexemes_of_start, lexemes_of_var, lexemes_of_stmt, lexemes_of_stmts}
 use Rattle.p4_printer.specs.Programs.{lexemes_of_constant}
 use Rattle.p4_printer.specs.CanSpell.{MayCan, CanSpellPath, CanSpellExpr, CanSpellArg, CanSpellVar, CanSpellConst, CanSpellStmt, CanSpellStmts, IsVar}
 use Rattle.p4_printer.proofs.Spelt.{Spelt, two, three, spelt_some, spelt_type, spelt_path, spelt_expr, spelt_exprs}

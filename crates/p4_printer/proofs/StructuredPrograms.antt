@@ -1,5 +1,5 @@
 -- What is spelled can be spelled: declarations and programs.
-use Rattle.std.proofs.Common.{◌≡◌, ℕ, ◌+◌, Bool, true, false, List, [], ◌∷◌, ◌++◌, length, Option, Some, None, refl}
+use Rattle.std.proofs.Common.{ℕ, List, [], ◌∷◌, Some, refl}
 use Rattle.lex_text.specs.declared.token.Words.TheVariants.{P4}
 use Rattle.lex_words.specs.Seen.{Lexeme}
 use Rattle.lex_words.specs.Written.{AreLexemes}
@@ -7,9 +7,8 @@ use Rattle.p4_tree.specs.Tree.{Expr, Stmt, Keyset, Case, Transition, ParserState
 use Rattle.p4_tree.specs.declared.statement.PTy.{PTy}
 use Rattle.p4_tree.specs.declared.program.Param.{Param}
 use Rattle.p4_tree.specs.declared.program.Register.{Register}
-use Rattle.p4_tree.specs.declared.program.Way.{Way}
 use Rattle.p4_spelling.specs.Operators.{top}
-use Rattle.p4_spelling.specs.Types.{SpellsWay, SpellsParam, a_param, SpellsArgument, an_argument, SpellsField, a_field, SpellsClosed, closed, both_closed, SpellsRegister, a_register}
+use Rattle.p4_spelling.specs.Types.{SpellsParam, a_param, SpellsArgument, an_argument, SpellsField, a_field, SpellsClosed, closed, both_closed, SpellsRegister, a_register}
 use Rattle.p4_spelling.specs.Expressions.{Spells}
 use Rattle.p4_spelling.specs.Parsers as parsers
 use Rattle.p4_spelling.specs.Parsers.{SpellsParserStmt, an_assignment, SpellsSimple, SpellsKeyset, a_default, a_low_line, a_value, a_mask, SpellsKeys, one_key, SpellsCase, a_case, SpellsNext, no_transition, a_transition, a_select, SpellsState, a_state, SpellsParser, a_parser}
@@ -19,7 +18,6 @@ use Rattle.p4_spelling.specs.Programs as programs
 use Rattle.p4_spelling.specs.Programs.{SpellsTop, SpellsIncludes, SpellsPart, a_part, SpellsProgram, a_program}
 use Rattle.p4_spelling.specs.Statements.{an_assign}
 use Rattle.p4_printer.specs.CanSpell.{EachCan, SomeCan, MayCan, IsName, IsCount, CanSpellType, CanSpellExpr, CanSpellParserStmt, CanSpellSimple, CanSpellKeyset, CanSpellCase, CanSpellNext, CanSpellState, CanSpellParam, CanSpellParser, CanSpellField, CanSpellAction, CanSpellKey, CanSpellDefault, CanSpellTable, CanSpellRegister, CanSpellLocal, CanSpellControl, CanSpellTop, CanSpell}
-use Rattle.p4_printer.specs.Printed.{IsSpelled}
 use Rattle.p4_printer.specs.Laws.{SpelledCanBe}
 use Rattle.p4_printer.proofs.Structured.{are_left, are_right, each_can, list_can, some_can, type_can, path_can, can, exprs_can, var_can, const_can, block_can}
 

@@ -1,5 +1,5 @@
 -- The text of a program that can be spelled is read back as the program but for its places.
-use Rattle.std.proofs.Common.{◌≡◌, ℕ, Bool, true, false, List, [], ◌∷◌, ◌++◌, max, map, Some, refl, sym, ap, subst, ◌∙◌, arith}
+use Rattle.std.proofs.Common.{◌≡◌, Bool, true, false, List, [], ◌∷◌, ◌++◌, max, map, Some, refl, sym, ap, subst, ◌∙◌}
 use Rattle.std.specs.Prelude.{◌==◌}
 use Rattle.std.specs.List.{list_all}
 use Rattle.std.proofs.lemmas.Bool.{and_parts, and_from}
@@ -20,9 +20,7 @@ use Rattle.p4_spelling.specs.Programs.{SpellsProgram}
 use Rattle.p4_printer.specs.Layout.{after_key, after, text_of, in_row}
 use Rattle.p4_printer.specs.Programs.{lexemes_of_top, lexemes_of_main, lexemes_of_program, program_text}
 use Rattle.p4_printer.specs.CanSpell.{CanSpell}
-use Rattle.p4_printer.specs.Printed.{IsSpelled, IsPrinted}
 use Rattle.p4_printer.specs.Laws.{CanBeSpelled, TextIsPrinted}
-use Rattle.p4_printer.proofs.Fits.{Fits}
 use Rattle.p4_printer.proofs.FitsPrograms.{fits_rest}
 use Rattle.p4_printer.proofs.SpeltPrograms.{spelt_program}
 

@@ -1,17 +1,15 @@
 -- Trees that some lexemes spell, but for places: names are names and no reserved words, numbers are in range, what has to
 -- stand is there, and no `else` would go to a nearer `if`.
 use Rattle.std.specs.Prelude.{◌≡◌, ℕ, ◌≤◌, ◌<◌, ◌^◌, ◌⊎◌, Bool, true, false, List, [], ◌∷◌, Option, Some, None}
-use Rattle.lex_text.specs.declared.literal.Literal.{Literal}
 use Rattle.lex_text.specs.declared.token.Words.TheVariants.{P4}
 use Rattle.lex_words.specs.Seen.{name, number}
 use Rattle.lex_words.specs.Written.{IsLexeme}
-use Rattle.p4_tree.specs.Tree.{Expr, num, flag, path, valid, applied, error_name, negation, inversion, opposite, binary, conditional, slice, cast, Arg, one, many, Stmt, Stmts, MaybeStmt, nothing, block, var, assign, choice, return_, exit_, call, done, next, without, otherwise, Keyset, any, only, masked, Case, Transition, nowhere, to, select, ParserState, Action, Table, Local, local_action, local_table, local_register, local_const, local_var, Control, Parser, Top, constant, typedef, header_type, struct_type, register, parser, control, Program}
+use Rattle.p4_tree.specs.Tree.{Expr, num, flag, path, valid, applied, error_name, negation, inversion, opposite, binary, conditional, slice, cast, Arg, one, many, Stmt, Stmts, nothing, block, var, assign, choice, return_, exit_, call, done, next, without, otherwise, Keyset, any, only, masked, Case, Transition, nowhere, to, select, ParserState, Action, Table, Local, local_action, local_table, local_register, local_const, local_var, Control, Parser, Top, constant, typedef, header_type, struct_type, register, parser, control, Program}
 use Rattle.p4_tree.specs.declared.statement.PTy.{PTy}
 use Rattle.p4_tree.specs.declared.statement.PTy.TheVariants as type
 use Rattle.p4_tree.specs.declared.program.Param.{Param}
 use Rattle.p4_tree.specs.declared.program.Register.{Register}
 use Rattle.p4_spelling.specs.Controls.{is_apply}
-use Rattle.p4_printer.specs.Layout.{bare}
 
 -- ---- names, numbers and lists
 

@@ -1,5 +1,5 @@
 -- Laws of trees that can be spelled, and of their printed texts. Each is proved, as the contract of a function of `laws`.
-use Rattle.std.specs.Prelude.{◌≡◌, List, ℕ}
+use Rattle.std.specs.Prelude.{◌≡◌}
 use Rattle.p4_tree.specs.Tree.{Program}
 use Rattle.p4_tree.specs.Places.{IsSameProgram}
 use Rattle.p4_printer.specs.Programs.{program_text}

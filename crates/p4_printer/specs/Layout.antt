@@ -1,5 +1,5 @@
 -- How lexemes are laid out in a text, and lists of them.
-use Rattle.std.specs.Prelude.{ℕ, List, [], ◌∷◌, ◌++◌, codes}
+use Rattle.std.specs.Prelude.{ℕ, List, [], ◌∷◌, ◌++◌}
 use Rattle.lex_text.specs.declared.literal.Literal.{Literal}
 use Rattle.lex_words.specs.Seen.{Lexeme, name, number, key, quoted, include, strange}
 use Rattle.lex_words.specs.Written as written

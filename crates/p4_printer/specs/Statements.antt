@@ -4,7 +4,7 @@ use Rattle.lex_words.specs.Seen.{Lexeme, name, key}
 use Rattle.lex_words.specs.declared.key.Key.TheVariants as k
 use Rattle.p4_tree.specs.Tree.{Expr, Stmt, Stmts, MaybeStmt, nothing, block, var, assign, choice, return_, exit_, call, done, next, without, otherwise}
 use Rattle.p4_tree.specs.declared.statement.PTy.{PTy}
-use Rattle.p4_printer.specs.Layout.{bracketed, braced}
+use Rattle.p4_printer.specs.Layout.{braced}
 use Rattle.p4_printer.specs.Expressions.{lexemes_of_type, lexemes_of_path, lexemes_of_expr, lexemes_of_args}
 
 -- the lexemes of a variable's first value, where it has one

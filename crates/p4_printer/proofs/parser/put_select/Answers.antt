@@ -1,6 +1,6 @@
 use Rattle.lex_words.specs.declared.key.Key.TheVariants as k
-use Rattle.lex_words.specs.Seen.{name, key}
-use Rattle.std.proofs.Common.{append_assoc, ◌++◌, ◌∷◌, [], string_bytes, map, sym, ap, ◌∙◌}
+use Rattle.lex_words.specs.Seen.{key}
+use Rattle.std.proofs.Common.{append_assoc, ◌++◌, ◌∷◌, [], string_bytes, map, ap, ◌∙◌}
 use Rattle.p4_tree.specs.View.{expr_of, case_of}
 use Rattle.p4_printer.specs.Layout.{text_of, in_row, bracketed}
 use Rattle.p4_printer.specs.Expressions.{lexemes_of_exprs}

@@ -1,6 +1,6 @@
 use Rattle.lex_words.specs.declared.key.Key.TheVariants as k
 use Rattle.lex_words.specs.Seen.{name, key}
-use Rattle.std.proofs.Common.{append_assoc, ◌++◌, ◌∷◌, [], string_bytes, map, sym, ap, ◌∙◌}
+use Rattle.std.proofs.Common.{◌++◌, ◌∷◌, [], string_bytes}
 use Rattle.p4_tree.specs.View.{stmts_of, transition_of}
 use Rattle.p4_printer.specs.Statements.{lexemes_of_stmts}
 use Rattle.p4_printer.specs.Programs.{lexemes_of_transition}

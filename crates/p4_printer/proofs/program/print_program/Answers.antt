@@ -1,5 +1,5 @@
 -- What the text says follows from what it is.
-use Rattle.std.proofs.Common.{sym, subst, string_bytes}
+use Rattle.std.proofs.Common.{sym, subst}
 use Rattle.p4_tree.specs.View.{program_of}
 use Rattle.p4_printer.specs.Printed.{IsPrinted}
 use Rattle.p4_printer.proofs.Whole.{text_is_printed}

@@ -1,6 +1,6 @@
 use Rattle.lex_words.specs.declared.key.Key.TheVariants as k
-use Rattle.lex_words.specs.Seen.{name, key}
-use Rattle.std.proofs.Common.{append_assoc, ◌++◌, ◌∷◌, [], string_bytes, map, sym, ap, ◌∙◌}
+use Rattle.lex_words.specs.Seen.{key}
+use Rattle.std.proofs.Common.{◌++◌, ◌∷◌, [], string_bytes, map}
 use Rattle.p4_tree.specs.View.{arg_of}
 use Rattle.p4_printer.specs.Expressions.{lexemes_of_path, lexemes_of_args}
 use Rattle.p4_printer.proofs.Texts.{follows}
