@@ -1,6 +1,7 @@
 -- The way that the program computes is the run of the linked programs.
-use Rattle.std.proofs.Common.{◌≡◌, ℕ, ◌+◌, List, [], ◌∷◌, ◌++◌, map, length, cond, None, refl, ap, ap₂, sym, ◌∙◌, subst, arith, codes}
-use Rattle.std.specs.List.{fold}
+use Rattle.std.proofs.Common.{◌≡◌, ℕ, zero, suc, ◌+◌, ◌<◌, ◌^◌, lit<, List, [], ◌∷◌, ◌++◌, map, length, cond, None, refl, ap, ap₂, sym, ◌∙◌, subst, arith, codes}
+use Rattle.std.specs.List.{All, fold}
+use Rattle.std.proofs.lemmas.List.Elements.{All-cons, All-nil}
 use Rattle.std.specs.Prelude.{slice_get, nat_eq, count_by, sum_by}
 use Rattle.bit_values.specs.Bits.{Word, cast}
 use Rattle.indus_tree.specs.Tree.{Property}
@@ -21,7 +22,14 @@ use Rattle.wire_linkage.specs.Ways.{wire_line_links, net_before, told_of, edges_
 use Rattle.wire_linkage.proofs.Ways.{way_is_run}
 use Rattle.hydra_cli.specs.declared.wire.LinkedLine.{LinkedLine}
 use Rattle.hydra_cli.specs.Line as line
-use Rattle.hydra_cli.specs.Line.{IsLinkedLine, fate_files, summary_of_way}
+use Rattle.hydra_cli.specs.Line.{CanPrintLine, IsLinkedLine, fate_files, summary_of_way}
+use Rattle.p4_printer.specs.CanSpell.{CanSpell}
+use Rattle.p4_printer.specs.Printed.{IsPrinted}
+use Rattle.p4_printer.specs.Programs.{program_text}
+use Rattle.p4_printer.proofs.Whole.{text_is_printed}
+use Rattle.wire_linker.specs.Linked.{linked_wire}
+use Rattle.wire_linker.proofs.Printable.{linked_can_be_printed}
+use Rattle.wire_program.specs.Network.{wire_line}
 use Rattle.hydra_cli.specs.Network.{link_limit, machine_for}
 use Rattle.wire_linkage.specs.Linkage.{IsWireLinkage}
 use Rattle.hydra_cli.specs.Output.{IsWireOutput}
@@ -59,6 +67,31 @@ pub linked_files-line : (p : Property) (out : List ℕ) (l : LinkedLine) → IsL
     → program_file out (codes "s1") (program_of l.s1) ∷ program_file out (codes "s2") (program_of l.s2) ∷ program_file out (codes "s3") (program_of l.s3) ∷ []
     ≡ linked_files out (program_at p)
 linked_files-line p out l linked = rw (linked.s1, linked.s2, linked.s3) refl
+
+-- they can be printed
+line_prints : (p : Property) → IsSmall p → (ports : List ℕ) → All (λ n. n < 2 ^ 16) ports → (g : Program) → g ≡ linked_wire p ports → CanSpell g
+line_prints p small ports low g is = subst CanSpell (sym is) (linked_can_be_printed p ports small low)
+
+one_port : (n : ℕ) → n < 2 ^ 16 → All (λ n. n < 2 ^ 16) (n ∷ [])
+one_port n low = All-cons (λ n. n < 2 ^ 16) n [] low (All-nil (λ n. n < 2 ^ 16))
+
+two_ports : All (λ n. n < 2 ^ 16) (1 ∷ 2 ∷ [])
+two_ports = All-cons (λ n. n < 2 ^ 16) 1 (2 ∷ []) (lit< tt) (one_port 2 (lit< tt))
+
+pub can_print_line : (p : Property) → IsSmall p → (l : LinkedLine) → IsLinkedLine p l → CanPrintLine l
+can_print_line p small l linked =
+    record {
+      s1 = line_prints p small (2 ∷ []) (one_port 2 (lit< tt)) (program_of l.s1) linked.s1;
+      s2 = line_prints p small (1 ∷ 2 ∷ []) two_ports (program_of l.s2) linked.s2;
+      s3 = line_prints p small (1 ∷ []) (one_port 1 (lit< tt)) (program_of l.s3) linked.s3;
+    }
+
+-- and their texts spell them
+pub texts_spell : (p : Property) → IsSmall p → (s : ℕ) → s < wire_line.switches → IsPrinted (program_at p s) (program_text (program_at p s))
+texts_spell p small zero low = text_is_printed (program_at p 0) (linked_can_be_printed p (2 ∷ []) small (one_port 2 (lit< tt)))
+texts_spell p small (suc zero) low = text_is_printed (program_at p 1) (linked_can_be_printed p (1 ∷ 2 ∷ []) small two_ports)
+texts_spell p small (suc (suc zero)) low = text_is_printed (program_at p 2) (linked_can_be_printed p (1 ∷ []) small (one_port 1 (lit< tt)))
+texts_spell p small (suc (suc (suc s))) low = absurd (omega arith)
 
 -- the same number of reports, from any number on
 reports_from : (n : ℕ) (told : List (ℕ × Digest)) → fold (λ a t. a + cond (is_report t.digest) 1 0) n (map told_of told) ≡ fold (λ a t. a + cond (nat_eq t.1.receiver report_receiver) 1 0) n told
@@ -119,12 +152,13 @@ cast-no_cell (x ∷ xs) none = cc
 
 -- a linkage, the written files and the summary are what `wire` owes
 pub wire_output : (programs : (switch : ℕ) → Program) (p : Property) (frame out : List ℕ) (given : Out) → IsWireLinkage programs p
-    → given.files ≡ linked_files out programs ++ frame_files out (run_of_frame programs p frame)
+    → ((s : ℕ) → s < wire_line.switches → IsPrinted (programs s) (program_text (programs s))) → given.files ≡ linked_files out programs ++ frame_files out (run_of_frame programs p frame)
     → given.text ≡ summary_of_run (run_of_frame programs p frame) → IsWireOutput p frame out given
-wire_output programs p frame out given linked files text = record {
+wire_output programs p frame out given linked spelled files text = record {
   headline = record {
     programs = programs;
     writes = files;
+    spelled = spelled;
     executes = text;
     drop_rejected = λ w valid n. (linked.linkage.counts w valid n).dropped;
     report = linked.linkage.reports;

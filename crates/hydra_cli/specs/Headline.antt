@@ -18,6 +18,8 @@ use Rattle.linked_halves.specs.Telemetry.{telemetry_of}
 use Rattle.wire_program.specs.WireProgram.{wire_program}
 use Rattle.wire_program.specs.Network.{wire_line}
 use Rattle.wire_linkage.specs.Line.{plain_line, line_of, run_of_frame}
+use Rattle.p4_printer.specs.Programs.{program_text}
+use Rattle.p4_printer.specs.Printed.{IsPrinted}
 use Rattle.job_course.specs.Output.{Out}
 use Rattle.hydra_cli.specs.Wire.{Run, linked_files, frame_files, summary_of_run}
 
@@ -42,6 +44,8 @@ pub record Headline (p : Property) (frame out : List ℕ) (given : Out) : Type 0
   -- first of its files,
   pub writes :
       given.files ≡ linked_files out programs ++ frame_files out (run_of_frame programs p frame)
+  -- which the texts spell,
+  pub spelled : (s : ℕ) → s < wire_line.switches → IsPrinted (programs s) (program_text (programs s))
   -- and executes, here on the one frame,
   pub executes : given.text ≡ summary_of_run (run_of_frame programs p frame)
   -- drop at its last hop exactly those packets whose whole path the property rejects, besides those

@@ -3,6 +3,7 @@ use Rattle.std.specs.Prelude.{◌≡◌, ℕ, ◌-◌, List, [], ◌∷◌, ◌+
 use Rattle.indus_tree.specs.Tree.{Property}
 use Rattle.p4_tree.specs.View.{program_of}
 use Rattle.linkage.specs.Linkage.{report_receiver}
+use Rattle.p4_printer.specs.CanSpell.{CanSpell}
 use Rattle.wire_linker.specs.Linked.{linked_wire}
 use Rattle.wire_machine.specs.Machine.{Machine}
 use Rattle.wire_network.specs.Travel.{Net, Fate, left, dropped, lost}
@@ -15,6 +16,12 @@ pub record IsLinkedLine (p : Property) (line : LinkedLine) : Type 0 where
   pub s1 : program_of line.s1 ≡ linked_wire p (2 ∷ [])
   pub s2 : program_of line.s2 ≡ linked_wire p (1 ∷ 2 ∷ [])
   pub s3 : program_of line.s3 ≡ linked_wire p (1 ∷ [])
+
+-- each can be printed
+pub record CanPrintLine (line : LinkedLine) : Type 0 where
+  pub s1 : CanSpell (program_of line.s1)
+  pub s2 : CanSpell (program_of line.s2)
+  pub s3 : CanSpell (program_of line.s3)
 
 -- the file of the frame, where it left
 abbrev pub fate_files : (out : List ℕ) → Fate → List (List ℕ × List ℕ)

@@ -9,12 +9,11 @@ use Rattle.p4_meaning.specs.Pass.{Kept, Queued}
 use Rattle.network_run.specs.Network.{Net}
 use Rattle.linkage.specs.Linkage.{is_report}
 use Rattle.linked_halves.specs.Monitor.{rejects_register}
-use Rattle.wire_printer.specs.Text.{text_of}
-use Rattle.wire_printer.specs.Programs.{words_of_program}
+use Rattle.p4_printer.specs.Programs.{program_text}
 
--- the file of a switch's linked program: its words, each with a line feed behind it
+-- the file of a switch's linked program: its printed text
 unfoldable pub program_file : (out switch : List ℕ) → Program → List ℕ × List ℕ
-program_file o s g = (o ++ (codes ".linked." ++ (s ++ codes ".p4")), text_of (words_of_program g))
+program_file o s g = (o ++ (codes ".linked." ++ (s ++ codes ".p4")), program_text g)
 
 -- the files of the switches' programs, in the network's order
 abbrev pub linked_files : (out : List ℕ) → (programs : (switch : ℕ) → Program) → List (List ℕ × List ℕ)

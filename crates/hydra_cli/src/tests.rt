@@ -311,7 +311,8 @@ fn statuses_are_the_numbers_from_0_on(rt: HostRuntime) {
     }
 }
 
-/// The words of s2's linked program for `LEAVES`, typed from the grammar of P4.
+/// The tokens of s2's linked program for `LEAVES`, typed from the grammar of P4, and how they are laid
+/// out: behind `;`, `{` and `}` a line ends, and else a blank stands.
 const S2: &str = "\
 header hydra_tele_t { bit < 8 > hydra_mark ; bit < 8 > hydra_v_n ; }
 register < bit < 32 > > ( 1 ) hydra_rejects ;
@@ -348,13 +349,14 @@ V1Switch ( WireParser ( ) , WireVerify ( ) , WireIngress ( ) , WireEgress ( ) ,
 WireCompute ( ) , WireDeparser ( ) ) main ;";
 
 #[test]
-fn linked_text_is_the_words_of_the_grammar(rt: HostRuntime) -> Result<(), Fail> {
+fn linked_text_is_the_tokens_of_the_grammar(rt: HostRuntime) -> Result<(), Fail> {
     let alloc = rt.alloc();
-    let mut text = String::new(alloc);
+    let mut text = String::from_str(alloc, "#include <core.p4>\n#include <v1model.p4>\n")?;
     for line in S2.lines() {
         for word in line.split(' ') {
             text.push_str(word)?;
-            text.push('\n')?;
+            let ends = word == ";" || word == "{" || word == "}";
+            text.push(if ends { '\n' } else { ' ' })?;
         }
     }
     let (_, store, _) = answered(alloc, "wire p f o", LEAVES.as_bytes(), &[1, 2], NONE)?;

@@ -14,7 +14,8 @@ ghost use Rattle.wire_linkage.specs.Ways.{wire_line_links};
 ghost use Rattle.job_course.specs.Output.{file_of, files_of, out_of};
 ghost use Rattle.job_course.specs.Steps.{Follows, Judged};
 ghost use Rattle.hydra_cli.specs.Command.{IsBuilt, IsNotBuilt, frame, small_property};
-ghost use Rattle.hydra_cli.specs.Line.{IsLinkedLine, fate_files, rejected_by as rejected_of, summary_of_counts, summary_of_way};
+ghost use Rattle.p4_printer.specs.CanSpell.{CanSpell};
+ghost use Rattle.hydra_cli.specs.Line.{CanPrintLine, IsLinkedLine, fate_files, rejected_by as rejected_of, summary_of_counts, summary_of_way};
 ghost use Rattle.hydra_cli.specs.Network.{link_limit, machine_for};
 ghost use Rattle.hydra_cli.specs.Output.{IsWireOutput};
 ghost use Rattle.hydra_cli.specs.Wire.{program_file};
@@ -25,12 +26,12 @@ use crate::small::is_small;
 use indus_types::TypedProperty;
 use job_course::{Area, Output, Refusal, Status, Stop, read_file};
 use outside::Store;
+use p4_printer::print_program;
 use p4_tree::Program;
 use std::alloc::{AllocError, Global};
 use wire_linker::link_wire;
 use wire_machine::Switch;
 use wire_network::{Arrival, Fate, Link, Told, carry};
-use wire_printer::program_words;
 
 /// The greatest length of a frame, in bytes.
 const FRAME_LIMIT: u64 = 65535;
@@ -156,6 +157,7 @@ fn texts_of(
     out: &String,
     line: &LinkedLine,
 ) -> Result<Vec<(String, Vec<u8>)>, AllocError>
+    requires { CanPrintLine line.now }
     ensures { IfOk result (λ v. files_of v.items ≡ program_file (string_bytes out.now) (codes "s1") (program_of line.now.s1) ∷ program_file (string_bytes out.now) (codes "s2") (program_of line.now.s2) ∷ program_file (string_bytes out.now) (codes "s3") (program_of line.now.s3) ∷ []) }
 {
     let mut files = Vec::new(alloc);
@@ -173,10 +175,11 @@ fn linked_text(
     switch: &str,
     program: &Program,
 ) -> Result<(String, Vec<u8>), AllocError>
+    requires { CanSpell (program_of program.now) }
     ensures { IfOk result (λ f. file_of f ≡ program_file (string_bytes out.now) switch.now (program_of program.now)) }
 {
     let name = format!(in alloc; "{out}.linked.{switch}.p4")?;
-    let text = program_words(alloc, program)?;
+    let text = print_program(alloc, program)?;
     Ok((name, text.into_bytes()))
 }
 

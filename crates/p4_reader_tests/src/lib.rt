@@ -1,10 +1,13 @@
-//! Tests of the readers of P4: texts with their trees, and texts that spell none.
+//! Tests of the readers and the printer of P4: texts with their trees, texts that spell none, and
+//! programs that are read and printed.
 #![tactic(auto)]
 
 #[cfg(test)]
 mod expressions;
 #[cfg(test)]
 mod places;
+#[cfg(test)]
+mod printing;
 #[cfg(test)]
 mod programs;
 #[cfg(test)]

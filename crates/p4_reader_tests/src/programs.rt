@@ -1,7 +1,9 @@
 //! Texts of programs with their trees, and texts that spell none, with the token at which that is
 //! seen.
 
-ghost use Rattle.std.specs.Prelude.{◌≤◌, length};
+ghost use Rattle.std.specs.Prelude.{◌≤◌, length, IfOk};
+ghost use Rattle.p4_tree.specs.View.{program_of};
+ghost use Rattle.p4_printer.specs.CanSpell.{CanSpell};
 
 use crate::samples::{
     BASIC, BASIC_WORDS, DROP, DROP_WORDS, EXIT, EXIT_WORDS, SHORT, SHORT_WORDS, TWO, TWO_WORDS,
@@ -9,14 +11,16 @@ use crate::samples::{
 };
 use lex_text::{Words, tokens};
 use p4_decls::{ProgramFault, read_program};
+use p4_printer::print_program;
 use p4_tree::Program;
 use std::alloc::{AllocError, Global};
 use std::process::Abort;
 use std::test::Fail;
-use wire_printer::program_words;
 
 /// The program of a text.
-fn read(rt: &impl Abort, alloc: Global, text: &[u8]) -> Result<Program, ProgramFault> {
+pub fn read(rt: &impl Abort, alloc: Global, text: &[u8]) -> Result<Program, ProgramFault>
+    ensures { IfOk result (λ p. CanSpell (program_of p)) }
+{
     assert!(rt; text.len() <= 1048576);
     read_program(alloc, text)
 }
@@ -67,13 +71,20 @@ fn in_lines(alloc: Global, words: &str) -> Result<String, AllocError> {
     Ok(out)
 }
 
-/// The text spells a program with these words.
-fn spells(rt: &impl Abort, alloc: Global, text: &str, words: &str) -> Result<(), Fail> {
+/// What a printed program begins with, which is no part of its tree.
+const INCLUSIONS: &str = "#include <core.p4>\n#include <v1model.p4>\n";
+
+/// The text spells a program that is printed with these words.
+pub fn spells(rt: &impl Abort, alloc: Global, text: &str, words: &str) -> Result<(), Fail> {
     let program = match read(rt, alloc, text.as_bytes()) {
         Ok(program) => program,
         Err(_) => return Err(Fail::new("a sample is refused")),
     };
-    assert_eq!(rt; program_words(alloc, &program)?, in_lines(alloc, words)?);
+    let printed = print_program(alloc, &program)?;
+    let Some(tokens) = printed.as_str().strip_prefix(INCLUSIONS) else {
+        return Err(Fail::new("no inclusions"));
+    };
+    assert_eq!(rt; in_lines(alloc, tokens)?, in_lines(alloc, words)?, "{text}");
     Ok(())
 }
 

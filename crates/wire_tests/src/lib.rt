@@ -1,5 +1,5 @@
-//! Tests of the wire program: its linker, printer and machine; and of what P4 programs do, from their
-//! texts to the frames that leave.
+//! Tests of the wire program: its linker and machine; and of what P4 programs do, from their texts to the
+//! frames that leave.
 #![tactic(auto)]
 
 #[cfg(test)]
@@ -9,10 +9,6 @@ mod network;
 #[cfg(test)]
 mod parts;
 #[cfg(test)]
-mod printing;
-#[cfg(test)]
 mod rows;
 #[cfg(test)]
 mod support;
-#[cfg(test)]
-mod trees;

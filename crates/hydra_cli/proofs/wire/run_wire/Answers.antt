@@ -5,7 +5,7 @@ use Rattle.p4_meaning.specs.Parts.{parts_of}
 use Rattle.wire_linkage.specs.Line.{program_at, run_of_frame}
 use Rattle.wire_linkage.specs.Ways.{ShowsWay}
 use Rattle.wire_linkage.proofs.Theorem.{wire_linked}
-use Rattle.hydra_cli.proofs.WireRun.{wire_output, net_of-line, run_shows, linked_files-line, frame_files-way, summary-way}
+use Rattle.hydra_cli.proofs.WireRun.{wire_output, can_print_line, texts_spell, net_of-line, run_shows, linked_files-line, frame_files-way, summary-way}
 use Rattle.hydra_cli.proofs.wire.run_wire.Goals as goal
 
 pub returns : goal.returns
@@ -15,7 +15,10 @@ returns c =
     let run = run_of_frame (program_at p) p c.args.job.frame.items in
     let net = net_of-line p c.in_ok-line.line c.in_ok-line.ensures _ _ c.in_ok-switches.ensures.machines c.new-told.ensures.items in
     let shows = subst (λ way. ShowsWay (λ s. parts_of (program_at p s)) run way) (sym c.in_ok-fate.ensures) (run_shows p c.requires.small c.args.job.frame.items _ _ c.link_limit_of-limit.ensures.limit net) in
-    wire_output (program_at p) p c.args.job.frame.items out _ (wire_linked p c.requires.small)
+    wire_output (program_at p) p c.args.job.frame.items out _ (wire_linked p c.requires.small) (texts_spell p c.requires.small)
     (c.in_ok-push_frame.ensures
     ∙ ap₂ (λ (a b : List (List ℕ × List ℕ)). a ++ b) (c.in_ok-files.ensures ∙ linked_files-line p out c.in_ok-line.line c.in_ok-line.ensures) (frame_files-way p run _ shows out))
     (c.in_ok-text.ensures ∙ (rw (c.deref.ensures.value, c.deref-2.ensures.value) at c.count-counts.ensures) ∙ summary-way p run _ shows)
+
+pub texts_of-requires : goal.texts_of-requires
+texts_of-requires c = can_print_line (typed_of c.args.job.property) c.requires.small c.in_ok-line.line c.in_ok-line.ensures

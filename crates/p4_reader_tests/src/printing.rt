@@ -1,22 +1,9 @@
-//! Programs as words: a text is read, and printed word by word. Each row was worked by hand.
+//! Programs that are read and printed: their words, worked by hand; and their copies.
 
-use crate::support::program;
+use crate::programs::{read, spells};
 use std::alloc::{AllocError, Global};
 use std::process::Abort;
 use std::test::Fail;
-use wire_printer::program_words;
-
-/// The words of a text, a word a line. They have a blank or a line feed between.
-fn words(alloc: Global, text: &str) -> Result<String, AllocError> {
-    let mut lines = String::new(alloc);
-    for line in text.lines() {
-        for word in line.split(' ') {
-            lines.push_str(word)?;
-            lines.push_str("\n")?;
-        }
-    }
-    Ok(lines)
-}
 
 /// The text of a program of one control that does one statement.
 fn one_statement(alloc: Global, statement: &str) -> Result<String, AllocError> {
@@ -24,13 +11,6 @@ fn one_statement(alloc: Global, statement: &str) -> Result<String, AllocError> {
     text.push_str(statement)?;
     text.push_str(" } } V1Switch ( c ( ) ) main ;")?;
     Ok(text)
-}
-
-/// The program of a text is printed with these words.
-fn prints(rt: &impl Abort, alloc: Global, text: &str, wanted: &str) -> Result<(), Fail> {
-    let printed = program_words(alloc, &program(rt, alloc, text)?)?;
-    assert_eq!(rt; printed, words(alloc, wanted)?, "{text}");
-    Ok(())
 }
 
 /// Statements, and their words where they are others.
@@ -64,13 +44,13 @@ fn statements(rt: HostRuntime) -> Result<(), Fail> {
             return Err(Fail::new("a row has no words"));
         };
         let text = one_statement(alloc, statement)?;
-        prints(&rt, alloc, &text, &one_statement(alloc, wanted)?)?;
+        spells(&rt, alloc, &text, &one_statement(alloc, wanted)?)?;
     }
     Ok(())
 }
 
 /// Each declaration, as it is printed.
-pub const DECLARATIONS: &str = "\
+const DECLARATIONS: &str = "\
 const bit < 8 > most = 8w255 ;
 typedef bit < 9 > port_t ;
 header h_t { bit < 8 > a ; bit < 16 > b ; }
@@ -95,5 +75,29 @@ V1Switch ( P ( ) , C ( ) ) main ;";
 
 #[test]
 fn declarations(rt: HostRuntime) -> Result<(), Fail> {
-    prints(&rt, rt.alloc(), DECLARATIONS, DECLARATIONS)
+    spells(&rt, rt.alloc(), DECLARATIONS, DECLARATIONS)
+}
+
+/// A copy of a text's program is shown as the program is, places and all.
+fn is_copied(rt: &impl Abort, alloc: Global, text: &str) -> Result<(), Fail> {
+    let program = match read(rt, alloc, text.as_bytes()) {
+        Ok(program) => program,
+        Err(_) => return Err(Fail::new("a program is refused")),
+    };
+    let copy = program.copy(alloc)?;
+    let shown = format!(in alloc; "{copy:?}")?;
+    assert!(rt; shown == format!(in alloc; "{program:?}")?);
+    Ok(())
+}
+
+#[test]
+fn programs_are_copied(rt: HostRuntime) -> Result<(), Fail> {
+    let alloc = rt.alloc();
+    is_copied(&rt, alloc, DECLARATIONS)?;
+    for row in STATEMENTS.lines() {
+        if let Some((statement, _)) = row.split_once(" => ") {
+            is_copied(&rt, alloc, &one_statement(alloc, statement)?)?;
+        }
+    }
+    Ok(())
 }

@@ -1,4 +1,0 @@
-pub mod Texts
-pub mod Loops
-pub mod Views
-pub mod Keys

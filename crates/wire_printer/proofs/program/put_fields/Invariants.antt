@@ -1,7 +1,0 @@
-use Rattle.std.proofs.Common.{◌≡◌, ◌++◌, string_bytes, map, take}
-use Rattle.wire_printer.specs.Text.{text_of, in_row}
-use Rattle.wire_printer.specs.Programs.{words_of_field}
-use Rattle.wire_printer.proofs.program.put_fields.Given as goal
-
-abbrev pub invariant-loop-field : goal.invariant-loop-field
-invariant-loop-field l = string_bytes l.out ≡ string_bytes l.initial.out ++ text_of (in_row (map words_of_field (take l.field-index l.fields)))

@@ -1,8 +1,0 @@
-use Rattle.std.proofs.Common.{◌≡◌, ◌++◌, string_bytes, map, take}
-use Rattle.p4_tree.specs.View.{local_of}
-use Rattle.wire_printer.specs.Text.{text_of, in_row}
-use Rattle.wire_printer.specs.Programs.{words_of_local}
-use Rattle.wire_printer.proofs.program.put_locals.Given as goal
-
-abbrev pub invariant-loop-local : goal.invariant-loop-local
-invariant-loop-local l = string_bytes l.out ≡ string_bytes l.initial.out ++ text_of (in_row (map words_of_local (map local_of (take l.local-index l.locals))))

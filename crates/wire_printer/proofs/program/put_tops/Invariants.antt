@@ -1,8 +1,0 @@
-use Rattle.std.proofs.Common.{◌≡◌, ◌++◌, string_bytes, map, take}
-use Rattle.p4_tree.specs.View.{top_of}
-use Rattle.wire_printer.specs.Text.{text_of, in_row}
-use Rattle.wire_printer.specs.Programs.{words_of_top}
-use Rattle.wire_printer.proofs.program.put_tops.Given as goal
-
-abbrev pub invariant-loop-top : goal.invariant-loop-top
-invariant-loop-top l = string_bytes l.out ≡ string_bytes l.initial.out ++ text_of (in_row (map words_of_top (map top_of (take l.top-index l.tops))))
