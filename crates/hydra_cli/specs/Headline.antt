@@ -42,8 +42,7 @@ pub record Headline (p : Property) (frame out : List ℕ) (given : Out) : Type 0
   -- and for every network, table contents, list of packets and schedule (`InEveryWorld`; of networks
   -- this one, whose program applies no table), the linked programs that the call writes, as the
   -- first of its files,
-  pub writes :
-      given.files ≡ linked_files out programs ++ frame_files out (run_of_frame programs p frame)
+  pub writes : given.files ≡ linked_files out programs ++ frame_files out (run_of_frame programs p frame)
   -- which the texts spell,
   pub spelled : (s : ℕ) → s < wire_line.switches → IsPrinted (programs s) (program_text (programs s))
   -- and executes, here on the one frame,
@@ -60,5 +59,4 @@ pub record Headline (p : Property) (frame out : List ℕ) (given : Out) : Type 0
       linked.edges ≡ filter (λ x. not (rejects path x.packet)) alone.edges)
   -- and with the forwarding registers, of the forwarding program alone.
   pub registers : InEveryWorld p programs (λ alone linked path.
-      (s : ℕ) → s < wire_line.switches →
-      SameRegisters (registers_of (parts_of wire_program)) (alone.switches s) (linked.switches s))
+      (s : ℕ) → s < wire_line.switches → SameRegisters (registers_of (parts_of wire_program)) (alone.switches s) (linked.switches s))
