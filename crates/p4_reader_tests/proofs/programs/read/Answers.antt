@@ -20,4 +20,4 @@ answer_can text (Ok p) h = program_can text (program_of p) h
 answer_can text (Err e) h = tt
 
 pub returns : goal.returns
-returns c = answer_can c.args.text.now c.read_program.result c.read_program.ensures.found
+returns g c = answer_can c.args.text.now c.read_program.result c.read_program.ensures.found
