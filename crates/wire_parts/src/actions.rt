@@ -6,14 +6,14 @@ ghost use Rattle.p4_tree.specs.View.{action_of, arg_of, control_of, expr_of, loc
 ghost use Rattle.p4_meaning.specs.Statements.{values_in};
 ghost use Rattle.p4_meaning.specs.Under.{in_control, no_scope};
 ghost use Rattle.p4_meaning.specs.Actions.{param_under, action_under, actions_in, actions_of, action_named, params_of, args_of};
-ghost use Rattle.p4_scope.specs.Lent.{lent};
+ghost use Rattle.p4_resolved.specs.Lent.{lent};
 ghost use Rattle.wire_parts.specs.PartsIn.{action_in, param_in};
-ghost use Rattle.p4_scope.specs.Scopes.{scope_of};
+ghost use Rattle.p4_resolved.specs.Scopes.{scope_of};
 
 use crate::parts::{Action, Taken};
 use bit_values::Bits;
 use lex_text::Name;
-use p4_scope::{
+use p4_resolved::{
     Scope, first_name, full_name, in_action, in_control, no_scope, pass_local, pass_top,
     stmts_under, width_under,
 };

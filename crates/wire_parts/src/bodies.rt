@@ -6,13 +6,13 @@ ghost use Rattle.p4_tree.specs.View.{control_of, local_of, parser_of, program_of
 ghost use Rattle.p4_meaning.specs.Parts as meaning;
 ghost use Rattle.p4_meaning.specs.Parts.{body_of, parser_in, parser_type, scope_at_control, scope_at_parser, states_in, states_of};
 ghost use Rattle.p4_meaning.specs.Under.{behind_locals, behind_tops, no_scope};
-ghost use Rattle.p4_scope.specs.Lent.{lent};
+ghost use Rattle.p4_resolved.specs.Lent.{lent};
 ghost use Rattle.wire_parts.specs.Locals.{settings};
 ghost use Rattle.wire_parts.specs.PartsIn.{body_in};
-ghost use Rattle.p4_scope.specs.Scopes.{scope_of};
+ghost use Rattle.p4_resolved.specs.Scopes.{scope_of};
 
 use crate::parts::Body;
-use p4_scope::{
+use p4_resolved::{
     Scope, control_named, in_control, in_parser, named_in, no_scope, param_type, parser_named,
     pass_local, pass_top, states_under, stmts_under, var_under,
 };

@@ -15,7 +15,7 @@ use crate::header::{Field, Header};
 use crate::parts::{Action, Cells, Parts, Table};
 use crate::tables::tables_of;
 use lex_text::Name;
-use p4_scope::struct_fields;
+use p4_resolved::struct_fields;
 use p4_tree::{PTy, Program};
 use std::alloc::{AllocError, Global};
 

@@ -6,13 +6,13 @@ ghost use Rattle.p4_meaning.specs.Parts.{field_of, cells_under, registers_in, re
 ghost use Rattle.p4_meaning.specs.Under.{in_control, no_scope};
 ghost use Rattle.wire_parts.specs.Headers.{field_in, header_in, header_with};
 ghost use Rattle.wire_parts.specs.PartsIn.{cells_decl};
-ghost use Rattle.p4_scope.specs.Scopes.{scope_of};
+ghost use Rattle.p4_resolved.specs.Scopes.{scope_of};
 
 use crate::header::{Field, Header};
 use crate::parts::Cells;
 use bit_values::sound_width;
 use lex_text::Name;
-use p4_scope::{
+use p4_resolved::{
     Scope, full_name, header_fields, in_control, no_scope, pass_top, type_name, width_under,
 };
 use p4_tree::{Control, Local, PTy, Register, Top};

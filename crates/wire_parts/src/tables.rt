@@ -6,14 +6,14 @@ ghost use Rattle.p4_tree.specs.View.{control_of, default_of, key_of, local_of, t
 ghost use Rattle.p4_meaning.specs.Scope.{full_name};
 ghost use Rattle.p4_meaning.specs.Under.{in_control, no_scope};
 ghost use Rattle.p4_meaning.specs.Tables.{default_under, key_under, table_under, table_named, tables_in, tables_of};
-ghost use Rattle.p4_scope.specs.Lent.{lent};
+ghost use Rattle.p4_resolved.specs.Lent.{lent};
 ghost use Rattle.wire_parts.specs.PartsIn.{action_in, chosen_in, key_in, table_in};
-ghost use Rattle.p4_scope.specs.Scopes.{scope_of};
+ghost use Rattle.p4_resolved.specs.Scopes.{scope_of};
 
 use crate::actions::{action_named, params_of, words_of};
 use crate::parts::{Action, Chosen, Key, Table};
 use lex_text::Name;
-use p4_scope::{
+use p4_resolved::{
     Scope, expr_under, exprs_under, full_name, in_control, no_scope, pass_local, pass_top,
 };
 use p4_tree::{Control, Expr, Local, Top};

@@ -1,8 +1,7 @@
--- What a call of code does that is no call of an action and no application of a table; checksum calls, argument by
--- argument; and a checksum byte by byte.
+-- What a call of code does that is no call of an action and no application of a table; and checksum calls, argument by
+-- argument.
 use Rattle.std.specs.Prelude.{◌≡◌, ℕ, List, [], ◌∷◌, Bool, Option, Some, None}
 use Rattle.p4_tree.specs.Tree.{Expr, path, Arg, one}
-use Rattle.p4_meaning.specs.Checksum.{bytes_sum}
 use Rattle.bit_values.specs.Bits.{Word, word}
 use Rattle.bit_values.specs.Widths.{sound_width, cast_word}
 use Rattle.p4_meaning.specs.Statements.{Act, sums, idle, no_calls, done_by}
@@ -23,11 +22,6 @@ sum_at verifies c es _ = idle
 abbrev pub sum_behind : Bool → Expr → List Expr → List Arg → Act
 sum_behind verifies c es (one p field ∷ one q algorithm ∷ []) = sum_at verifies c es field
 sum_behind verifies c es _ = idle
-
--- the one's complement sum from a number on, perhaps with the first byte of a pair
-abbrev pub sum_from : ℕ → Option ℕ → List ℕ → ℕ
-sum_from sum None bytes = bytes_sum sum bytes
-sum_from sum (Some high) bytes = bytes_sum sum (high ∷ bytes)
 
 -- the table that a test applies, and whether it asks for a hit
 abbrev pub asked_of : code_asked.Asked → List ℕ × Bool

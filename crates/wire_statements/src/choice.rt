@@ -4,7 +4,7 @@ ghost use Rattle.std.specs.Prelude.{◌≡◌, map};
 ghost use Rattle.std.specs.Option.{option_map};
 ghost use Rattle.p4_meaning.specs.Choice.{fits_key, fits_keys, prefix_of, rank_of, higher, choice_of};
 ghost use Rattle.p4_meaning.specs.Tables.{has_ternary};
-ghost use Rattle.p4_scope.specs.Lent.{lent};
+ghost use Rattle.p4_resolved.specs.Lent.{lent};
 ghost use Rattle.wire_parts.specs.PartsIn.{key_in};
 ghost use Rattle.wire_statements.specs.Held.{match_of, entry_of};
 

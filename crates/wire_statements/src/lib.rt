@@ -3,9 +3,8 @@
 //! The layer above gets `Fields`, the words in sight by path, with `Run`, which adds the cells of
 //! registers and the digests so far; `run_body`, which runs a control's variables and its body, over
 //! what calls do: `NoCalls`, or `Held`, the actions and tables of a program on what a switch keeps in
-//! them (`Entries`); `csum16`, the checksum of bytes; and the pieces that a parser shares with
-//! controls. Contracts see these as the `Store`, the `Run` and the `Calls` of the trees' meaning, by
-//! the words of `specs/`.
+//! them (`Entries`); and the pieces that a parser shares with controls. Contracts see these as the
+//! `Store`, the `Run` and the `Calls` of the trees' meaning, by the words of `specs/`.
 //!
 //! Follows: P4_16 Language Specification and v1model, this project's subset; RFC 1071.
 //!
@@ -16,7 +15,6 @@
 
 mod acts;
 mod calls;
-mod checksum;
 mod choice;
 mod dispatch;
 mod entry;
@@ -29,7 +27,6 @@ mod tables;
 
 pub use acts::{assign, standard_path};
 pub use calls::{Calls, NoCalls};
-pub use checksum::csum16;
 pub use entry::{Entries, Entry, Match};
 pub use fields::Fields;
 pub use registers::cells_of;

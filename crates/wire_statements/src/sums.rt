@@ -1,20 +1,44 @@
 //! What checksum calls do.
 
-ghost use Rattle.std.specs.Prelude.{◌≡◌, OnOk, map};
+ghost use Rattle.std.specs.Prelude.{◌≡◌, ◌++◌, OnOk, IfOk, map};
+ghost use Rattle.bit_writer.specs.Bytes.{words_bits};
+ghost use Rattle.bit_writer.specs.Written.{bits_in};
 ghost use Rattle.p4_tree.specs.View.{arg_of, expr_of};
+ghost use Rattle.p4_meaning.specs.Checksum.{list_checksum};
 ghost use Rattle.p4_meaning.specs.Statements.{sums, sum_of, verified, updated};
 ghost use Rattle.wire_statements.specs.Calls.{Does, sum_at, sum_behind};
 ghost use Rattle.wire_statements.specs.Fields.{store_of};
 
 use crate::acts::{assign, standard_path};
-use crate::checksum::list_checksum;
 use crate::fields::Fields;
 use crate::run::Run;
 use bit_values::Bits;
+use bit_writer::BitWriter;
 use lex_text::Name;
 use p4_tree::{Arg, Expr};
-use p4_values::{Sight, is_true};
+use p4_values::{Sight, csum16, is_true, values_of};
 use std::alloc::{AllocError, Global};
+
+/// The bits of words go behind those that are written.
+fn put_words(values: &[Bits], out: &mut BitWriter) -> Result<(), AllocError>
+    ensures { OnOk result (bits_in out.new ≡ bits_in out.old ++ words_bits values.now) }
+{
+    for v in values {
+        out.put(v.width(), v.value)?;
+    }
+    Ok(())
+}
+
+/// The checksum of the values of expressions.
+fn list_checksum(alloc: Global, list: &[Expr], s: &Fields) -> Result<u16, AllocError>
+    ensures { IfOk result (λ n. n ≡ list_checksum (map expr_of list.now) (store_of s.now)) }
+{
+    let values = values_of(alloc, list, s)?;
+    let mut out = BitWriter::new(alloc);
+    put_words(&values, &mut out)?;
+    let bytes = out.finish();
+    Ok(csum16(&bytes))
+}
 
 /// A checksum that is verified: where it is wrong, the error is set.
 fn verify(alloc: Global, list: &[Expr], field: &[Name], s: &mut Fields) -> Result<(), AllocError>

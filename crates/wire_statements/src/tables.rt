@@ -5,7 +5,7 @@ ghost use Rattle.std.specs.Option.{option_map};
 ghost use Rattle.p4_meaning.specs.Store.{set_value};
 ghost use Rattle.p4_meaning.specs.Actions.{act, act_if, action_named, bound, flow_behind};
 ghost use Rattle.p4_meaning.specs.Tables.{apply_if, calls_in, chosen_runs, key_words, test_behind};
-ghost use Rattle.p4_scope.specs.Lent.{lent};
+ghost use Rattle.p4_resolved.specs.Lent.{lent};
 ghost use Rattle.wire_parts.specs.PartsIn.{action_in, key_in, param_in, table_in};
 ghost use Rattle.wire_statements.specs.Fields.{store_of};
 ghost use Rattle.wire_statements.specs.Held.{entries_of, entry_of, held_in, held_or};

@@ -2,7 +2,7 @@ use Rattle.std.proofs.Common.{◌≡◌, map, drop}
 use Rattle.p4_tree.specs.View.{top_of}
 use Rattle.p4_meaning.specs.Parts.{scope_at_parser}
 use Rattle.p4_meaning.specs.Under.{no_scope}
-use Rattle.p4_scope.specs.Scopes.{scope_of}
+use Rattle.p4_resolved.specs.Scopes.{scope_of}
 use Rattle.wire_parts.proofs.bodies.scope_at_parser.Given as goal
 
 abbrev pub invariant-loop-top : goal.invariant-loop-top

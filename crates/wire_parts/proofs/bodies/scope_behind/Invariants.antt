@@ -1,7 +1,7 @@
 use Rattle.std.proofs.Common.{◌≡◌, map, drop}
 use Rattle.p4_tree.specs.View.{top_of}
 use Rattle.p4_meaning.specs.Under.{behind_tops, no_scope}
-use Rattle.p4_scope.specs.Scopes.{scope_of}
+use Rattle.p4_resolved.specs.Scopes.{scope_of}
 use Rattle.wire_parts.proofs.bodies.scope_behind.Given as goal
 
 abbrev pub invariant-loop-top : goal.invariant-loop-top

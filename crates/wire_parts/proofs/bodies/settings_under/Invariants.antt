@@ -2,7 +2,7 @@ use Rattle.std.proofs.Common.{◌≡◌, ◌++◌, map, drop}
 use Rattle.p4_tree.specs.View.{local_of, stmt_of}
 use Rattle.p4_meaning.specs.Under.{behind_locals}
 use Rattle.wire_parts.specs.Locals.{settings}
-use Rattle.p4_scope.specs.Scopes.{scope_of}
+use Rattle.p4_resolved.specs.Scopes.{scope_of}
 use Rattle.wire_parts.proofs.bodies.settings_under.Given as goal
 
 abbrev pub invariant-loop-local : goal.invariant-loop-local

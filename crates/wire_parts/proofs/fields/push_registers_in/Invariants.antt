@@ -2,7 +2,7 @@ use Rattle.std.proofs.Common.{◌≡◌, ◌++◌, map, drop}
 use Rattle.p4_tree.specs.View.{local_of}
 use Rattle.p4_meaning.specs.Parts.{registers_in}
 use Rattle.wire_parts.specs.PartsIn.{cells_decl}
-use Rattle.p4_scope.specs.Scopes.{scope_of}
+use Rattle.p4_resolved.specs.Scopes.{scope_of}
 use Rattle.wire_parts.proofs.fields.push_registers_in.Given as goal
 
 abbrev pub invariant-loop-local : goal.invariant-loop-local

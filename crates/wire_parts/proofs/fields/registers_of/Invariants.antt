@@ -3,7 +3,7 @@ use Rattle.p4_tree.specs.View.{top_of}
 use Rattle.p4_meaning.specs.Parts.{registers_of}
 use Rattle.p4_meaning.specs.Under.{no_scope}
 use Rattle.wire_parts.specs.PartsIn.{cells_decl}
-use Rattle.p4_scope.specs.Scopes.{scope_of}
+use Rattle.p4_resolved.specs.Scopes.{scope_of}
 use Rattle.wire_parts.proofs.fields.registers_of.Given as goal
 
 abbrev pub invariant-loop-top : goal.invariant-loop-top

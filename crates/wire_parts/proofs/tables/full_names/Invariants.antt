@@ -1,6 +1,6 @@
 use Rattle.std.proofs.Common.{◌≡◌, map, take}
 use Rattle.p4_meaning.specs.Scope.{full_name}
-use Rattle.p4_scope.specs.Scopes.{scope_of}
+use Rattle.p4_resolved.specs.Scopes.{scope_of}
 use Rattle.wire_parts.proofs.tables.full_names.Given as goal
 
 abbrev pub invariant-loop-x : goal.invariant-loop-x

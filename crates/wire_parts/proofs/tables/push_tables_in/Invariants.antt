@@ -2,7 +2,7 @@ use Rattle.std.proofs.Common.{◌≡◌, ◌++◌, map, drop}
 use Rattle.p4_tree.specs.View.{local_of}
 use Rattle.p4_meaning.specs.Tables.{tables_in}
 use Rattle.wire_parts.specs.PartsIn.{action_in, table_in}
-use Rattle.p4_scope.specs.Scopes.{scope_of}
+use Rattle.p4_resolved.specs.Scopes.{scope_of}
 use Rattle.wire_parts.proofs.tables.push_tables_in.Given as goal
 
 abbrev pub invariant-loop-local : goal.invariant-loop-local

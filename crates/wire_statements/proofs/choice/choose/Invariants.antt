@@ -1,7 +1,7 @@
 use Rattle.std.proofs.Common.{◌≡◌, ◌≤◌, map, drop, length}
 use Rattle.std.specs.Option.{option_map}
 use Rattle.p4_meaning.specs.Choice.{choice_of}
-use Rattle.p4_scope.specs.Lent.{lent}
+use Rattle.p4_resolved.specs.Lent.{lent}
 use Rattle.wire_statements.specs.Held.{entry_of}
 use Rattle.wire_statements.proofs.choice.choose.Given as goal
 

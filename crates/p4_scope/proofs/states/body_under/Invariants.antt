@@ -1,8 +1,0 @@
-use Rattle.std.proofs.Common.{◌≡◌, map, take}
-use Rattle.p4_tree.specs.View.{stmt_of}
-use Rattle.p4_meaning.specs.Under.{stmt_under}
-use Rattle.p4_scope.specs.Scopes.{scope_of}
-use Rattle.p4_scope.proofs.states.body_under.Given as goal
-
-abbrev pub invariant-loop-s : goal.invariant-loop-s
-invariant-loop-s l = map stmt_of l.copies.items ≡ map (stmt_under (scope_of l.sc)) (map stmt_of (take l.s-index l.list))
