@@ -18,6 +18,8 @@ mod check;
 mod check_tests;
 mod command;
 mod job;
+#[cfg(test)]
+mod printed_tests;
 mod small;
 #[cfg(test)]
 mod tests;
