@@ -6,8 +6,7 @@ ghost use Rattle.p4_tree.specs.View.{program_of};
 ghost use Rattle.p4_printer.specs.CanSpell.{CanSpell};
 
 use crate::samples::{
-    BASIC, BASIC_WORDS, DROP, DROP_WORDS, EXIT, EXIT_WORDS, SHORT, SHORT_WORDS, TWO, TWO_WORDS,
-    WIRE, WIRE_WORDS,
+    ACROSS, ACROSS_WORDS, BASIC, BASIC_WORDS, FORWARDING, FORWARDING_WORDS, LONG_DROPPED,
 };
 use lex_text::{Words, tokens};
 use p4_decls::{ProgramFault, read_program};
@@ -88,14 +87,45 @@ pub fn spells(rt: &impl Abort, alloc: Global, text: &str, words: &str) -> Result
     Ok(())
 }
 
+/// Three pieces with two between them.
+fn between(alloc: Global, pieces: [&str; 3], first: &str, second: &str) -> Result<String, Fail> {
+    let mut out = String::from_str(alloc, pieces[0])?;
+    for part in [first, pieces[1], second, pieces[2]] {
+        out.push_str(part)?;
+    }
+    Ok(out)
+}
+
+/// With these statements of ingress and of egress, each with its words.
+fn forwards(
+    rt: &impl Abort,
+    alloc: Global,
+    ingress: (&str, &str),
+    egress: (&str, &str),
+) -> Result<(), Fail> {
+    let text = between(alloc, FORWARDING, ingress.0, egress.0)?;
+    let words = between(alloc, FORWARDING_WORDS, ingress.1, egress.1)?;
+    spells(rt, alloc, &text, &words)
+}
+
 #[test]
 fn samples(rt: HostRuntime) -> Result<(), Fail> {
-    spells(&rt, rt.alloc(), WIRE, WIRE_WORDS)?;
-    spells(&rt, rt.alloc(), TWO, TWO_WORDS)?;
-    spells(&rt, rt.alloc(), SHORT, SHORT_WORDS)?;
-    spells(&rt, rt.alloc(), EXIT, EXIT_WORDS)?;
-    spells(&rt, rt.alloc(), DROP, DROP_WORDS)?;
-    spells(&rt, rt.alloc(), BASIC, BASIC_WORDS)
+    let alloc = rt.alloc();
+    let across = (ACROSS, ACROSS_WORDS);
+    let out_by_two = (
+        "standard_metadata.egress_spec = 2;",
+        "standard_metadata . egress_spec = 2 ;",
+    );
+    let drops = (
+        "mark_to_drop(standard_metadata);",
+        "mark_to_drop ( standard_metadata ) ;",
+    );
+    forwards(&rt, alloc, across, ("", ""))?;
+    forwards(&rt, alloc, across, ("exit;", "exit ;"))?;
+    forwards(&rt, alloc, across, drops)?;
+    forwards(&rt, alloc, out_by_two, ("", ""))?;
+    forwards(&rt, alloc, LONG_DROPPED, ("", ""))?;
+    spells(&rt, alloc, BASIC, BASIC_WORDS)
 }
 
 #[test]

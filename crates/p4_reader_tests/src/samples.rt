@@ -1,200 +1,78 @@
 //! Whole programs, and their words as a printer of trees writes them: each operator stands in round
 //! brackets, numbers are decimal, and inclusions are no part of a tree.
 
+/// What stands before the statements of an ingress, between them and those of an egress, and behind.
+pub const FORWARDING: [&str; 3] = [
+    "\
+#include <core.p4>
+#include <v1model.p4>
+struct metadata { }
+struct headers { }
+parser WireParser(packet_in packet, out headers hdr, inout metadata meta,
+    inout standard_metadata_t standard_metadata) { state start { transition accept; } }
+control WireVerify(inout headers hdr, inout metadata meta) { apply { } }
+control WireIngress(inout headers hdr, inout metadata meta,
+    inout standard_metadata_t standard_metadata) {
+  apply {
+",
+    " }
+}
+control WireEgress(inout headers hdr, inout metadata meta,
+    inout standard_metadata_t standard_metadata) { apply {
+",
+    " } }
+control WireCompute(inout headers hdr, inout metadata meta) { apply { } }
+control WireDeparser(packet_out packet, in headers hdr) { apply { } }
+V1Switch(WireParser(), WireVerify(), WireIngress(), WireEgress(), WireCompute(),
+  WireDeparser()) main;
+",
+];
+
+/// The words of these.
+pub const FORWARDING_WORDS: [&str; 3] = [
+    "\
+struct metadata { } struct headers { } parser WireParser ( packet_in packet , out headers hdr
+, inout metadata meta , inout standard_metadata_t standard_metadata ) { state start {
+transition accept ; } } control WireVerify ( inout headers hdr , inout metadata meta ) { apply
+{ } } control WireIngress ( inout headers hdr , inout metadata meta , inout
+standard_metadata_t standard_metadata ) { apply {
+",
+    "
+} } control WireEgress ( inout headers hdr , inout metadata meta , inout standard_metadata_t
+standard_metadata ) { apply {
+",
+    "
+} } control WireCompute ( inout headers hdr , inout metadata meta ) { apply { } } control
+WireDeparser ( packet_out packet , in headers hdr ) { apply { } } V1Switch ( WireParser ( ) ,
+WireVerify ( ) , WireIngress ( ) , WireEgress ( ) , WireCompute ( ) , WireDeparser ( ) ) main ;
+",
+];
+
 /// Frames that enter by port 1 leave by port 2, and others by port 1.
-pub const WIRE: &str = "\
-#include <core.p4>
-#include <v1model.p4>
-struct metadata { }
-struct headers { }
-parser WireParser(packet_in packet, out headers hdr, inout metadata meta,
-    inout standard_metadata_t standard_metadata) { state start { transition accept; } }
-control WireVerify(inout headers hdr, inout metadata meta) { apply { } }
-control WireIngress(inout headers hdr, inout metadata meta,
-    inout standard_metadata_t standard_metadata) {
-  apply {
-    if (standard_metadata.ingress_port == 1) { standard_metadata.egress_spec = 2; }
-    else { standard_metadata.egress_spec = 1; }
-  }
-}
-control WireEgress(inout headers hdr, inout metadata meta,
-    inout standard_metadata_t standard_metadata) { apply { } }
-control WireCompute(inout headers hdr, inout metadata meta) { apply { } }
-control WireDeparser(packet_out packet, in headers hdr) { apply { } }
-V1Switch(WireParser(), WireVerify(), WireIngress(), WireEgress(), WireCompute(),
-  WireDeparser()) main;
+pub const ACROSS: &str = "\
+if (standard_metadata.ingress_port == 1) { standard_metadata.egress_spec = 2; }
+else { standard_metadata.egress_spec = 1; }
 ";
 
-/// The words of `WIRE`.
-pub const WIRE_WORDS: &str = "\
-struct metadata { } struct headers { } parser WireParser ( packet_in packet , out headers hdr
-, inout metadata meta , inout standard_metadata_t standard_metadata ) { state start {
-transition accept ; } } control WireVerify ( inout headers hdr , inout metadata meta ) { apply
-{ } } control WireIngress ( inout headers hdr , inout metadata meta , inout
-standard_metadata_t standard_metadata ) { apply { if ( ( standard_metadata . ingress_port == 1
-) ) { standard_metadata . egress_spec = 2 ; } else { standard_metadata . egress_spec = 1 ; } }
-} control WireEgress ( inout headers hdr , inout metadata meta , inout standard_metadata_t
-standard_metadata ) { apply { } } control WireCompute ( inout headers hdr , inout metadata
-meta ) { apply { } } control WireDeparser ( packet_out packet , in headers hdr ) { apply { } }
-V1Switch ( WireParser ( ) , WireVerify ( ) , WireIngress ( ) , WireEgress ( ) , WireCompute (
-) , WireDeparser ( ) ) main ;
+/// The words of `ACROSS`.
+pub const ACROSS_WORDS: &str = "\
+if ( ( standard_metadata . ingress_port == 1 ) ) { standard_metadata . egress_spec = 2 ; } else
+{ standard_metadata . egress_spec = 1 ; }
 ";
 
-/// All frames leave by port 2.
-pub const TWO: &str = "\
-#include <core.p4>
-#include <v1model.p4>
-struct metadata { }
-struct headers { }
-parser WireParser(packet_in packet, out headers hdr, inout metadata meta,
-    inout standard_metadata_t standard_metadata) { state start { transition accept; } }
-control WireVerify(inout headers hdr, inout metadata meta) { apply { } }
-control WireIngress(inout headers hdr, inout metadata meta,
-    inout standard_metadata_t standard_metadata) {
-  apply {
-    standard_metadata.egress_spec = 2;
-  }
-}
-control WireEgress(inout headers hdr, inout metadata meta,
-    inout standard_metadata_t standard_metadata) { apply { } }
-control WireCompute(inout headers hdr, inout metadata meta) { apply { } }
-control WireDeparser(packet_out packet, in headers hdr) { apply { } }
-V1Switch(WireParser(), WireVerify(), WireIngress(), WireEgress(), WireCompute(),
-  WireDeparser()) main;
-";
-
-/// The words of `TWO`.
-pub const TWO_WORDS: &str = "\
-struct metadata { } struct headers { } parser WireParser ( packet_in packet , out headers hdr
-, inout metadata meta , inout standard_metadata_t standard_metadata ) { state start {
-transition accept ; } } control WireVerify ( inout headers hdr , inout metadata meta ) { apply
-{ } } control WireIngress ( inout headers hdr , inout metadata meta , inout
-standard_metadata_t standard_metadata ) { apply { standard_metadata . egress_spec = 2 ; } }
-control WireEgress ( inout headers hdr , inout metadata meta , inout standard_metadata_t
-standard_metadata ) { apply { } } control WireCompute ( inout headers hdr , inout metadata
-meta ) { apply { } } control WireDeparser ( packet_out packet , in headers hdr ) { apply { } }
-V1Switch ( WireParser ( ) , WireVerify ( ) , WireIngress ( ) , WireEgress ( ) , WireCompute (
-) , WireDeparser ( ) ) main ;
-";
-
-/// The same as `WIRE`, and long frames are dropped.
-pub const SHORT: &str = "\
-#include <core.p4>
-#include <v1model.p4>
-struct metadata { }
-struct headers { }
-parser WireParser(packet_in packet, out headers hdr, inout metadata meta,
-    inout standard_metadata_t standard_metadata) { state start { transition accept; } }
-control WireVerify(inout headers hdr, inout metadata meta) { apply { } }
-control WireIngress(inout headers hdr, inout metadata meta,
-    inout standard_metadata_t standard_metadata) {
-  apply {
-    if (standard_metadata.ingress_port == 1) { standard_metadata.egress_spec = 2; }
-    else { standard_metadata.egress_spec = 1; }
-    if (standard_metadata.packet_length > 100) { mark_to_drop(standard_metadata); }
-  }
-}
-control WireEgress(inout headers hdr, inout metadata meta,
-    inout standard_metadata_t standard_metadata) { apply { } }
-control WireCompute(inout headers hdr, inout metadata meta) { apply { } }
-control WireDeparser(packet_out packet, in headers hdr) { apply { } }
-V1Switch(WireParser(), WireVerify(), WireIngress(), WireEgress(), WireCompute(),
-  WireDeparser()) main;
-";
-
-/// The words of `SHORT`.
-pub const SHORT_WORDS: &str = "\
-struct metadata { } struct headers { } parser WireParser ( packet_in packet , out headers hdr
-, inout metadata meta , inout standard_metadata_t standard_metadata ) { state start {
-transition accept ; } } control WireVerify ( inout headers hdr , inout metadata meta ) { apply
-{ } } control WireIngress ( inout headers hdr , inout metadata meta , inout
-standard_metadata_t standard_metadata ) { apply { if ( ( standard_metadata . ingress_port == 1
-) ) { standard_metadata . egress_spec = 2 ; } else { standard_metadata . egress_spec = 1 ; }
-if ( ( standard_metadata . packet_length > 100 ) ) { mark_to_drop ( standard_metadata ) ; } }
-} control WireEgress ( inout headers hdr , inout metadata meta , inout standard_metadata_t
-standard_metadata ) { apply { } } control WireCompute ( inout headers hdr , inout metadata
-meta ) { apply { } } control WireDeparser ( packet_out packet , in headers hdr ) { apply { } }
-V1Switch ( WireParser ( ) , WireVerify ( ) , WireIngress ( ) , WireEgress ( ) , WireCompute (
-) , WireDeparser ( ) ) main ;
-";
-
-/// The same as `WIRE`, and egress ends at once.
-pub const EXIT: &str = "\
-#include <core.p4>
-#include <v1model.p4>
-struct metadata { }
-struct headers { }
-parser WireParser(packet_in packet, out headers hdr, inout metadata meta,
-    inout standard_metadata_t standard_metadata) { state start { transition accept; } }
-control WireVerify(inout headers hdr, inout metadata meta) { apply { } }
-control WireIngress(inout headers hdr, inout metadata meta,
-    inout standard_metadata_t standard_metadata) {
-  apply {
-    if (standard_metadata.ingress_port == 1) { standard_metadata.egress_spec = 2; }
-    else { standard_metadata.egress_spec = 1; }
-  }
-}
-control WireEgress(inout headers hdr, inout metadata meta,
-    inout standard_metadata_t standard_metadata) { apply { exit; } }
-control WireCompute(inout headers hdr, inout metadata meta) { apply { } }
-control WireDeparser(packet_out packet, in headers hdr) { apply { } }
-V1Switch(WireParser(), WireVerify(), WireIngress(), WireEgress(), WireCompute(),
-  WireDeparser()) main;
-";
-
-/// The words of `EXIT`.
-pub const EXIT_WORDS: &str = "\
-struct metadata { } struct headers { } parser WireParser ( packet_in packet , out headers hdr
-, inout metadata meta , inout standard_metadata_t standard_metadata ) { state start {
-transition accept ; } } control WireVerify ( inout headers hdr , inout metadata meta ) { apply
-{ } } control WireIngress ( inout headers hdr , inout metadata meta , inout
-standard_metadata_t standard_metadata ) { apply { if ( ( standard_metadata . ingress_port == 1
-) ) { standard_metadata . egress_spec = 2 ; } else { standard_metadata . egress_spec = 1 ; } }
-} control WireEgress ( inout headers hdr , inout metadata meta , inout standard_metadata_t
-standard_metadata ) { apply { exit ; } } control WireCompute ( inout headers hdr , inout
-metadata meta ) { apply { } } control WireDeparser ( packet_out packet , in headers hdr ) {
-apply { } } V1Switch ( WireParser ( ) , WireVerify ( ) , WireIngress ( ) , WireEgress ( ) ,
-WireCompute ( ) , WireDeparser ( ) ) main ;
-";
-
-/// The same as `WIRE`, and egress drops each frame.
-pub const DROP: &str = "\
-#include <core.p4>
-#include <v1model.p4>
-struct metadata { }
-struct headers { }
-parser WireParser(packet_in packet, out headers hdr, inout metadata meta,
-    inout standard_metadata_t standard_metadata) { state start { transition accept; } }
-control WireVerify(inout headers hdr, inout metadata meta) { apply { } }
-control WireIngress(inout headers hdr, inout metadata meta,
-    inout standard_metadata_t standard_metadata) {
-  apply {
-    if (standard_metadata.ingress_port == 1) { standard_metadata.egress_spec = 2; }
-    else { standard_metadata.egress_spec = 1; }
-  }
-}
-control WireEgress(inout headers hdr, inout metadata meta,
-    inout standard_metadata_t standard_metadata) { apply { mark_to_drop(standard_metadata); } }
-control WireCompute(inout headers hdr, inout metadata meta) { apply { } }
-control WireDeparser(packet_out packet, in headers hdr) { apply { } }
-V1Switch(WireParser(), WireVerify(), WireIngress(), WireEgress(), WireCompute(),
-  WireDeparser()) main;
-";
-
-/// The words of `DROP`.
-pub const DROP_WORDS: &str = "\
-struct metadata { } struct headers { } parser WireParser ( packet_in packet , out headers hdr
-, inout metadata meta , inout standard_metadata_t standard_metadata ) { state start {
-transition accept ; } } control WireVerify ( inout headers hdr , inout metadata meta ) { apply
-{ } } control WireIngress ( inout headers hdr , inout metadata meta , inout
-standard_metadata_t standard_metadata ) { apply { if ( ( standard_metadata . ingress_port == 1
-) ) { standard_metadata . egress_spec = 2 ; } else { standard_metadata . egress_spec = 1 ; } }
-} control WireEgress ( inout headers hdr , inout metadata meta , inout standard_metadata_t
-standard_metadata ) { apply { mark_to_drop ( standard_metadata ) ; } } control WireCompute (
-inout headers hdr , inout metadata meta ) { apply { } } control WireDeparser ( packet_out
-packet , in headers hdr ) { apply { } } V1Switch ( WireParser ( ) , WireVerify ( ) ,
-WireIngress ( ) , WireEgress ( ) , WireCompute ( ) , WireDeparser ( ) ) main ;
-";
+/// The same, and long frames are dropped; with its words.
+pub const LONG_DROPPED: (&str, &str) = (
+    "\
+if (standard_metadata.ingress_port == 1) { standard_metadata.egress_spec = 2; }
+else { standard_metadata.egress_spec = 1; }
+if (standard_metadata.packet_length > 100) { mark_to_drop(standard_metadata); }
+",
+    "\
+if ( ( standard_metadata . ingress_port == 1 ) ) { standard_metadata . egress_spec = 2 ; } else
+{ standard_metadata . egress_spec = 1 ; } if ( ( standard_metadata . packet_length > 100 ) ) {
+mark_to_drop ( standard_metadata ) ; }
+",
+);
 
 /// Forwarding by the longest prefix, with comments and inclusions.
 pub const BASIC: &str = "\
