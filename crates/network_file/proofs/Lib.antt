@@ -1,0 +1,5 @@
+pub mod NameSteps
+pub mod EndLemmas
+pub mod LinkLemmas
+pub mod NextLemmas
+pub mod Sound
