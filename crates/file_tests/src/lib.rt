@@ -1,0 +1,7 @@
+//! Tests of the readers of JSON files: texts with what they say, or with their fault.
+#![tactic(auto)]
+
+#[cfg(test)]
+mod members;
+#[cfg(test)]
+mod networks;
