@@ -1,0 +1,5 @@
+pub mod Counts
+pub mod OperandsLemmas
+pub mod SumsLemmas
+pub mod Verbs
+mod Rows

@@ -1,0 +1,18 @@
+use Rattle.std.proofs.Common.{sym, ap, ◌∙◌, List, drop, map}
+use Rattle.std.proofs.lemmas.List.{drop_all}
+use Rattle.rule_tests.specs.Tests.{Tests}
+use Rattle.p4_tree.specs.View.{arg_of}
+use Rattle.p4_tree.specs.declared.statement.Arg.{Arg}
+use Rattle.p4_scopes.specs.View.{scope_of}
+use Rattle.p4_statement_rules.specs.Ranks.{first_from}
+use Rattle.p4_statement_rules.specs.Calls.{args_tests}
+use Rattle.p4_statement_rules.specs.declared.rule.ProgramRule.{ProgramRule}
+use Rattle.p4_statement_rules.proofs.Counts.{no_args}
+use Rattle.p4_statement_rules.proofs.calls.check_args.Goals as goal
+
+pub returns-in-None : goal.returns-in-None
+returns-in-None c =
+    sym
+    (ap (λ (xs : List Arg). first_from c.loop-i.found.first (args_tests (scope_of c.args.scope.now) (drop c.loop-i.i c.args.kinds.now) (map arg_of xs))) (drop_all c.loop-i.i c.args.args.now c.in-None.ensures.lookup.3)
+    ∙ ap (λ (t : Tests ProgramRule). first_from c.loop-i.found.first t) (no_args (scope_of c.args.scope.now) (drop c.loop-i.i c.args.kinds.now)))
+    ∙ c.loop-i.invariant
