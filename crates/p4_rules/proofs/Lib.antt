@@ -1,1 +1,4 @@
+pub mod Bytes
+pub mod Cells
+pub mod Params
 mod Rows

@@ -1,10 +1,8 @@
--- What callers rest on: the tests of declarations and programs, and the rules that a program breaks. To be read in this
+-- What callers rest on: what is tested of `main` and of limits, and the rules that a program breaks. To be read in this
 -- order.
-pub mod Digests
-pub mod Declarations
-pub mod Tables
-pub mod Parsers
-pub mod Controls
 pub mod Mains
 pub mod Limits
 pub mod ProgramRules
+
+-- What serves the proofs.
+pub mod Views

@@ -1,16 +1,13 @@
 -- What is counted of a program, and what a switch holds of it. Read `Mains` before it and `ProgramRules` after it.
 use Rattle.std.specs.Prelude.{ℕ, ◌+◌, ◌/◌, min, List, [], ◌∷◌, nat_lt}
 use Rattle.rule_tests.specs.Tests.{Tests, test, both}
-use Rattle.p4_tree.specs.Tree.{Local, local_register, Control, Top, register, control, Program}
+use Rattle.p4_tree.specs.Tree.{Local, local_register, Top, register, control, Program}
 use Rattle.p4_tree.specs.declared.statement.PTy.{PTy}
 use Rattle.p4_scopes.specs.Scopes.{Scope, core, thing_in, add_up}
 use Rattle.p4_scopes.specs.Uses.{header_bits}
 use Rattle.p4_statement_rules.specs.declared.rule.ProgramRule.{ProgramRule}
 use Rattle.p4_statement_rules.specs.declared.rule.ProgramRule.TheVariants.{Limit}
-use Rattle.p4_statement_rules.specs.declared.rule.Part.{Part}
-use Rattle.p4_statement_rules.specs.declared.rule.Part.TheVariants as place
-use Rattle.p4_rules.specs.Digests.{most_of}
-use Rattle.p4_rules.specs.Controls.{in_control, part_in, after_top}
+use Rattle.p4_declaration_rules.specs.Controls.{most_of_tops}
 use Rattle.p4_meaning.specs.Parts.{struct_fields}
 use Rattle.p4_rules.specs.Mains.{structs_of}
 
@@ -26,16 +23,6 @@ abbrev pub header_bytes : Scope → Program → ℕ
 header_bytes s p = fields_bytes s (struct_fields p.tops (structs_of s p).headers_type)
 
 -- ---- digests
-
-abbrev pub most_of_part : Part → Scope → Control → ℕ
-most_of_part place.Apply s c = most_of (in_control s c) c.apply
-most_of_part _ s c = 0
-
--- the most that ingress gives, and egress
-abbrev pub most_of_tops : (main : List (List ℕ)) → Scope → List Top → ℕ
-most_of_tops main s [] = 0
-most_of_tops main s (control p c ∷ ts) = add_up (most_of_part (part_in main c.name) s c) (most_of_tops main (after_top s (control p c)) ts)
-most_of_tops main s (t ∷ ts) = most_of_tops main (after_top s t) ts
 
 -- the most digests that a passage of a switch gives
 abbrev pub most_of_program : Program → ℕ

@@ -17,7 +17,7 @@ use Rattle.p4_scopes.specs.declared.thing.Thing.TheVariants.{Struct}
 use Rattle.p4_statement_rules.specs.declared.rule.ProgramRule.{ProgramRule}
 use Rattle.p4_statement_rules.specs.declared.rule.ProgramRule.TheVariants.{BadMain}
 use Rattle.p4_parser_states.specs.Cycles.{is_among}
-use Rattle.p4_rules.specs.Declarations.{has_twice}
+use Rattle.p4_declaration_rules.specs.Declarations.{has_twice}
 
 -- ---- what main names
 

@@ -5,7 +5,7 @@ use Rattle.p4_tree.specs.Tree.{Program}
 use Rattle.p4_scopes.specs.Scopes.{Scope, core}
 use Rattle.p4_statement_rules.specs.Ranks.{rank, first_broken}
 use Rattle.p4_statement_rules.specs.declared.rule.ProgramRule.{ProgramRule}
-use Rattle.p4_rules.specs.Controls.{tops_tests, after_tops}
+use Rattle.p4_declaration_rules.specs.Controls.{tops_tests, after_tops}
 use Rattle.p4_rules.specs.Mains.{main_tests}
 use Rattle.p4_rules.specs.Limits.{limit_tests}
 
@@ -15,7 +15,7 @@ program_scope p = after_tops core p.tops
 
 -- what is tested of a program
 abbrev pub program_tests : Program → Tests ProgramRule
-program_tests p = both (both (main_tests (program_scope p) p) (limit_tests (program_scope p) p)) (tops_tests p.main core p.tops)
+program_tests p = both (tops_tests p.main core p.tops) (both (main_tests (program_scope p) p) (limit_tests (program_scope p) p))
 
 -- a rule is broken at a place of a program
 abbrev pub Breaks : ProgramRule → (at : ℕ) → Program → Type 0

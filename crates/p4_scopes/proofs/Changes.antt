@@ -285,14 +285,14 @@ cut_again es fs gs e n count more cut =
 
 -- ---- the bits of fields
 
-cut_sum : (a b : ℕ) → add_up a b ≤ 4294967295
+pub cut_sum : (a b : ℕ) → add_up a b ≤ 4294967295
 cut_sum a b = min-le_right (a + b) 4294967295
 
 few_bits : (s : Scope) (fs : List (PTy × List ℕ)) → fields_bits s fs ≤ 4294967295
 few_bits s [] = omega arith
 few_bits s (f ∷ fs) = cut_sum (width_in (kind_in s f.0)) (fields_bits s fs)
 
-add_none : (n : ℕ) → n ≤ 4294967295 → add_up n 0 ≡ n
+pub add_none : (n : ℕ) → n ≤ 4294967295 → add_up n 0 ≡ n
 add_none n h = let e : n + 0 ≡ n = omega arith in ap (λ (m : ℕ). min m 4294967295) e ∙ min-eq_left h
 
 -- the bits that are counted, and those that are left
@@ -303,7 +303,7 @@ pub record Counted (s : Scope) (fs : List (PTy × List ℕ)) (i n : ℕ) : Type 
 pub none_counted : (s : Scope) (fs : List (PTy × List ℕ)) → Counted s fs 0 0
 none_counted s fs = let e : 0 + fields_bits s fs ≡ fields_bits s fs = omega arith in record { whole = ap (λ (m : ℕ). min m 4294967295) e ∙ min-eq_left (few_bits s fs); few = omega arith }
 
-cut_twice : (a b c : ℕ) → add_up (add_up a b) c ≡ add_up a (add_up b c)
+pub cut_twice : (a b c : ℕ) → add_up (add_up a b) c ≡ add_up a (add_up b c)
 cut_twice a b c = by (nat_lt 4294967295 (a + b)) refl (nat_lt 4294967295 (b + c)) refl
   where
     below : (x y : ℕ) → nat_lt 4294967295 (x + y) ≡ false → add_up x y ≡ x + y

@@ -12,6 +12,11 @@ last_of : (y : List ℕ) (ys : List (List ℕ)) (x : List ℕ) → last_name (y 
 last_of y [] x = refl
 last_of y (z ∷ zs) x = last_of z zs x
 
+-- the parent of one name more is what stood before
+pub parent_front : (front : List (List ℕ)) (x : List ℕ) → parent (front ++ x ∷ []) ≡ front
+parent_front [] x = refl
+parent_front (y ∷ ys) x = parent_of y ys x
+
 some_verb : (s : Scope) (y : List ℕ) (ys : List (List ℕ)) (x : List ℕ) → form_of s (y ∷ (ys ++ x ∷ [])) ≡ verb_form (s (y ∷ ys)) x
 some_verb s y [] x = refl
 some_verb s y (z ∷ zs) x =

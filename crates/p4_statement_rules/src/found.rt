@@ -23,7 +23,7 @@ impl Found {
     }
 
     /// Where memory is taken from.
-    pub(crate) fn alloc(&self) -> Global {
+    pub fn alloc(&self) -> Global {
         self.alloc
     }
 

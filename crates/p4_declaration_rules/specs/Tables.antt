@@ -11,7 +11,7 @@ use Rattle.p4_statement_rules.specs.Calls.{as_many}
 use Rattle.p4_statement_rules.specs.declared.rule.ProgramRule.{ProgramRule}
 use Rattle.p4_statement_rules.specs.declared.rule.ProgramRule.TheVariants.{NameTwice, NoSuchName, KindDiffers, WrongPlace, KeyKinds}
 use Rattle.p4_parser_states.specs.Cycles.{is_among}
-use Rattle.p4_rules.specs.Declarations.{has_twice}
+use Rattle.p4_declaration_rules.specs.Declarations.{has_twice}
 
 -- ---- keys
 

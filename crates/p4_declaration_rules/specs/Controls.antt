@@ -4,7 +4,7 @@ use Rattle.lex_text.specs.Names.{same_text, same_path}
 use Rattle.rule_tests.specs.Tests.{Tests, fine, test, both}
 use Rattle.p4_tree.specs.Tree.{Arg, one, Stmt, Stmts, call, done, next, Local, local_action, local_table, local_register, local_const, local_var, Control, Top, constant, typedef, header_type, struct_type, register, parser, control}
 use Rattle.p4_scopes.specs.Scopes as scope
-use Rattle.p4_scopes.specs.Scopes.{Scope, alias, fields, value, action, table, part, declare, fields_bits}
+use Rattle.p4_scopes.specs.Scopes.{Scope, alias, fields, value, action, table, part, declare, fields_bits, add_up}
 use Rattle.p4_scopes.specs.declared.thing.Thing.TheVariants.{Header, Struct}
 use Rattle.p4_scopes.specs.declared.thing.Access.TheVariants.{Writable, Constant}
 use Rattle.p4_statement_rules.specs.Expressions.{new_tests}
@@ -14,10 +14,10 @@ use Rattle.p4_statement_rules.specs.declared.rule.ProgramRule.{ProgramRule}
 use Rattle.p4_statement_rules.specs.declared.rule.ProgramRule.TheVariants.{NameTwice, WrongPlace}
 use Rattle.p4_statement_rules.specs.declared.rule.Part.{Part}
 use Rattle.p4_statement_rules.specs.declared.rule.Part.TheVariants as place
-use Rattle.p4_rules.specs.Digests.{most_of, most_of_table}
-use Rattle.p4_rules.specs.Declarations.{const_tests, typedef_tests, register_tests, action_tests, header_tests, struct_tests}
-use Rattle.p4_rules.specs.Tables.{table_tests}
-use Rattle.p4_rules.specs.Parsers.{with_ways, ways_tests, parser_tests}
+use Rattle.p4_declaration_rules.specs.Digests.{most_of, most_of_table}
+use Rattle.p4_declaration_rules.specs.Declarations.{const_tests, typedef_tests, register_tests, action_tests, header_tests, struct_tests}
+use Rattle.p4_declaration_rules.specs.Tables.{table_tests}
+use Rattle.p4_declaration_rules.specs.Parsers.{with_ways, ways_tests, parser_tests}
 
 -- ---- declarations of a control
 
@@ -155,3 +155,22 @@ tops_tests main s (t ∷ ts) = both (top_tests main s t) (tops_tests main (after
 abbrev pub after_tops : Scope → List Top → Scope
 after_tops s [] = s
 after_tops s (t ∷ ts) = after_tops (after_top s t) ts
+
+-- ---- digests
+
+-- the most digests that the statements of such a part give
+abbrev pub most_of_body : Part → Scope → Stmts → ℕ
+most_of_body place.Apply s ss = most_of s ss
+most_of_body _ s ss = 0
+
+abbrev pub most_of_part : Part → Scope → Control → ℕ
+most_of_part h s c = most_of_body h (in_control s c) c.apply
+
+abbrev pub most_of_top : (main : List (List ℕ)) → Scope → Top → ℕ
+most_of_top main s (control p c) = most_of_part (part_in main c.name) s c
+most_of_top main s _ = 0
+
+-- the most that ingress gives, and egress
+abbrev pub most_of_tops : (main : List (List ℕ)) → Scope → List Top → ℕ
+most_of_tops main s [] = 0
+most_of_tops main s (t ∷ ts) = add_up (most_of_top main s t) (most_of_tops main (after_top s t) ts)

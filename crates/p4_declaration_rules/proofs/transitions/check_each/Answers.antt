@@ -1,0 +1,17 @@
+use Rattle.std.proofs.Common.{sym, ap, ◌∙◌, List, drop, map}
+use Rattle.std.proofs.lemmas.List.{drop_all}
+use Rattle.rule_tests.specs.Tests.{Tests}
+use Rattle.p4_tree.specs.View.{keyset_of}
+use Rattle.p4_scopes.specs.View.{scope_of}
+use Rattle.p4_statement_rules.specs.Ranks.{first_from}
+use Rattle.p4_declaration_rules.specs.Loops.{each_wanted}
+use Rattle.p4_statement_rules.specs.declared.rule.ProgramRule.{ProgramRule}
+use Rattle.p4_declaration_rules.proofs.Keys.{no_keys}
+use Rattle.p4_declaration_rules.proofs.transitions.check_each.Goals as goal
+
+pub returns-in-None : goal.returns-in-None
+returns-in-None c =
+    sym
+    (ap (λ xs. first_from c.loop-i.found.first (each_wanted (scope_of c.args.scope.now) (drop c.loop-i.i c.args.wants.now) (map keyset_of xs))) (drop_all c.loop-i.i c.args.keys.now c.in-None.ensures.lookup.3)
+    ∙ ap (λ (t : Tests ProgramRule). first_from c.loop-i.found.first t) (no_keys (scope_of c.args.scope.now) (drop c.loop-i.i c.args.wants.now)))
+    ∙ c.loop-i.invariant
