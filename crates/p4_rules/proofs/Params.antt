@@ -1,11 +1,9 @@
--- Parameters that are read by their numbers, and tested beside what they have to be.
-use Rattle.std.proofs.Common.{◌≡◌, ℕ, zero, suc, ◌+◌, ◌<◌, ◌≤◌, List, [], ◌∷◌, Bool, true, false, not, nat_lt, map, length, drop, get_or, Option, Some, None, slice_get, refl, sym, ap, ◌∙◌, arith}
+-- Parameters beside what they have to be.
+use Rattle.std.proofs.Common.{◌≡◌, ℕ, zero, suc, ◌+◌, ◌<◌, ◌≤◌, List, [], ◌∷◌, Bool, true, false, not, nat_lt, map, length, drop, get_or, Option, refl, sym, ap, ◌∙◌, arith}
 use Rattle.std.proofs.lemmas.Bool.Decides.{nat_tests}
 use Rattle.std.proofs.lemmas.List.{drop_all}
-use Rattle.std.proofs.lemmas.Option.{slice_get-get_or}
 use Rattle.rule_tests.specs.Tests.{Tests, test, both}
 use Rattle.p4_tree.specs.declared.program.Param.{Param}
-use Rattle.p4_meaning.specs.Scope.{param_at}
 use Rattle.p4_statement_rules.specs.Ranks.{first_from}
 use Rattle.p4_statement_rules.specs.declared.rule.ProgramRule.{ProgramRule}
 use Rattle.p4_statement_rules.specs.declared.rule.ProgramRule.TheVariants.{BadMain}
@@ -13,11 +11,6 @@ use Rattle.p4_declaration_rules.proofs.Seen.{left_at}
 use Rattle.p4_rules.specs.Mains.{Structs, Wanted, wanted_tests}
 use Rattle.p4_rules.specs.Views.{wanted_of, wanted_at}
 use Rattle.p4_rules.specs.declared.mains.Wanted as code
-
-pub param_read : (ps : List Param) (n : ℕ) → param_at ps n ≡ slice_get ps n
-param_read [] n = refl
-param_read (p ∷ ps) zero = refl
-param_read (p ∷ ps) (suc n) = param_read ps n
 
 drop_one : {A : Type 0} (xs : List A) (i : ℕ) → drop (suc i) xs ≡ drop 1 (drop i xs)
 drop_one [] zero = refl
@@ -27,9 +20,6 @@ drop_one (x ∷ xs) (suc i) = drop_one xs i
 
 drop_more : {A : Type 0} (xs : List A) (i : ℕ) → drop (i + 1) xs ≡ drop 1 (drop i xs)
 drop_more xs i = let e : i + 1 ≡ suc i = omega arith in ap (λ (n : ℕ). drop n xs) e ∙ drop_one xs i
-
-pub param_found : (ps : List Param) (n : ℕ) (q : Param) → n < length ps → q ≡ get_or ps n q → param_at ps n ≡ Some q
-param_found ps n q lt is = param_read ps n ∙ slice_get-get_or ps n q lt ∙ ap Some (sym is)
 
 module _ (at : ℕ) (r : Structs) where
   step : (ws : List code.Wanted) (q : Param) (qs : List Param) → wanted_tests at r (map wanted_of ws) (q ∷ qs) ≡ both (test q.at BadMain (not (wanted_at r (map wanted_of ws) q))) (wanted_tests at r (map wanted_of (drop 1 ws)) qs)

@@ -11,7 +11,6 @@
 
 mod limits;
 mod mains;
-mod parts;
 pub mod rules;
 
 pub use rules::{Checked, check_rules};

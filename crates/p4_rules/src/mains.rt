@@ -5,14 +5,15 @@ ghost use Rattle.std.specs.Option.{option_map};
 ghost use Rattle.p4_tree.specs.View.{control_of, parser_of, top_of, program_of};
 ghost use Rattle.p4_scopes.specs.Scopes as scopes;
 ghost use Rattle.p4_scopes.specs.View.{scope_of};
-ghost use Rattle.p4_meaning.specs.Parts.{parser_in};
+ghost use Rattle.p4_meaning.specs.Parts.{parser_type};
+ghost use Rattle.p4_resolved.specs.Lent.{lent};
 ghost use Rattle.p4_statement_rules.specs.Ranks.{first_from};
 ghost use Rattle.p4_rules.specs.Mains.{leaves_out, leaves_some_out, has_controls, names_parts, same_way, is_named, all_fields, is_struct, is_struct_of, structs_of, is_wanted, wanted_tests, parser_params, control_params, parts_params, main_tests};
 ghost use Rattle.p4_rules.specs.Views.{fits_of, wanted_of, structs_view, wanted_at};
 
-use crate::parts::{control_named, parser_named, parser_type, struct_fields};
 use lex_text::Name;
 use p4_declaration_rules::names::{has_twice, is_among};
+use p4_resolved::{control_named, named_in, param_type, parser_named, struct_fields};
 use p4_scopes::scope::Scope;
 use p4_scopes::thing::Thing;
 use p4_statement_rules::found::Found;
@@ -133,6 +134,16 @@ fn is_struct_of(wanted: Fields, scope: &Scope, tops: &[Top], name: &Name) -> boo
     is_struct(thing) && all_fields(wanted, scope, struct_fields(tops, name.as_str()))
 }
 
+/// The name of the type of a parser's parameter, or an empty text.
+fn parser_type<'a>(parser: Option<&'a Parser>, number: u8) -> &'a str
+    ensures { result.now ≡ parser_type (option_map parser_of (lent parser.entry)) number }
+{
+    match parser {
+        None => "",
+        Some(parser) => param_type(&parser.params, number),
+    }
+}
+
 /// The types that the parser's parameters name for the headers and the metadata, and whether they
 /// are a struct of headers alone and one of single values.
 #[derive(Drop)]
@@ -152,10 +163,7 @@ pub(crate) fn structs_of(
     ensures { IfOk result (λ structs. structs_view structs
         ≡ structs_of (scope_of scope.now) (program_of program.now)) }
 {
-    let parser = match program.main.get(0) {
-        Some(name) => parser_named(&program.tops, name.as_str()),
-        None => parser_named(&program.tops, ""),
-    };
+    let parser = parser_named(&program.tops, named_in(&program.main, 0));
     let headers_type = Name::new(alloc, parser_type(parser, 1))?;
     let metadata_type = Name::new(alloc, parser_type(parser, 2))?;
     let has_headers = is_struct_of(Fields::Headers, scope, &program.tops, &headers_type);
@@ -216,7 +224,7 @@ fn check_wanted(
 /// Adds the tests of the parameters of the parser.
 fn check_parser(found: &mut Found, at: u32, structs: &Structs, parser: Option<&Parser>)
     ensures { found.new.first ≡ first_from found.old.first
-        (parser_params at (structs_view structs.now) (option_map (λ d. parser_of d.now) parser.entry)) }
+        (parser_params at (structs_view structs.now) (option_map parser_of (lent parser.entry))) }
 {
     if let Some(parser) = parser {
         let wants = [
@@ -239,7 +247,7 @@ fn check_control(
 )
     ensures { found.new.first ≡ first_from found.old.first
         (control_params at (structs_view structs.now) (map wanted_of wants.now)
-        (option_map (λ c. control_of c.now) control.entry)) }
+        (option_map control_of (lent control.entry))) }
 {
     if let Some(control) = control {
         check_wanted(found, at, structs, wants, &control.params);

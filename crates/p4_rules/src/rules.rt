@@ -9,8 +9,8 @@ ghost use Rattle.p4_rules.specs.ProgramRules.{program_scope, first_fault};
 
 use crate::limits::{fields_bytes, tops_cells};
 use crate::mains::{check_main, structs_of};
-use crate::parts::struct_fields;
 use p4_declaration_rules::controls::check_tops;
+use p4_resolved::struct_fields;
 use p4_scopes::scope::Scope;
 use p4_statement_rules::found::Found;
 use p4_statement_rules::rule::ProgramRule;

@@ -1,0 +1,114 @@
+-- The words of constants by a table are those of the scope.
+use Rattle.std.proofs.Common.{◌≡◌, ℕ, Bool, true, false, cond, List, [], ◌∷◌, ◌++◌, map, Option, Some, None, String, Global, string_bytes, refl, sym, ap, ◌∙◌}
+use Rattle.std.specs.Str.{bytes_eq}
+use Rattle.std.proofs.lemmas.Slice.Eq.{bytes_eq-Decides}
+use Rattle.indexmap.specs.IndexMap.{insert_entry}
+use Rattle.bit_values.specs.Bits.{Word, word}
+use Rattle.bit_values.specs.Widths.{sound_width, cast_word}
+use Rattle.lex_text.specs.Names.{same_text, parent}
+use Rattle.p4_tree.specs.Tree.{Expr, Top}
+use Rattle.p4_tree.specs.declared.statement.PTy.{PTy}
+use Rattle.p4_tree.specs.declared.statement.PTy.TheVariants as type
+use Rattle.p4_meaning.specs.Store.{Store, blank, read}
+use Rattle.p4_meaning.specs.Value.{value_of, width_of}
+use Rattle.p4_meaning.specs.Scope.{Scope, constant_named, constant_at, constant_or, is_inner, Inner, type_under, type_named, seen}
+use Rattle.p4_meaning.specs.Under.{expr_under, with_constant, with_type, behind_top, behind_tops}
+use Rattle.p4_meaning.specs.Laws.{AreWords}
+use Rattle.p4_meaning.proofs.Seen.{value_seen}
+use Rattle.p4_types.specs.Kept.{at_name}
+use Rattle.p4_types.specs.Words.{word_at, constants_store, or_none, width_in, IsBehind}
+use Rattle.p4_types.specs.declared.constants.Known.{Known}
+use Rattle.p4_types.proofs.Alike.{value_alike}
+use Rattle.p4_types.proofs.Numbered.{flip}
+
+abbrev same_keys : String Global → String Global → Bool
+same_keys a b = bytes_eq (string_bytes a) (string_bytes b)
+
+-- one entry that is new or replaced
+set_entry : {V : Type 0} (es : List (String Global × V)) (k : String Global) (v : V) (x : List ℕ) → at_name (insert_entry same_keys es k v) x ≡ cond (bytes_eq x (string_bytes k)) (Some v) (at_name es x)
+set_entry [] k v x = refl
+set_entry (e ∷ es) k v x = by (same_keys k e.0) refl (bytes_eq x (string_bytes e.0)) refl (bytes_eq x (string_bytes k)) refl (set_entry es k v x)
+  where
+    by : (b : Bool) → same_keys k e.0 ≡ b → (c : Bool) → bytes_eq x (string_bytes e.0) ≡ c → (d : Bool) → bytes_eq x (string_bytes k) ≡ d
+        → at_name (insert_entry same_keys es k v) x ≡ cond (bytes_eq x (string_bytes k)) (Some v) (at_name es x)
+        → at_name (cond b ((e.0, v) ∷ es) (e ∷ insert_entry same_keys es k v)) x ≡ cond (bytes_eq x (string_bytes k)) (Some v) (cond (bytes_eq x (string_bytes e.0)) (Some e.1) (at_name es x))
+    by true p c q d r ih =
+        let same : bytes_eq x (string_bytes e.0) ≡ bytes_eq x (string_bytes k) = ap (bytes_eq x) (sym ((bytes_eq-Decides (string_bytes k) (string_bytes e.0)).0 p)) in
+        ap (λ (b : Bool). cond b (Some v) (at_name es x)) same ∙ either (bytes_eq x (string_bytes k)) (bytes_eq x (string_bytes e.0)) same
+      where
+        either : (f g : Bool) → g ≡ f → cond f (Some v) (at_name es x) ≡ cond f (Some v) (cond g (Some e.1) (at_name es x))
+        either true g h = refl
+        either false g h = sym (ap (λ (b : Bool). cond b (Some e.1) (at_name es x)) h)
+    by false p true q true r ih =
+        let k_is : x ≡ string_bytes k = (bytes_eq-Decides x (string_bytes k)).0 r in
+        let e_is : x ≡ string_bytes e.0 = (bytes_eq-Decides x (string_bytes e.0)).0 q in
+        absurd (let c : true ≡ false = sym ((bytes_eq-Decides (string_bytes k) (string_bytes e.0)).1 (sym k_is ∙ e_is)) ∙ p in cc)
+    by false p true q false r ih =
+        ap (λ (b : Bool). cond b (Some e.1) (at_name (insert_entry same_keys es k v) x)) q
+        ∙ sym (ap (λ (b : Bool). cond b (Some v) (cond (bytes_eq x (string_bytes e.0)) (Some e.1) (at_name es x))) r ∙ ap (λ (b : Bool). cond b (Some e.1) (at_name es x)) q)
+    by false p false q d r ih =
+        ap (λ (b : Bool). cond b (Some e.1) (at_name (insert_entry same_keys es k v) x)) q ∙ ih
+        ∙ sym (ap (λ (b : Bool). cond (bytes_eq x (string_bytes k)) (Some v) (cond b (Some e.1) (at_name es x))) q)
+
+module _ (k : Known) (sc : Scope) (words : AreWords sc) (so : IsBehind k sc) where
+  no_inner : (i : Option Inner) → i ≡ None → (x : List ℕ) → is_inner i x ≡ false
+  no_inner i e x = ap (λ (j : Option Inner). is_inner j x) e
+
+  reads : (p : List (List ℕ)) → read (constants_store k.constants) p ≡ read (seen sc blank) p
+  reads [] = refl
+  reads (x ∷ []) =
+      ap (λ o. constant_or o (word 1 0)) (so.words x)
+      ∙ sym (ap (λ (b : Bool). constant_or (cond b None (constant_named sc.constants x)) (word 1 0)) (no_inner sc.inner so.outside x))
+  reads (x ∷ y ∷ rest) = refl
+
+  type_width : (t : PTy) → width_in k.widths.entries t ≡ width_of (type_under sc.types t)
+  type_width (type.Bit w) = refl
+  type_width type.Bool = refl
+  type_width (type.Named x) = so.widths x
+
+  -- a constant's word
+  start_is : (t : PTy) (e : Expr) (width : ℕ) (w : Word) → width ≡ width_in k.widths.entries t → w ≡ cast_word (sound_width width) (value_of e width (constants_store k.constants))
+      → w ≡ cast_word (sound_width (width_of (type_under sc.types t))) (value_of (expr_under sc e) (width_of (type_under sc.types t)) blank)
+  start_is t e width w wide is =
+      let v = width_of (type_under sc.types t) in
+      let same : width ≡ v = wide ∙ type_width t in
+      is ∙ ap (λ (n : ℕ). cast_word (sound_width n) (value_of e n (constants_store k.constants))) same
+      ∙ ap (cast_word (sound_width v)) (value_alike (constants_store k.constants) (seen sc blank) reads (λ p. refl) e v ∙ sym (value_seen sc blank words refl e v))
+
+  -- behind a constant
+  pub constant_behind : (m : Known) (t : PTy) (name : List ℕ) (e : Expr) (key : String Global) (width : ℕ) (w : Word)
+      → string_bytes key ≡ name → width ≡ width_in k.widths.entries t → w ≡ cast_word (sound_width width) (value_of e width (constants_store k.constants))
+      → m.constants.words.entries ≡ insert_entry same_keys k.constants.words.entries key w → m.widths.entries ≡ k.widths.entries
+      → IsBehind m (with_constant sc t name e)
+  constant_behind m t name e key width w named wide is entries types = record {
+    words = λ x. ap (λ es. at_name es x) entries ∙ set_entry k.constants.words.entries key w x
+        ∙ ap (λ (z : List ℕ). cond (bytes_eq x z) (Some w) (at_name k.constants.words.entries x)) named
+        ∙ ap (λ (b : Bool). cond b (Some w) (at_name k.constants.words.entries x)) (flip x name)
+        ∙ ap (λ (o : Option Word). cond (same_text name x) (Some w) o) (so.words x)
+        ∙ ap (λ (u : Word). cond (same_text name x) (Some u) (constant_named sc.constants x)) (start_is t e width w wide is);
+    widths = λ x. ap (λ es. or_none (at_name es x)) types ∙ so.widths x;
+    outside = so.outside;
+  }
+
+  -- behind another name of a type
+  pub type_behind : (m : Known) (t : PTy) (name : List ℕ) (key : String Global) (width : ℕ)
+      → string_bytes key ≡ name → width ≡ width_in k.widths.entries t
+      → m.widths.entries ≡ insert_entry same_keys k.widths.entries key width → m.constants.words.entries ≡ k.constants.words.entries
+      → IsBehind m (with_type sc t name)
+  type_behind m t name key width named wide entries same = record {
+    words = λ x. ap (λ es. at_name es x) same ∙ so.words x;
+    widths = λ x. ap (λ es. or_none (at_name es x)) entries ∙ ap or_none (set_entry k.widths.entries key width x)
+        ∙ ap (λ (z : List ℕ). or_none (cond (bytes_eq x z) (Some width) (at_name k.widths.entries x))) named
+        ∙ ap (λ (b : Bool). or_none (cond b (Some width) (at_name k.widths.entries x))) (flip x name)
+        ∙ wide_at x (same_text name x);
+    outside = so.outside;
+  }
+    where
+      wide_at : (x : List ℕ) (b : Bool) → or_none (cond b (Some width) (at_name k.widths.entries x)) ≡ width_of (cond b (type_under sc.types t) (type_named sc.types x))
+      wide_at x true = wide ∙ type_width t
+      wide_at x false = so.widths x
+
+-- one declaration more
+pub behind_push : (sc : Scope) (ts : List Top) (t : Top) → behind_tops sc (ts ++ t ∷ []) ≡ behind_top (behind_tops sc ts) t
+behind_push sc [] t = refl
+behind_push sc (u ∷ ts) t = behind_push (behind_top sc u) ts t

@@ -1,0 +1,9 @@
+-- What callers rest on: why a program is refused, numbers, and constants. To be read in this order.
+pub mod Faults
+pub mod Numbers
+pub mod Constants
+
+-- What serves the proofs.
+pub mod Kept
+pub mod Words
+pub mod Typed

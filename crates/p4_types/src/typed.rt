@@ -1,0 +1,151 @@
+//! A program that is well typed.
+
+ghost use Rattle.std.specs.Prelude.{◌≡◌, IfErr, IfOk};
+ghost use Rattle.p4_tree.specs.View.{program_of};
+ghost use Rattle.p4_rules.specs.Limits.{header_bytes, most_of_program, cells};
+ghost use Rattle.p4_rules.specs.ProgramRules.{program_scope, IsWellTyped};
+ghost use Rattle.p4_types.specs.Faults.{HasCause};
+ghost use Rattle.p4_types.specs.Constants.{constant_of};
+ghost use Rattle.p4_types.specs.Numbers.{tables, registers, actions, names, number_in};
+
+use crate::constants::{Constants, constants_of};
+use crate::fault::ProgramTypeFault;
+use crate::numbers::{Numbering, Sort, numbering};
+use bit_values::Bits;
+use p4_rules::check_rules;
+use p4_tree::Program;
+use std::alloc::{AllocError, Global};
+use std::marker::Model;
+
+/// A program that breaks no rule. Contracts see it as the program.
+#[derive(Drop)]
+pub struct TypedProgram {
+    program: Program,
+    tables: Numbering,
+    registers: Numbering,
+    actions: Numbering,
+    constants: Constants,
+    header_bytes: u32,
+    digest_bound: u32,
+    cells: u64,
+}
+
+impl Model for TypedProgram {
+    ghost use Rattle.p4_tree.specs.declared.program.Program.{Program};
+    ghost use Rattle.p4_types.specs.Typed.{IsTyped};
+
+    ghost Value = { Program };
+
+    ghost view = { λ t. t.program };
+
+    ghost invariant = { IsTyped };
+}
+
+/// The program itself, exactly where it breaks no rule.
+pub fn check_program(alloc: Global, program: Program) -> Result<TypedProgram, ProgramTypeFault>
+    ensures ok { IfOk result (λ t. program_of t ≡ program_of program) }
+    ensures typed { IfOk result (λ _. IsWellTyped (program_of program)) }
+    ensures cause { IfErr result (HasCause (program_of program)) }
+{
+    let checked = check_rules(alloc, &program)?;
+    match checked.first {
+        Some((at, rule)) => Err(ProgramTypeFault::Type_ { at, rule }),
+        None => {
+            let tables = numbering(alloc, Sort::Tables, &program)?;
+            let registers = numbering(alloc, Sort::Registers, &program)?;
+            let actions = numbering(alloc, Sort::Actions, &program)?;
+            let constants = constants_of(alloc, &program.tops)?;
+            Ok(TypedProgram {
+                program,
+                tables,
+                registers,
+                actions,
+                constants,
+                header_bytes: checked.header_bytes,
+                digest_bound: checked.digest_bound,
+                cells: checked.cells,
+            })
+        }
+    }
+}
+
+impl TypedProgram {
+    /// The program.
+    pub fn program(&self) -> &Program
+        ensures same { result.now ≡ self.now }
+        ensures typed { IsWellTyped (program_of self.now) }
+    {
+        &self.program
+    }
+
+    /// The number of the table of a name: `Control.name`.
+    pub fn table_number(&self, name: &str) -> Option<u32>
+        ensures { result ≡ number_in (names tables (program_of self.now)) name.now }
+    {
+        self.tables.number(name)
+    }
+
+    /// The number of the register of a name: `Control.name`, or the plain name at top level.
+    pub fn register_number(&self, name: &str) -> Option<u32>
+        ensures { result ≡ number_in (names registers (program_of self.now)) name.now }
+    {
+        self.registers.number(name)
+    }
+
+    /// The number of the action of a name: `Control.name`, and `NoAction` behind all others.
+    pub fn action_number(&self, name: &str) -> Option<u32>
+        ensures { result ≡ number_in (names actions (program_of self.now)) name.now }
+    {
+        self.actions.number(name)
+    }
+
+    /// The word of the constant of a name at top level.
+    pub fn constant(&self, name: &str) -> Option<Bits>
+        ensures { result ≡ constant_of (program_of self.now) name.now }
+    {
+        self.constants.word(name)
+    }
+
+    /// The bytes of all headers in the struct of headers.
+    pub fn header_bytes(&self) -> u32
+        ensures { result
+            ≡ header_bytes (program_scope (program_of self.now)) (program_of self.now) }
+    {
+        self.header_bytes
+    }
+
+    /// The most digests that a passage gives.
+    pub fn digest_bound(&self) -> u32
+        ensures { result ≡ most_of_program (program_of self.now) }
+    {
+        self.digest_bound
+    }
+
+    /// The cells of all registers.
+    pub fn cells(&self) -> u64
+        ensures { result ≡ cells (program_of self.now) }
+    {
+        self.cells
+    }
+
+    /// An equal program with the same places.
+    pub fn copy(&self, alloc: Global) -> Result<TypedProgram, AllocError>
+        ensures { IfOk result (λ t. program_of t ≡ program_of self.now) }
+    {
+        let program = self.program.copy(alloc)?;
+        let tables = numbering(alloc, Sort::Tables, &program)?;
+        let registers = numbering(alloc, Sort::Registers, &program)?;
+        let actions = numbering(alloc, Sort::Actions, &program)?;
+        let constants = constants_of(alloc, &program.tops)?;
+        Ok(TypedProgram {
+            program,
+            tables,
+            registers,
+            actions,
+            constants,
+            header_bytes: self.header_bytes,
+            digest_bound: self.digest_bound,
+            cells: self.cells,
+        })
+    }
+}
