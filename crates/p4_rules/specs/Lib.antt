@@ -3,6 +3,5 @@
 pub mod Mains
 pub mod Limits
 pub mod ProgramRules
-
 -- What serves the proofs.
 pub mod Views

@@ -204,13 +204,7 @@ fn is_wanted_at(structs: &Structs, wants: &[Wanted], number: usize, param: &Para
 }
 
 /// Adds the tests of parameters. `at` is the program's place, where one is wanting.
-fn check_wanted(
-    found: &mut Found,
-    at: u32,
-    structs: &Structs,
-    wants: &[Wanted],
-    params: &[Param],
-)
+fn check_wanted(found: &mut Found, at: u32, structs: &Structs, wants: &[Wanted], params: &[Param])
     ensures { found.new.first ≡ first_from found.old.first
         (wanted_tests at (structs_view structs.now) (map wanted_of wants.now) params.now) }
 {
@@ -261,16 +255,53 @@ fn check_parts(found: &mut Found, at: u32, structs: &Structs, tops: &[Top], main
 {
     let checksum = [Wanted::Headers(Way::Both), Wanted::Metadata(Way::Both)];
     let standard = Wanted::Core(Way::Both, "standard_metadata_t");
-    let apply = [Wanted::Headers(Way::Both), Wanted::Metadata(Way::Both), standard];
-    let deparser = [Wanted::Core(Way::Plain, "packet_out"), Wanted::Headers(Way::Into)];
+    let apply = [
+        Wanted::Headers(Way::Both),
+        Wanted::Metadata(Way::Both),
+        standard,
+    ];
+    let deparser = [
+        Wanted::Core(Way::Plain, "packet_out"),
+        Wanted::Headers(Way::Into),
+    ];
     match main {
         [parser, verify, ingress, egress, compute, emitter] => {
             check_parser(found, at, structs, parser_named(tops, parser.as_str()));
-            check_control(found, at, structs, &checksum, control_named(tops, verify.as_str()));
-            check_control(found, at, structs, &apply, control_named(tops, ingress.as_str()));
-            check_control(found, at, structs, &apply, control_named(tops, egress.as_str()));
-            check_control(found, at, structs, &checksum, control_named(tops, compute.as_str()));
-            check_control(found, at, structs, &deparser, control_named(tops, emitter.as_str()));
+            check_control(
+                found,
+                at,
+                structs,
+                &checksum,
+                control_named(tops, verify.as_str()),
+            );
+            check_control(
+                found,
+                at,
+                structs,
+                &apply,
+                control_named(tops, ingress.as_str()),
+            );
+            check_control(
+                found,
+                at,
+                structs,
+                &apply,
+                control_named(tops, egress.as_str()),
+            );
+            check_control(
+                found,
+                at,
+                structs,
+                &checksum,
+                control_named(tops, compute.as_str()),
+            );
+            check_control(
+                found,
+                at,
+                structs,
+                &deparser,
+                control_named(tops, emitter.as_str()),
+            );
         }
         [] | [_] | [_, _] | [_, _, _] | [_, _, _, _] | [_, _, _, _, _] => {}
         [_, _, _, _, _, _, _, ..] => {}

@@ -1,5 +1,5 @@
 -- The words of constants by a table are those of the scope.
-use Rattle.std.proofs.Common.{◌≡◌, ℕ, Bool, true, false, cond, List, [], ◌∷◌, ◌++◌, map, Option, Some, None, String, Global, string_bytes, refl, sym, ap, ◌∙◌}
+use Rattle.std.proofs.Common.{◌≡◌, ℕ, ◌+◌, ◌<◌, take, length, get_or, Bool, true, false, cond, List, [], ◌∷◌, ◌++◌, map, Option, Some, None, String, Global, string_bytes, refl, sym, ap, ◌∙◌}
 use Rattle.std.specs.Str.{bytes_eq}
 use Rattle.std.proofs.lemmas.Slice.Eq.{bytes_eq-Decides}
 use Rattle.indexmap.specs.IndexMap.{insert_entry}
@@ -7,19 +7,21 @@ use Rattle.bit_values.specs.Bits.{Word, word}
 use Rattle.bit_values.specs.Widths.{sound_width, cast_word}
 use Rattle.lex_text.specs.Names.{same_text, parent}
 use Rattle.p4_tree.specs.Tree.{Expr, Top}
+use Rattle.p4_tree.specs.View.{top_of}
+use Rattle.p4_tree.specs.declared.program.Top as code
 use Rattle.p4_tree.specs.declared.statement.PTy.{PTy}
 use Rattle.p4_tree.specs.declared.statement.PTy.TheVariants as type
 use Rattle.p4_meaning.specs.Store.{Store, blank, read}
 use Rattle.p4_meaning.specs.Value.{value_of, width_of}
 use Rattle.p4_meaning.specs.Scope.{Scope, constant_named, constant_at, constant_or, is_inner, Inner, type_under, type_named, seen}
-use Rattle.p4_meaning.specs.Under.{expr_under, with_constant, with_type, behind_top, behind_tops}
+use Rattle.p4_meaning.specs.Under.{expr_under, with_constant, with_type, no_scope, behind_top, behind_tops}
 use Rattle.p4_meaning.specs.Laws.{AreWords}
 use Rattle.p4_meaning.proofs.Seen.{value_seen}
 use Rattle.p4_types.specs.Kept.{at_name}
 use Rattle.p4_types.specs.Words.{word_at, constants_store, or_none, width_in, IsBehind}
 use Rattle.p4_types.specs.declared.constants.Known.{Known}
 use Rattle.p4_types.proofs.Alike.{value_alike}
-use Rattle.p4_types.proofs.Numbered.{flip}
+use Rattle.p4_types.proofs.Numbered.{flip, map_more}
 
 abbrev same_keys : String Global → String Global → Bool
 same_keys a b = bytes_eq (string_bytes a) (string_bytes b)
@@ -50,6 +52,12 @@ set_entry (e ∷ es) k v x = by (same_keys k e.0) refl (bytes_eq x (string_bytes
         ap (λ (b : Bool). cond b (Some e.1) (at_name (insert_entry same_keys es k v) x)) q ∙ ih
         ∙ sym (ap (λ (b : Bool). cond (bytes_eq x (string_bytes k)) (Some v) (cond b (Some e.1) (at_name es x))) q)
 
+-- the bits of a type's values
+type_width : (k : Known) (sc : Scope) → IsBehind k sc → (t : PTy) → width_in k.widths.entries t ≡ width_of (type_under sc.types t)
+type_width k sc so (type.Bit w) = refl
+type_width k sc so type.Bool = refl
+type_width k sc so (type.Named x) = so.widths x
+
 module _ (k : Known) (sc : Scope) (words : AreWords sc) (so : IsBehind k sc) where
   no_inner : (i : Option Inner) → i ≡ None → (x : List ℕ) → is_inner i x ≡ false
   no_inner i e x = ap (λ (j : Option Inner). is_inner j x) e
@@ -61,17 +69,12 @@ module _ (k : Known) (sc : Scope) (words : AreWords sc) (so : IsBehind k sc) whe
       ∙ sym (ap (λ (b : Bool). constant_or (cond b None (constant_named sc.constants x)) (word 1 0)) (no_inner sc.inner so.outside x))
   reads (x ∷ y ∷ rest) = refl
 
-  type_width : (t : PTy) → width_in k.widths.entries t ≡ width_of (type_under sc.types t)
-  type_width (type.Bit w) = refl
-  type_width type.Bool = refl
-  type_width (type.Named x) = so.widths x
-
   -- a constant's word
   start_is : (t : PTy) (e : Expr) (width : ℕ) (w : Word) → width ≡ width_in k.widths.entries t → w ≡ cast_word (sound_width width) (value_of e width (constants_store k.constants))
       → w ≡ cast_word (sound_width (width_of (type_under sc.types t))) (value_of (expr_under sc e) (width_of (type_under sc.types t)) blank)
   start_is t e width w wide is =
       let v = width_of (type_under sc.types t) in
-      let same : width ≡ v = wide ∙ type_width t in
+      let same : width ≡ v = wide ∙ type_width k sc so t in
       is ∙ ap (λ (n : ℕ). cast_word (sound_width n) (value_of e n (constants_store k.constants))) same
       ∙ ap (cast_word (sound_width v)) (value_alike (constants_store k.constants) (seen sc blank) reads (λ p. refl) e v ∙ sym (value_seen sc blank words refl e v))
 
@@ -90,6 +93,7 @@ module _ (k : Known) (sc : Scope) (words : AreWords sc) (so : IsBehind k sc) whe
     outside = so.outside;
   }
 
+module _ (k : Known) (sc : Scope) (so : IsBehind k sc) where
   -- behind another name of a type
   pub type_behind : (m : Known) (t : PTy) (name : List ℕ) (key : String Global) (width : ℕ)
       → string_bytes key ≡ name → width ≡ width_in k.widths.entries t
@@ -105,10 +109,16 @@ module _ (k : Known) (sc : Scope) (words : AreWords sc) (so : IsBehind k sc) whe
   }
     where
       wide_at : (x : List ℕ) (b : Bool) → or_none (cond b (Some width) (at_name k.widths.entries x)) ≡ width_of (cond b (type_under sc.types t) (type_named sc.types x))
-      wide_at x true = wide ∙ type_width t
+      wide_at x true = wide ∙ type_width k sc so t
       wide_at x false = so.widths x
 
 -- one declaration more
 pub behind_push : (sc : Scope) (ts : List Top) (t : Top) → behind_tops sc (ts ++ t ∷ []) ≡ behind_top (behind_tops sc ts) t
 behind_push sc [] t = refl
 behind_push sc (u ∷ ts) t = behind_push (behind_top sc u) ts t
+
+-- a program's declarations, one by one
+pub behind_next : (tops : List code.Top) (i : ℕ) (t : code.Top) → i < length tops → t ≡ get_or tops i t
+    → behind_top (behind_tops no_scope (map top_of (take i tops))) (top_of t) ≡ behind_tops no_scope (map top_of (take (i + 1) tops))
+behind_next tops i t lt is =
+    sym (behind_push no_scope (map top_of (take i tops)) (top_of t)) ∙ ap (behind_tops no_scope) (sym (map_more top_of tops i t lt is))

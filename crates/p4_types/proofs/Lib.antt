@@ -1,3 +1,4 @@
 pub mod Alike
+pub mod Checked
 pub mod Known
 pub mod Numbered

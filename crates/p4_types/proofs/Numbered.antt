@@ -5,7 +5,11 @@ use Rattle.std.proofs.lemmas.List.{map-append}
 use Rattle.std.proofs.Math.Seq.{take-suc}
 use Rattle.std.proofs.lemmas.Slice.Eq.{bytes_eq-Decides}
 use Rattle.lex_text.specs.Names.{same_text}
-use Rattle.p4_types.specs.Numbers.{number_from, number_in}
+use Rattle.p4_tree.specs.Tree.{Local, Top}
+use Rattle.p4_tree.specs.View.{local_of, top_of}
+use Rattle.p4_tree.specs.declared.program.Local as code_local
+use Rattle.p4_tree.specs.declared.program.Top as code_top
+use Rattle.p4_types.specs.Numbers.{Sort, number_from, number_in, local_name, all_dotted, locals_names, top_names, tops_names}
 use Rattle.p4_types.specs.Kept.{at_name, IsNumbering, Adds}
 use Rattle.p4_types.specs.declared.numbers.Numbering.{Numbering}
 
@@ -43,9 +47,13 @@ flip x y = by (bytes_eq x y) refl (same_text y x) refl
     by true e false f = absurd (let c : true ≡ false = sym ((bytes_eq-Decides y x).1 (sym ((bytes_eq-Decides x y).0 e))) ∙ f in cc)
     by false e true f = absurd (let c : true ≡ false = sym ((bytes_eq-Decides x y).1 (sym ((bytes_eq-Decides y x).0 f))) ∙ e in cc)
 
-no_one : (o : Option ℕ) → is_some o ≡ false → o ≡ None
+pub no_one : (o : Option ℕ) → is_some o ≡ false → o ≡ None
 no_one None h = refl
 no_one (Some n) h = absurd (let c : true ≡ false = h in cc)
+
+-- two keys have one text
+abbrev pub same_keys : String Global → String Global → Bool
+same_keys a b = bytes_eq (string_bytes a) (string_bytes b)
 
 length_more : (xs : List (List ℕ)) (y : List ℕ) → length (xs ++ y ∷ []) ≡ length xs + 1
 length_more [] y = refl
@@ -89,12 +97,37 @@ module _ (old new : Numbering) (y : List ℕ) (all : List (List ℕ)) (so : IsNu
 
 -- ---- lists of names
 
+pub map_more : {A B : Type 0} (f : A → B) (xs : List A) (i : ℕ) (x : A) → i < length xs → x ≡ get_or xs i x → map f (take (i + 1) xs) ≡ map f (take i xs) ++ f x ∷ []
+map_more f xs i x h e =
+    let more : i + 1 ≡ suc i = omega arith in
+    ap (λ (n : ℕ). map f (take n xs)) more ∙ ap (map f) (take-suc xs i x h ∙ ap (λ y. take i xs ++ y ∷ []) (sym e)) ∙ map-append f (take i xs) (x ∷ [])
+
+none_behind : (xs : List (List ℕ)) → xs ++ [] ≡ xs
+none_behind [] = refl
+none_behind (x ∷ xs) = ap (λ ys. x ∷ ys) (none_behind xs)
+
 pub adds_none : (n : Numbering) → Adds n n []
-adds_none n all h = subst (IsNumbering n) (sym (all_behind all)) h
-  where
-    all_behind : (xs : List (List ℕ)) → xs ++ [] ≡ xs
-    all_behind [] = refl
-    all_behind (x ∷ xs) = ap (λ ys. x ∷ ys) (all_behind xs)
+adds_none n all h = subst (IsNumbering n) (sym (none_behind all)) h
 
 pub adds_both : (n m o : Numbering) (xs ys : List (List ℕ)) → Adds n m xs → Adds m o ys → Adds n o (xs ++ ys)
 adds_both n m o xs ys f g all h = subst (IsNumbering o) (append_assoc all xs ys) (g (all ++ xs) (f all h))
+
+locals_push : (sort : Sort) (c : List ℕ) (ls : List Local) (l : Local) → locals_names sort c (ls ++ l ∷ []) ≡ locals_names sort c ls ++ all_dotted c (local_name sort l)
+locals_push sort c [] l = none_behind (all_dotted c (local_name sort l))
+locals_push sort c (k ∷ ls) l =
+    ap (λ xs. all_dotted c (local_name sort k) ++ xs) (locals_push sort c ls l)
+    ∙ sym (append_assoc (all_dotted c (local_name sort k)) (locals_names sort c ls) (all_dotted c (local_name sort l)))
+
+tops_push : (sort : Sort) (ts : List Top) (t : Top) → tops_names sort (ts ++ t ∷ []) ≡ tops_names sort ts ++ top_names sort t
+tops_push sort [] t = none_behind (top_names sort t)
+tops_push sort (u ∷ ts) t =
+    ap (λ xs. top_names sort u ++ xs) (tops_push sort ts t)
+    ∙ sym (append_assoc (top_names sort u) (tops_names sort ts) (top_names sort t))
+
+pub locals_next : (sort : Sort) (c : List ℕ) (ls : List code_local.Local) (i : ℕ) (l : code_local.Local) → i < length ls → l ≡ get_or ls i l
+    → locals_names sort c (map local_of (take i ls)) ++ all_dotted c (local_name sort (local_of l)) ≡ locals_names sort c (map local_of (take (i + 1) ls))
+locals_next sort c ls i l lt is = sym (ap (locals_names sort c) (map_more local_of ls i l lt is) ∙ locals_push sort c (map local_of (take i ls)) (local_of l))
+
+pub tops_next : (sort : Sort) (ts : List code_top.Top) (i : ℕ) (t : code_top.Top) → i < length ts → t ≡ get_or ts i t
+    → tops_names sort (map top_of (take i ts)) ++ top_names sort (top_of t) ≡ tops_names sort (map top_of (take (i + 1) ts))
+tops_next sort ts i t lt is = sym (ap (tops_names sort) (map_more top_of ts i t lt is) ∙ tops_push sort (map top_of (take i ts)) (top_of t))

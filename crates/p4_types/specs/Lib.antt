@@ -2,7 +2,6 @@
 pub mod Faults
 pub mod Numbers
 pub mod Constants
-
 -- What serves the proofs.
 pub mod Kept
 pub mod Words

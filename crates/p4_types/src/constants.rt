@@ -1,17 +1,18 @@
 //! The words of the constants at top level, each computed once.
 
 ghost use Rattle.std.specs.Prelude.{◌≡◌, ℕ, List, IfOk, map};
-ghost use Rattle.p4_tree.specs.View.{expr_of, top_of};
+ghost use Rattle.p4_tree.specs.View.{expr_of, top_of, program_of};
 ghost use Rattle.p4_meaning.specs.Scope.{Scope, constant_named};
 ghost use Rattle.p4_meaning.specs.Under.{with_constant, with_type, no_scope, behind_top, behind_tops};
 ghost use Rattle.p4_meaning.specs.Laws.{AreWords};
-ghost use Rattle.p4_types.specs.Words.{constants_store, width_in, IsBehind};
+ghost use Rattle.p4_types.specs.Constants.{constant_of};
+ghost use Rattle.p4_types.specs.Words.{constants_store, or_none, width_in, IsBehind};
 ghost use Rattle.p4_types.specs.Kept.{at_name};
 
 use bit_values::{Bits, sound_width};
 use indexmap::IndexMap;
 use lex_text::Name;
-use p4_tree::{Expr, PTy, Top};
+use p4_tree::{Expr, PTy, Program, Top};
 use p4_values::{Sight, value_of, width_of};
 use std::alloc::{AllocError, Global};
 
@@ -28,7 +29,6 @@ impl Constants {
     {
         self.words.get(name).copied()
     }
-
 }
 
 impl Sight for Constants {
@@ -66,18 +66,34 @@ impl Known {
         }
     }
 
+    /// The bits of the values of another name of a type; 0 where there is none.
+    fn type_width(&self, name: &str) -> u8
+        ensures { result ≡ or_none (at_name self.now.widths.entries name.now) }
+    {
+        match self.widths.get(name).copied() {
+            Some(width) => width,
+            None => 0,
+        }
+    }
+
     /// The bits of a type's values.
     fn width(&self, t: &PTy) -> u8
         ensures { result ≡ width_in self.now.widths.entries t.now }
     {
         match t {
-            PTy::Named(name) => self.widths.get(name.as_str()).copied().unwrap_or(0),
+            PTy::Named(name) => self.type_width(name.as_str()),
             PTy::Bit(_) | PTy::Bool => width_of(t),
         }
     }
 
     /// Puts the word of a constant into sight.
-    fn add_constant(&mut self, alloc: Global, t: &PTy, name: &Name, e: &Expr) -> Result<(), AllocError>
+    fn add_constant(
+        &mut self,
+        alloc: Global,
+        t: &PTy,
+        name: &Name,
+        e: &Expr,
+    ) -> Result<(), AllocError>
         ensures { IfOk result (λ _. (sc : Scope) → AreWords sc → IsBehind self.old sc
             → IsBehind self.new (with_constant sc t.now name.now (expr_of e.now))) }
     {
@@ -90,7 +106,7 @@ impl Known {
 
     /// Puts another name of a type into sight.
     fn add_type(&mut self, alloc: Global, t: &PTy, name: &Name) -> Result<(), AllocError>
-        ensures { IfOk result (λ _. (sc : Scope) → IsBehind self.old sc
+        ensures { IfOk result (λ _. (sc : Scope) → AreWords sc → IsBehind self.old sc
             → IsBehind self.new (with_type sc t.now name.now)) }
     {
         let width = self.width(t);
@@ -113,8 +129,17 @@ impl Known {
     }
 }
 
-/// The words of the constants at top level.
-pub(crate) fn constants_of(alloc: Global, tops: &[Top]) -> Result<Constants, AllocError>
+/// The words of the constants of a program at top level.
+pub(crate) fn constants_of(alloc: Global, program: &Program) -> Result<Constants, AllocError>
+    ensures { IfOk result (λ c. (x : List ℕ)
+        → at_name c.words.entries x ≡ constant_of (program_of program.now) x) }
+{
+    let constants = tops_constants(alloc, &program.tops)?;
+    Ok(constants)
+}
+
+/// The words of the constants among declarations.
+fn tops_constants(alloc: Global, tops: &[Top]) -> Result<Constants, AllocError>
     ensures { IfOk result (λ c. (x : List ℕ) → at_name c.words.entries x
         ≡ constant_named (behind_tops no_scope (map top_of tops.now)).constants x) }
 {

@@ -1,8 +1,8 @@
 //! Tables, registers and actions by their numbers.
 
-ghost use Rattle.std.specs.Prelude.{◌≡◌, [], ◌∷◌, List, ℕ, IfOk, map, string_bytes};
+ghost use Rattle.std.specs.Prelude.{◌≡◌, ◌+◌, [], ◌∷◌, List, ℕ, IfOk, map, string_bytes};
 ghost use Rattle.p4_tree.specs.View.{local_of, top_of, program_of};
-ghost use Rattle.p4_types.specs.Numbers.{dotted, local_name, locals_names, top_names, tops_names, names, number_in};
+ghost use Rattle.p4_types.specs.Numbers.{dotted, local_name, all_dotted, locals_names, top_names, tops_names, names, number_in};
 ghost use Rattle.p4_types.specs.Kept.{sort_of, as_list, IsNumbering, Adds};
 
 use indexmap::IndexMap;
@@ -16,6 +16,16 @@ pub(crate) enum Sort {
     Tables,
     Registers,
     Actions,
+}
+
+/// The next number. There is none behind 32 bits, and no memory holds so many names.
+fn one_more(count: u32) -> Result<u32, AllocError>
+    ensures { IfOk result (λ n. n ≡ count + 1) }
+{
+    match count.checked_add(1) {
+        Some(more) => Ok(more),
+        None => Err(AllocError),
+    }
 }
 
 /// Names with their numbers. Of those of one name the first counts.
@@ -41,7 +51,7 @@ impl Numbering {
     fn add(&mut self, name: String) -> Result<(), AllocError>
         ensures { IfOk result (λ _. Adds self.old self.new (string_bytes name ∷ [])) }
     {
-        let count = self.count.checked_add(1).ok_or(AllocError)?;
+        let count = one_more(self.count)?;
         if self.numbers.contains_key(name.as_str()) {
             self.count = count;
             return Ok(());
@@ -90,6 +100,27 @@ fn dotted(alloc: Global, control: &Name, name: &Name) -> Result<String, AllocErr
     Ok(text)
 }
 
+/// Adds the name of a declaration of a control, where it is of this sort.
+fn add_local(
+    alloc: Global,
+    numbering: &mut Numbering,
+    sort: Sort,
+    control: &Name,
+    local: &Local,
+) -> Result<(), AllocError>
+    ensures { IfOk result (λ _. Adds numbering.old numbering.new
+        (all_dotted control.now (local_name (sort_of sort) (local_of local.now)))) }
+{
+    match local_name(sort, local) {
+        Some(name) => {
+            let text = dotted(alloc, control, name)?;
+            numbering.add(text)?;
+            Ok(())
+        }
+        None => Ok(()),
+    }
+}
+
 /// Adds the names of this sort that a control declares.
 fn add_locals(
     alloc: Global,
@@ -102,10 +133,7 @@ fn add_locals(
         (locals_names (sort_of sort) control.now (map local_of locals.now))) }
 {
     for local in locals {
-        match local_name(sort, local) {
-            Some(name) => numbering.add(dotted(alloc, control, name)?)?,
-            None => {}
-        }
+        add_local(alloc, numbering, sort, control, local)?;
     }
     Ok(())
 }
@@ -125,9 +153,7 @@ fn add_top(
             add_locals(alloc, numbering, sort, &control.name, &control.locals)
         }
         Top::Reg(_, register) => match sort {
-            Sort::Registers => {
-                numbering.add(String::from_str(alloc, register.name.as_str())?)
-            }
+            Sort::Registers => { numbering.add(String::from_str(alloc, register.name.as_str())?) }
             Sort::Tables | Sort::Actions => Ok(()),
         },
         Top::Const(_, _, _, _) | Top::Typedef(_, _, _) | Top::Header(_, _, _) => Ok(()),
@@ -147,7 +173,7 @@ fn numbered(alloc: Global, sort: Sort, tops: &[Top]) -> Result<Numbering, AllocE
 }
 
 /// The names of a program of this sort, by their numbers.
-pub(crate) fn numbering(
+pub(crate) fn numbering_of(
     alloc: Global,
     sort: Sort,
     program: &Program,

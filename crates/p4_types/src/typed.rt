@@ -10,7 +10,7 @@ ghost use Rattle.p4_types.specs.Numbers.{tables, registers, actions, names, numb
 
 use crate::constants::{Constants, constants_of};
 use crate::fault::ProgramTypeFault;
-use crate::numbers::{Numbering, Sort, numbering};
+use crate::numbers::{Numbering, Sort, numbering_of};
 use bit_values::Bits;
 use p4_rules::check_rules;
 use p4_tree::Program;
@@ -32,9 +32,14 @@ pub struct TypedProgram {
 
 impl Model for TypedProgram {
     ghost use Rattle.p4_tree.specs.declared.program.Program.{Program};
+    ghost use Rattle.std.specs.Coded.{codes};
+    ghost use Rattle.p4_tree.specs.contracts.statement.Expr as expr;
+    ghost use Rattle.p4_tree.specs.contracts.statement.Stmt as stmt;
     ghost use Rattle.p4_types.specs.Typed.{IsTyped};
 
     ghost Value = { Program };
+
+    ghost coded = { Prim.hlevel (codes, expr.the_row.coded, stmt.the_row.coded) };
 
     ghost view = { λ t. t.program };
 
@@ -51,10 +56,10 @@ pub fn check_program(alloc: Global, program: Program) -> Result<TypedProgram, Pr
     match checked.first {
         Some((at, rule)) => Err(ProgramTypeFault::Type_ { at, rule }),
         None => {
-            let tables = numbering(alloc, Sort::Tables, &program)?;
-            let registers = numbering(alloc, Sort::Registers, &program)?;
-            let actions = numbering(alloc, Sort::Actions, &program)?;
-            let constants = constants_of(alloc, &program.tops)?;
+            let tables = numbering_of(alloc, Sort::Tables, &program)?;
+            let registers = numbering_of(alloc, Sort::Registers, &program)?;
+            let actions = numbering_of(alloc, Sort::Actions, &program)?;
+            let constants = constants_of(alloc, &program)?;
             Ok(TypedProgram {
                 program,
                 tables,
@@ -133,10 +138,10 @@ impl TypedProgram {
         ensures { IfOk result (λ t. program_of t ≡ program_of self.now) }
     {
         let program = self.program.copy(alloc)?;
-        let tables = numbering(alloc, Sort::Tables, &program)?;
-        let registers = numbering(alloc, Sort::Registers, &program)?;
-        let actions = numbering(alloc, Sort::Actions, &program)?;
-        let constants = constants_of(alloc, &program.tops)?;
+        let tables = numbering_of(alloc, Sort::Tables, &program)?;
+        let registers = numbering_of(alloc, Sort::Registers, &program)?;
+        let actions = numbering_of(alloc, Sort::Actions, &program)?;
+        let constants = constants_of(alloc, &program)?;
         Ok(TypedProgram {
             program,
             tables,
