@@ -1,0 +1,25 @@
+pub mod AlikeScopes
+pub mod AlikeExprs
+pub mod AlikeStmts
+pub mod AlikePrograms
+pub mod KeepsLemmas
+pub mod KeptFine
+pub mod Rooted
+pub mod WiderLemmas
+pub mod JoinedLemmas
+pub mod GuardLemmas
+pub mod ReplacesLemmas
+pub mod ReplacedLemmas
+pub mod FieldsGrow
+pub mod GrowthLemmas
+pub mod MainGrow
+pub mod RolesGrow
+pub mod EnteredLemmas
+pub mod BodiesGrow
+pub mod StatesGrow
+pub mod PlainExprs
+pub mod PlainPrograms
+pub mod OwnStates
+mod Rows
+pub mod BeginsLemmas
+pub mod LimitsGrow

@@ -1,0 +1,16 @@
+use Rattle.std.proofs.Common.{[]}
+use Rattle.p4_rule_laws.proofs.EnteredLemmas.{with_others, with_own, among_joined, entered_grow}
+use Rattle.p4_rule_laws.proofs.StatesGrow.{same_states}
+use Rattle.p4_rule_laws.proofs.BeginsLemmas.{begins_enter}
+use Rattle.p4_rule_laws.proofs.growth.states_are_entered.Goals as goal
+
+pub returns : goal.returns
+returns c =
+    record {
+      same = same_states;
+      entered = entered_grow c.reaches_is_exact.ensures;
+      begins = begins_enter;
+      own = λ s sts x i. with_own s sts x [] i;
+      others = with_others;
+      among = among_joined;
+    }

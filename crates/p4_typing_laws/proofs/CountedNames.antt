@@ -1,0 +1,198 @@
+-- What the names in sight count, along the declarations of a program: an action at most what its body counts, a table at
+-- most what its actions and its default count.
+use Rattle.std.proofs.Common.{◌≡◌, ◌⊎◌, inl, inr, ℕ, List, [], ◌∷◌, Bool, true, false, cond, ◌||◌, codes, refl, sym, ap, ◌∙◌, subst}
+use Rattle.lex_text.specs.Names.{same_text}
+use Rattle.p4_tree.specs.declared.statement.PTy.{PTy}
+use Rattle.p4_scopes.specs.Scopes.{Stands, missing, typed, held, cells, act, rows, state, function, algorithm, other, is_missing, Scope, What, behind, declare, action, table, core_name, core}
+use Rattle.p4_scopes.specs.declared.kind.Kind.{Kind}
+use Rattle.p4_scopes.specs.declared.thing.Thing.{Thing}
+use Rattle.p4_scopes.specs.declared.thing.Function.{Function}
+use Rattle.p4_scopes.specs.declared.thing.Function.TheVariants.{MarkToDrop, Digest, VerifyChecksum, UpdateChecksum}
+use Rattle.p4_typing_laws.proofs.CallCounts.{text_is, text_same, function_name}
+use Rattle.p4_typing_laws.proofs.FullNames.{other_text}
+
+broken : {A : Type 0} → true ≡ false → A
+broken h = absurd (cc)
+
+-- ---- one declaration more
+
+-- what stands at a name behind a declaration is what was declared, or what stood there
+abbrev DeclaredAt : Scope → List ℕ → What → List ℕ → Stands → Type 0
+DeclaredAt s n w x st = ((n ≡ x) × (behind s w [] ≡ st)) ⊎ (s (x ∷ []) ≡ st)
+
+declared_at : (s : Scope) (n : List ℕ) (w : What) (x : List ℕ) (st : Stands) → declare s n w (x ∷ []) ≡ st → DeclaredAt s n w x st
+unfolding declare
+declared_at s n w x st e = go (same_text n x) refl e
+  where
+    go : (b : Bool) → same_text n x ≡ b → cond b (behind s w []) (s (x ∷ [])) ≡ st → DeclaredAt s n w x st
+    go true h k = inl (text_is n x h, k)
+    go false h k = inr k
+
+-- another name stands for what it stood for
+pub other_kept : (s : Scope) (n : List ℕ) (w : What) (x : List ℕ) → (n ≡ x → ⊥) → declare s n w (x ∷ []) ≡ s (x ∷ [])
+unfolding declare
+other_kept s n w x h = ap (λ (b : Bool). cond b (behind s w []) (s (x ∷ []))) (other_text n x h)
+
+pub self_stands : (s : Scope) (n : List ℕ) (w : What) → declare s n w (n ∷ []) ≡ behind s w []
+unfolding declare
+self_stands s n w = ap (λ (b : Bool). cond b (behind s w []) (s (n ∷ []))) (text_same n n refl)
+
+-- a name that stands for nothing behind a declaration is not the declared one, and stood for nothing before
+pub record WasMissing (s : Scope) (n x : List ℕ) : Type 0 where
+  pub apart : n ≡ x → ⊥
+  pub before : is_missing (s (x ∷ [])) ≡ true
+
+pub was_missing : (s : Scope) (n : List ℕ) (w : What) → is_missing (behind s w []) ≡ false → (x : List ℕ) → is_missing (declare s n w (x ∷ [])) ≡ true → WasMissing s n x
+unfolding declare
+was_missing s n w some x h = go (same_text n x) refl h
+  where
+    go : (b : Bool) → same_text n x ≡ b → is_missing (cond b (behind s w []) (s (x ∷ []))) ≡ true → WasMissing s n x
+    go true e k = (let c : true ≡ false = sym k ∙ some in absurd (cc))
+    go false e k = record { apart = λ q. (let c : true ≡ false = sym (text_same n x q) ∙ e in cc); before = k }
+
+-- ---- names of the architecture's own
+
+-- they stand for what they stood for at first
+pub record KeepsCore (s : Scope) : Type 0 where
+  pub kept : (x : List ℕ) → is_missing (core_name x) ≡ false → s (x ∷ []) ≡ core_name x
+
+pub core_keeps : KeepsCore core
+unfolding core
+core_keeps = record { kept = λ x h. refl }
+
+pub declare_keeps : (s : Scope) → KeepsCore s → (n : List ℕ) (w : What) → is_missing (s (n ∷ [])) ≡ true → KeepsCore (declare s n w)
+declare_keeps s k n w new = record { kept = λ x h. other_kept s n w x (λ e. (let there : s (n ∷ []) ≡ core_name x = ap (λ (y : List ℕ). s (y ∷ [])) e ∙ k.kept x h in let c : true ≡ false = sym new ∙ ap is_missing there ∙ h in cc)) ∙ k.kept x h }
+
+-- ---- what is called at top level
+
+-- what neither names a function nor counts
+abbrev pub IsQuiet : Stands → Type 0
+IsQuiet missing = Unit {0}
+IsQuiet (typed f t) = Unit {0}
+IsQuiet (held a t) = Unit {0}
+IsQuiet (cells k) = Unit {0}
+IsQuiet (act ks m) = ⊥
+IsQuiet (rows m) = ⊥
+IsQuiet state = Unit {0}
+IsQuiet (function f) = ⊥
+IsQuiet algorithm = Unit {0}
+IsQuiet other = Unit {0}
+
+-- L, T: what is known of the other actions and of the tables in sight
+pub record Calls (L T : List ℕ → ℕ → Type 0) (s : Scope) : Type 0 where
+  pub functions : (x : List ℕ) (f : Function) → s (x ∷ []) ≡ function f → x ≡ function_name f
+  pub actions : (x : List ℕ) (ks : List Kind) (m : ℕ) → s (x ∷ []) ≡ act ks m → (x ≡ codes "NoAction") ⊎ L x m
+  pub tables : (x : List ℕ) (m : ℕ) → s (x ∷ []) ≡ rows m → T x m
+
+pub quiet_calls : (L T : List ℕ → ℕ → Type 0) (s : Scope) → Calls L T s → (n : List ℕ) (w : What) → IsQuiet (behind s w []) → Calls L T (declare s n w)
+quiet_calls L T s c n w q =
+    record {
+      functions = λ x f e. functions x f (declared_at s n w x (function f) e);
+      actions = λ x ks m e. actions x ks m (declared_at s n w x (act ks m) e);
+      tables = λ x m e. tables x m (declared_at s n w x (rows m) e);
+    }
+  where
+    functions : (x : List ℕ) (f : Function) → DeclaredAt s n w x (function f) → x ≡ function_name f
+    functions x f (inl e) = absurd (subst IsQuiet e.1 q)
+    functions x f (inr e) = c.functions x f e
+
+    actions : (x : List ℕ) (ks : List Kind) (m : ℕ) → DeclaredAt s n w x (act ks m) → (x ≡ codes "NoAction") ⊎ L x m
+    actions x ks m (inl e) = absurd (subst IsQuiet e.1 q)
+    actions x ks m (inr e) = c.actions x ks m e
+
+    tables : (x : List ℕ) (m : ℕ) → DeclaredAt s n w x (rows m) → T x m
+    tables x m (inl e) = absurd (subst IsQuiet e.1 q)
+    tables x m (inr e) = c.tables x m e
+
+pub action_calls : (L T : List ℕ → ℕ → Type 0) (s : Scope) → Calls L T s → (n : List ℕ) (ps : List (PTy × List ℕ)) (m : ℕ) → L n m → Calls L T (declare s n (action ps m))
+action_calls L T s c n ps m h =
+    record {
+      functions = λ x f e. functions x f (declared_at s n (action ps m) x (function f) e);
+      actions = λ x ks k e. actions x ks k (declared_at s n (action ps m) x (act ks k) e);
+      tables = λ x k e. tables x k (declared_at s n (action ps m) x (rows k) e);
+    }
+  where
+    functions : (x : List ℕ) (f : Function) → DeclaredAt s n (action ps m) x (function f) → x ≡ function_name f
+    functions x f (inl e) = (let d = e.1 in absurd (cc))
+    functions x f (inr e) = c.functions x f e
+
+    actions : (x : List ℕ) (ks : List Kind) (k : ℕ) → DeclaredAt s n (action ps m) x (act ks k) → (x ≡ codes "NoAction") ⊎ L x k
+    actions x ks k (inl e) = (let d = e.1 in let same : m ≡ k = cc in inr (subst (λ (y : List ℕ). L y k) e.0 (subst (λ (j : ℕ). L n j) same h)))
+    actions x ks k (inr e) = c.actions x ks k e
+
+    tables : (x : List ℕ) (k : ℕ) → DeclaredAt s n (action ps m) x (rows k) → T x k
+    tables x k (inl e) = (let d = e.1 in absurd (cc))
+    tables x k (inr e) = c.tables x k e
+
+pub table_calls : (L T : List ℕ → ℕ → Type 0) (s : Scope) → Calls L T s → (n : List ℕ) (m : ℕ) → T n m → Calls L T (declare s n (table m))
+table_calls L T s c n m h =
+    record {
+      functions = λ x f e. functions x f (declared_at s n (table m) x (function f) e);
+      actions = λ x ks k e. actions x ks k (declared_at s n (table m) x (act ks k) e);
+      tables = λ x k e. tables x k (declared_at s n (table m) x (rows k) e);
+    }
+  where
+    functions : (x : List ℕ) (f : Function) → DeclaredAt s n (table m) x (function f) → x ≡ function_name f
+    functions x f (inl e) = (let d = e.1 in absurd (cc))
+    functions x f (inr e) = c.functions x f e
+
+    actions : (x : List ℕ) (ks : List Kind) (k : ℕ) → DeclaredAt s n (table m) x (act ks k) → (x ≡ codes "NoAction") ⊎ L x k
+    actions x ks k (inl e) = (let d = e.1 in absurd (cc))
+    actions x ks k (inr e) = c.actions x ks k e
+
+    tables : (x : List ℕ) (k : ℕ) → DeclaredAt s n (table m) x (rows k) → T x k
+    tables x k (inl e) = (let d = e.1 in let same : m ≡ k = cc in subst (λ (y : List ℕ). T y k) e.0 (subst (λ (j : ℕ). T n j) same h))
+    tables x k (inr e) = c.tables x k e
+
+abbrev pub Nothing : List ℕ → ℕ → Type 0
+Nothing x m = ⊥
+
+-- before the first declaration functions and `NoAction` alone are called
+pub record IsCore (x : List ℕ) (st : Stands) : Type 0 where
+  pub functions : (f : Function) → st ≡ function f → x ≡ function_name f
+  pub actions : (ks : List Kind) (m : ℕ) → st ≡ act ks m → x ≡ codes "NoAction"
+  pub tables : (m : ℕ) → st ≡ rows m → ⊥
+
+if_core : (x : List ℕ) (b : Bool) (u v : Stands) → (b ≡ true → IsCore x u) → IsCore x v → IsCore x (cond b u v)
+if_core x true u v h k = h refl
+if_core x false u v h k = k
+
+typed_core : (x : List ℕ) (b : Bool) (t : Thing) → IsCore x (typed b t)
+typed_core x b t = record { functions = λ f e. absurd (cc); actions = λ ks m e. absurd (cc); tables = λ m e. cc }
+
+state_core : (x : List ℕ) → IsCore x state
+state_core x = record { functions = λ f e. absurd (cc); actions = λ ks m e. absurd (cc); tables = λ m e. cc }
+
+other_core : (x : List ℕ) → IsCore x other
+other_core x = record { functions = λ f e. absurd (cc); actions = λ ks m e. absurd (cc); tables = λ m e. cc }
+
+missing_core : (x : List ℕ) → IsCore x missing
+missing_core x = record { functions = λ f e. absurd (cc); actions = λ ks m e. absurd (cc); tables = λ m e. cc }
+
+no_action_core : (x : List ℕ) → x ≡ codes "NoAction" → IsCore x (act [] 0)
+no_action_core x h = record { functions = λ f e. absurd (cc); actions = λ ks m e. h; tables = λ m e. cc }
+
+function_core : (x : List ℕ) (g : Function) → x ≡ function_name g → IsCore x (function g)
+function_core x g h = record { functions = λ f e. (let same : g ≡ f = cc in h ∙ ap function_name same); actions = λ ks m e. absurd (cc); tables = λ m e. cc }
+
+core_is : (x : List ℕ) → IsCore x (core_name x)
+core_is x =
+    if_core x (same_text x (codes "standard_metadata_t")) _ _ (λ e. typed_core x _ _)
+    (if_core x (same_text x (codes "packet_in")) _ _ (λ e. typed_core x _ _)
+    (if_core x (same_text x (codes "packet_out")) _ _ (λ e. typed_core x _ _)
+    (if_core x (same_text x (codes "NoAction")) _ _ (λ e. no_action_core x (text_is x (codes "NoAction") e))
+    (if_core x (same_text x (codes "mark_to_drop")) _ _ (λ e. function_core x MarkToDrop (text_is x (codes "mark_to_drop") e))
+    (if_core x (same_text x (codes "digest")) _ _ (λ e. function_core x Digest (text_is x (codes "digest") e))
+    (if_core x (same_text x (codes "verify_checksum")) _ _ (λ e. function_core x VerifyChecksum (text_is x (codes "verify_checksum") e))
+    (if_core x (same_text x (codes "update_checksum")) _ _ (λ e. function_core x UpdateChecksum (text_is x (codes "update_checksum") e))
+    (if_core x (same_text x (codes "accept") || same_text x (codes "reject")) _ _ (λ e. state_core x)
+    (if_core x (same_text x (codes "HashAlgorithm")) _ _ (λ e. other_core x) (missing_core x))))))))))
+
+pub core_calls : (L T : List ℕ → ℕ → Type 0) → Calls L T core
+unfolding core
+core_calls L T =
+    record {
+      functions = λ x f e. (core_is x).functions f e;
+      actions = λ x ks m e. inl ((core_is x).actions ks m e);
+      tables = λ x m e. absurd ((core_is x).tables m e);
+    }
