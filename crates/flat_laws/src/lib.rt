@@ -1,0 +1,4 @@
+//! What flat code means, and what it consists of: laws, and no code.
+#![tactic(auto)]
+
+pub mod laws;
