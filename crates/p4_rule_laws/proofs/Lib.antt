@@ -23,3 +23,4 @@ pub mod OwnStates
 mod Rows
 pub mod BeginsLemmas
 pub mod LimitsGrow
+pub mod RoleFacts

@@ -9,3 +9,4 @@ pub mod Growth
 pub mod Entered
 pub mod GrowthLaws
 pub mod LimitLaws
+pub mod Roles

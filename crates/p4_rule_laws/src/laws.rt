@@ -1,5 +1,6 @@
 //! Laws of what is tested of programs, each the contract of a function that does nothing.
 
+ghost use Rattle.p4_rule_laws.specs.Roles.{PartsAreInRole};
 ghost use Rattle.p4_rule_laws.specs.Laws.{WellTypedIsFine, PlacesDontCount, TestsRestOnNames, ScopesStayAlike, NewNamesAreNotSeen, FineTreesKeep, ScopesAreRooted, FineStaysFine, StatementsJoin, DeclarationsJoin, GuardsAreFine, FlagsAreFine, ReplacedStaysFine};
 
 /// A program is well typed exactly where all that is tested of it is fine.
@@ -65,4 +66,9 @@ pub fn flags_are_fine()
 /// Statements stay fine with other expressions in the place of theirs.
 pub fn replaced_stays_fine()
     ensures { ReplacedStaysFine }
+{}
+
+/// The parts of a well-typed program are those that `main` names, with the architecture's parameters.
+pub fn parts_are_in_role()
+    ensures { PartsAreInRole }
 {}

@@ -20,6 +20,7 @@ use Rattle.p4_meaning.specs.Laws.{IsOf, HasStandard}
 use Rattle.p4_meaning.proofs.Words.{sound, cast_is_word, sound_wide, sound_narrow}
 use Rattle.p4_scopes.specs.Scopes.{Stands, missing, typed, held, cells, act, rows, state, function, algorithm, other, is_missing, value_kind, typed_thing, as_typed, as_held, kind_in, type_at, Scope, value, behind, declare}
 use Rattle.p4_scopes.specs.Uses.{is_scalar, is_type, reads}
+use Rattle.p4_scopes.specs.declared.thing.Access.{Access}
 use Rattle.p4_scopes.specs.declared.thing.Access.TheVariants.{Writable}
 use Rattle.p4_statement_rules.specs.Expressions.{scalar_tests}
 use Rattle.p4_statement_rules.specs.Statements.{after, stmt_tests, block_tests, else_tests}
@@ -43,7 +44,7 @@ broken h = absurd (cc)
 -- ---- places
 
 -- the places that a scope reads, where nothing is declared
-abbrev Read : Scope → meaning.Scope → List (List ℕ) → Type 0
+abbrev pub Read : Scope → meaning.Scope → List (List ℕ) → Type 0
 Read s sc = IsPlaceOf s sc []
 
 read_places : (s : Scope) (sc : meaning.Scope) → HasPlaces (Read s sc)
@@ -72,7 +73,7 @@ kept_is : (n : ℕ) (v w : Word) → IsOf n v → (IsWord v → IsOf v.width w) 
 kept_is n v w h k = (let i = k h.word in record { word = i.word; width = i.width ∙ h.width })
 
 -- where the places that are read keep their widths, a store goes on to fit
-fits_kept : (s : Scope) (sc : meaning.Scope) (a b : Store) → Keeps (Read s sc) a b → b.headers [] ≡ None → Fits s sc a → Fits s sc b
+pub fits_kept : (s : Scope) (sc : meaning.Scope) (a b : Store) → Keeps (Read s sc) a b → b.headers [] ≡ None → Fits s sc a → Fits s sc b
 fits_kept s sc a b k none f = record { values = λ x h r c. at x h r c; headers = none }
   where
     at : (x : List (List ℕ)) → is_missing (s x) ≡ false → reads (s x) ≡ true → constant_at sc x ≡ None → IsOf (kind_width (value_kind (s x))) (b.values (path_under sc x))
@@ -82,7 +83,7 @@ fits_kept s sc a b k none f = record { values = λ x h r c. at x h r c; headers 
 
 -- ---- what a statement declares is at none of the places that are read
 
-among_left : (xs ys : List (List ℕ)) (x : List ℕ) → is_among xs x ≡ true → is_among (xs ++ ys) x ≡ true
+pub among_left : (xs ys : List (List ℕ)) (x : List ℕ) → is_among xs x ≡ true → is_among (xs ++ ys) x ≡ true
 among_left [] ys x h = broken (sym h)
 among_left (y ∷ xs) ys x h = go (same_text y x) (among_left xs ys x) h
   where
@@ -90,7 +91,7 @@ among_left (y ∷ xs) ys x h = go (same_text y x) (among_left xs ys x) h
     go true more k = refl
     go false more k = more k
 
-among_right : (xs ys : List (List ℕ)) (x : List ℕ) → is_among ys x ≡ true → is_among (xs ++ ys) x ≡ true
+pub among_right : (xs ys : List (List ℕ)) (x : List ℕ) → is_among ys x ≡ true → is_among (xs ++ ys) x ≡ true
 among_right [] ys x h = h
 among_right (y ∷ xs) ys x h = go (same_text y x) (among_right xs ys x h)
   where
@@ -100,7 +101,7 @@ among_right (y ∷ xs) ys x h = go (same_text y x) (among_right xs ys x h)
 
 module _ (sc : meaning.Scope) (K : List (List ℕ) → Type 0) where
   -- the names that are declared are at none of the places
-  abbrev AtNone : List (List ℕ) → Type 0
+  abbrev pub AtNone : List (List ℕ) → Type 0
   AtNone xs = (m : List ℕ) → is_among xs m ≡ true → K (first_name sc m ∷ []) → ⊥
 
   mutual
@@ -118,12 +119,12 @@ module _ (sc : meaning.Scope) (K : List (List ℕ) → Type 0) where
     else_spares without a = tt
     else_spares (otherwise c) a = stmt_spares c a
 
-    block_spares : (b : Stmts) → AtNone (names_in b) → Spares K (stmts_under sc b)
+    pub block_spares : (b : Stmts) → AtNone (names_in b) → Spares K (stmts_under sc b)
     block_spares done a = tt
     block_spares (next c rest) a = (stmt_spares c (λ m i. a m (among_left (names_in_stmt c) (names_in rest) m i)), block_spares rest (λ m i. a m (among_right (names_in_stmt c) (names_in rest) m i)))
 
 -- names that are new have no place that is read
-new_at_none : (s : Scope) (sc : meaning.Scope) (xs : List (List ℕ)) → HavePlaces s sc xs → ((m : List ℕ) → is_among xs m ≡ true → is_missing (s (m ∷ [])) ≡ true) → AtNone sc (Read s sc) xs
+pub new_at_none : (s : Scope) (sc : meaning.Scope) (xs : List (List ℕ)) → HavePlaces s sc xs → ((m : List ℕ) → is_among xs m ≡ true → is_missing (s (m ∷ [])) ≡ true) → AtNone sc (Read s sc) xs
 new_at_none s sc xs places new m i (x, (inl k, e)) =
     (let same = places.unread x m k.0 k.1 i e in
     let c : true ≡ false = sym (new m i) ∙ sym (ap (λ (y : List ℕ). is_missing (s (y ∷ []))) same) ∙ k.0 in cc)
@@ -131,10 +132,10 @@ new_at_none s sc xs places new m i (x, (inr k, e)) = let c : false ≡ true = k 
 
 -- ---- a variable
 
-flat_type : (s : Scope) → IsFlat s → (p : ℕ) (t : PTy) → IsFine (scalar_tests p s t) → (x : List ℕ) (xs : List (List ℕ)) → is_missing (as_held Writable (type_at s t (x ∷ xs))) ≡ true
-flat_type s f p (type.Bit w) g x xs = refl
-flat_type s f p type.Bool g x xs = refl
-flat_type s f p (type.Named t) g x xs = by (s (t ∷ x ∷ xs)) (f.flat t (scalar (s (t ∷ [])) g) x xs)
+pub flat_type : (a : Access) (s : Scope) → IsFlat s → (p : ℕ) (t : PTy) → IsFine (scalar_tests p s t) → (x : List ℕ) (xs : List (List ℕ)) → is_missing (as_held a (type_at s t (x ∷ xs))) ≡ true
+flat_type a s f p (type.Bit w) g x xs = refl
+flat_type a s f p type.Bool g x xs = refl
+flat_type a s f p (type.Named t) g x xs = by (s (t ∷ x ∷ xs)) (f.flat t (scalar (s (t ∷ [])) g) x xs)
   where
     scalar : (st : Stands) → ((is_missing st ≡ false) × (not (is_type st) ≡ false)) × (not (is_scalar (typed_thing (as_typed st))) ≡ false) → is_value_type st ≡ true
     scalar missing e = broken e.0.0
@@ -148,7 +149,7 @@ flat_type s f p (type.Named t) g x xs = by (s (t ∷ x ∷ xs)) (f.flat t (scala
     scalar algorithm e = broken e.0.1
     scalar other e = broken e.0.1
 
-    by : (st : Stands) → is_missing st ≡ true → is_missing (as_held Writable (as_typed st)) ≡ true
+    by : (st : Stands) → is_missing st ≡ true → is_missing (as_held a (as_typed st)) ≡ true
     by missing e = refl
     by (typed b u) e = broken (sym e)
     by (held a u) e = broken (sym e)
@@ -182,7 +183,7 @@ var_fits p at s sc ty n e st tied is flat f old = record { values = λ x h r c. 
 
     new_one : (xs : List (List ℕ)) → is_missing (behind s (value Writable ty) xs) ≡ false → IsOf (kind_width (value_kind (behind s (value Writable ty) xs))) ((set_value st (first_name sc n ∷ []) (start_of (type_under sc.types ty) (option_map (expr_under sc) e) st)).values (first_name sc n ∷ xs))
     new_one [] h = there
-    new_one (z ∷ zs) h = (let c : true ≡ false = sym (flat_type s flat at ty f z zs) ∙ h in absurd (cc))
+    new_one (z ∷ zs) h = (let c : true ≡ false = sym (flat_type Writable s flat at ty f z zs) ∙ h in absurd (cc))
 
     go : (y : List ℕ) (xs : List (List ℕ)) (c : Bool) → same_text n y ≡ c → is_missing (cond c (behind s (value Writable ty) xs) (s (y ∷ xs))) ≡ false → reads (cond c (behind s (value Writable ty) xs) (s (y ∷ xs))) ≡ true → constant_at sc (y ∷ xs) ≡ None
         → IsOf (kind_width (value_kind (cond c (behind s (value Writable ty) xs) (s (y ∷ xs))))) ((set_value st (first_name sc n ∷ []) (start_of (type_under sc.types ty) (option_map (expr_under sc) e) st)).values (first_name sc y ∷ xs))
@@ -205,12 +206,12 @@ var_flat s n ty f = record { flat = λ t h x xs. go t x xs (same_text n t) h }
 -- ---- what a block needs, part by part
 
 -- declared: the names that the part declares
-record Ready (p : Parts) (calls : Calls) (s : Scope) (sc : meaning.Scope) (declared : List (List ℕ)) : Type 0 where
-  tied : IsTied p s sc
-  sound : IsSound s
-  flat : IsFlat s
-  places : HavePlaces s sc declared
-  calls_leave : CallsLeave (IsPlaceOf s sc declared) calls
+pub record Ready (p : Parts) (calls : Calls) (s : Scope) (sc : meaning.Scope) (declared : List (List ℕ)) : Type 0 where
+  pub tied : IsTied p s sc
+  pub sound : IsSound s
+  pub flat : IsFlat s
+  pub places : HavePlaces s sc declared
+  pub calls_leave : CallsLeave (IsPlaceOf s sc declared) calls
 
 name_fewer : (s : Scope) (xs ys : List (List ℕ)) → ((m : List ℕ) → is_among ys m ≡ true → is_among xs m ≡ true) → (x : List ℕ) → IsNameOf s ys x → IsNameOf s xs x
 name_fewer s xs ys sub x (inl h) = inl h
@@ -279,7 +280,7 @@ rest_ready p calls h s sc (call q x args) rest f b = b
 
 module _ (p : Parts) (calls : Calls) (sc : meaning.Scope) where
   module _ (s : Scope) (xs : List (List ℕ)) (b : Ready p calls s sc xs) where
-    reads_left : CallsLeave (Read s sc) calls
+    pub reads_left : CallsLeave (Read s sc) calls
     reads_left = calls_fewer (IsPlaceOf s sc xs) (Read s sc) (place_fewer s sc xs [] (λ m i. broken (sym i))) calls b.calls_leave
 
     keep : CallsKeep (Read s sc) calls
@@ -294,7 +295,7 @@ module _ (p : Parts) (calls : Calls) (sc : meaning.Scope) where
         fits_kept s sc r.store (meaning_of_stmt calls (stmt_under sc c) r).0.store
         (stmt_keeps (Read s sc) (read_places s sc) calls keep (stmt_under sc c) (stmt_spares sc (Read s sc) c a) r st) (stmt_none calls none (stmt_under sc c) r f.headers) f
 
-    stmt_standard : (c : Stmt) → AtNone sc (Read s sc) (names_in_stmt c) → (r : Run) → HasStandard r.store → HasStandard (meaning_of_stmt calls (stmt_under sc c) r).0.store
+    pub stmt_standard : (c : Stmt) → AtNone sc (Read s sc) (names_in_stmt c) → (r : Run) → HasStandard r.store → HasStandard (meaning_of_stmt calls (stmt_under sc c) r).0.store
     stmt_standard c a r st =
         standard_kept (Read s sc) (read_places s sc) r.store (meaning_of_stmt calls (stmt_under sc c) r).0.store
         (stmt_keeps (Read s sc) (read_places s sc) calls keep (stmt_under sc c) (stmt_spares sc (Read s sc) c a) r st) st
@@ -312,11 +313,11 @@ module _ (p : Parts) (calls : Calls) (sc : meaning.Scope) where
         (all_keep (Read s sc) (read_places s sc) calls keep (stmts_under sc ss) (block_spares sc (Read s sc) ss a) r st) (all_none calls none (stmts_under sc ss) r f.headers) f
 
   -- a statement's names are at no place that is read
-  at_none : (h : Part) (s : Scope) (c : Stmt) → IsFine (stmt_tests h s c) → Ready p calls s sc (names_in_stmt c) → AtNone sc (Read s sc) (names_in_stmt c)
+  pub at_none : (h : Part) (s : Scope) (c : Stmt) → IsFine (stmt_tests h s c) → Ready p calls s sc (names_in_stmt c) → AtNone sc (Read s sc) (names_in_stmt c)
   at_none h s c f b = new_at_none s sc (names_in_stmt c) b.places (λ m i. stmt_missing c h s f m i)
 
   -- behind a statement the store fits what is in sight there
-  step_fits : (c : Stmt) (h : Part) (s : Scope) → Ready p calls s sc (names_in_stmt c) → IsFine (stmt_tests h s c) → (r : Run) → Fits s sc r.store → HasStandard r.store → Fits (after s c) sc (meaning_of_stmt calls (stmt_under sc c) r).0.store
+  pub step_fits : (c : Stmt) (h : Part) (s : Scope) → Ready p calls s sc (names_in_stmt c) → IsFine (stmt_tests h s c) → (r : Run) → Fits s sc r.store → HasStandard r.store → Fits (after s c) sc (meaning_of_stmt calls (stmt_under sc c) r).0.store
   step_fits (nothing q) h s b f r fits st = fits
   step_fits (block q x) h s b f r fits st = stmt_behind s _ b (block q x) (at_none h s (block q x) f b) r fits st
   step_fits (var q ty n e) h s b f r fits st = var_fits p q s sc ty n e r.store b.tied b.sound b.flat f.1.1.0 (stmt_behind s _ b (var q ty n e) (at_none h s (var q ty n e) f b) r fits st)
@@ -348,13 +349,71 @@ module _ (p : Parts) (calls : Calls) (sc : meaning.Scope) where
     along_else without h s b f r fits st = tt
     along_else (otherwise c) h s b f r fits st = along_stmt c h s b f r fits st
 
-    along : (ss : Stmts) (h : Part) (s : Scope) → Ready p calls s sc (names_in ss) → IsFine (block_tests h s ss) → (r : Run) → Fits s sc r.store → HasStandard r.store → Along calls RunFits s sc ss r
+    pub along : (ss : Stmts) (h : Part) (s : Scope) → Ready p calls s sc (names_in ss) → IsFine (block_tests h s ss) → (r : Run) → Fits s sc r.store → HasStandard r.store → Along calls RunFits s sc ss r
     along done h s b f r fits st = tt
     along (next c ss) h s b f r fits st =
         let one = ready_part p calls s sc (names_in_stmt c ++ names_in ss) (names_in_stmt c) (λ m i. among_left (names_in_stmt c) (names_in ss) m i) b in (
           along_stmt c h s one f.0 r fits st,
           λ go. along ss h (after s c) (rest_ready p calls h s sc c (names_in ss) f.0 b) f.1 (meaning_of_stmt calls (stmt_under sc c) r).0 (step_fits c h s one f.0 r fits st) (stmt_standard s _ one c (at_none h s c f.0 one) r st),
         )
+
+-- at all statements the store goes on to fit what was in sight at the beginning, S, at whose places no variable stands
+module _ (S : Scope) (sc : meaning.Scope) (calls : Calls) (leave : CallsLeave (Read S sc) calls) where
+  abbrev Base : Scope → meaning.Scope → Stmt → Run → Type 0
+  Base s td c r = Fits S sc r.store
+
+  base_keep : CallsKeep (Read S sc) calls
+  base_keep = calls_keep_of (Read S sc) calls leave
+
+  base_none : CallsKeepNone calls
+  base_none = calls_none_of (Read S sc) calls leave
+
+  base_step : (c : Stmt) → AtNone sc (Read S sc) (names_in_stmt c) → (r : Run) → Fits S sc r.store → HasStandard r.store → Fits S sc (meaning_of_stmt calls (stmt_under sc c) r).0.store × HasStandard (meaning_of_stmt calls (stmt_under sc c) r).0.store
+  base_step c a r f st =
+      (let k = stmt_keeps (Read S sc) (read_places S sc) calls base_keep (stmt_under sc c) (stmt_spares sc (Read S sc) c a) r st in (
+        fits_kept S sc r.store (meaning_of_stmt calls (stmt_under sc c) r).0.store k (stmt_none calls base_none (stmt_under sc c) r f.headers) f,
+        standard_kept (Read S sc) (read_places S sc) r.store (meaning_of_stmt calls (stmt_under sc c) r).0.store k st,
+      ))
+
+  base_test : (e : Expr) (r : Run) → Fits S sc r.store → HasStandard r.store → Fits S sc (tested calls e r).run.store × HasStandard (tested calls e r).run.store
+  base_test e r f st =
+      (let k = test_keeps (Read S sc) (read_places S sc) calls base_keep (application e) e r st in (
+        fits_kept S sc r.store (tested calls e r).run.store k (test_none calls base_none (application e) e r f.headers) f,
+        standard_kept (Read S sc) (read_places S sc) r.store (tested calls e r).run.store k st,
+      ))
+
+  mutual
+    base_stmt : (c : Stmt) (s : Scope) → AtNone sc (Read S sc) (names_in_stmt c) → (r : Run) → Fits S sc r.store → HasStandard r.store → AlongStmt calls Base s sc c r
+    base_stmt (nothing q) s a r f st = f
+    base_stmt (block q x) s a r f st = (f, base_block x s a r f st)
+    base_stmt (var q ty n e) s a r f st = f
+    base_stmt (assign q x e) s a r f st = f
+    base_stmt (choice q e x y) s a r f st =
+        let t = tested calls (expr_under sc e) r in
+        let k = base_test (expr_under sc e) r f st in (
+          f,
+          λ go hit. base_stmt x s (λ m i. a m (among_left (names_in_stmt x) (names_in_else y) m i)) t.run k.0 k.1,
+          λ go hit. base_else y s (λ m i. a m (among_right (names_in_stmt x) (names_in_else y) m i)) t.run k.0 k.1,
+        )
+    base_stmt (return_ q) s a r f st = f
+    base_stmt (exit_ q) s a r f st = f
+    base_stmt (call q x args) s a r f st = f
+
+    base_else : (o : MaybeStmt) (s : Scope) → AtNone sc (Read S sc) (names_in_else o) → (r : Run) → Fits S sc r.store → HasStandard r.store → AlongElse calls Base s sc o r
+    base_else without s a r f st = tt
+    base_else (otherwise c) s a r f st = base_stmt c s a r f st
+
+    pub base_block : (ss : Stmts) (s : Scope) → AtNone sc (Read S sc) (names_in ss) → (r : Run) → Fits S sc r.store → HasStandard r.store → Along calls Base s sc ss r
+    base_block done s a r f st = tt
+    base_block (next c ss) s a r f st =
+        let one = λ (m : List ℕ) (i : is_among (names_in_stmt c) m ≡ true). a m (among_left (names_in_stmt c) (names_in ss) m i) in
+        let k = base_step c one r f st in
+        (base_stmt c s one r f st, λ go. base_block ss (after s c) (λ m i. a m (among_right (names_in_stmt c) (names_in ss) m i)) (meaning_of_stmt calls (stmt_under sc c) r).0 k.0 k.1)
+
+  -- and behind them
+  pub base_behind : (ss : Stmts) → AtNone sc (Read S sc) (names_in ss) → (r : Run) → Fits S sc r.store → HasStandard r.store → Fits S sc (meaning_of calls (stmts_under sc ss) r).0.store
+  base_behind ss a r f st =
+      fits_kept S sc r.store (meaning_of calls (stmts_under sc ss) r).0.store (all_keep (Read S sc) (read_places S sc) calls base_keep (stmts_under sc ss) (block_spares sc (Read S sc) ss a) r st) (all_none calls base_none (stmts_under sc ss) r f.headers) f
 
 ready_of : (p : Parts) (calls : Calls) (s : Scope) (sc : meaning.Scope) (b : Stmts) → IsReady p calls s sc b → Ready p calls s sc (names_in b)
 ready_of p calls s sc b r = record { tied = r.tied; sound = r.sound; flat = r.flat; places = r.places; calls_leave = r.calls_leave }

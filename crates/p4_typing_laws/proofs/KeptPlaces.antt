@@ -36,7 +36,7 @@ module _ (K : List (List ℕ) → Type 0) where
   keeps_then a b c h k = record { words = λ q i w. (let one = h.words q i w in let two = k.words q i one.word in record { word = two.word; width = two.width ∙ one.width }) }
 
   -- a word of the width that is there, or at none of the places
-  set_keeps : (s : Store) (p : List (List ℕ)) (w : Word) → (K p → IsWord (s.values p) → IsOf (s.values p).width w) → Keeps K s (set_value s p w)
+  pub set_keeps : (s : Store) (p : List (List ℕ)) (w : Word) → (K p → IsWord (s.values p) → IsOf (s.values p).width w) → Keeps K s (set_value s p w)
   set_keeps s p w fits = record { words = λ q k h. go q k h (same_path p q) refl }
     where
       go : (q : List (List ℕ)) → K q → IsWord (s.values q) → (b : Bool) → same_path p q ≡ b → IsOf (s.values q).width (cond b w (s.values q))
@@ -207,7 +207,7 @@ module _ (K : List (List ℕ) → Type 0) where
   SpareAll [] = Unit {0}
   SpareAll (a ∷ as') = (ParamsSpare a.params × Spares a.body) × SpareAll as'
 
-  bound_keeps : (ps : List Param) (ws : List Word) (s : Store) → ParamsSpare ps → Keeps K s (bound ps ws s)
+  pub bound_keeps : (ps : List Param) (ws : List Word) (s : Store) → ParamsSpare ps → Keeps K s (bound ps ws s)
   bound_keeps [] ws s a = keeps_same s
   bound_keeps (p ∷ ps) [] s a =
       let t = set_value s (p.name ∷ []) (word (sound_width p.width) 0) in
@@ -346,7 +346,7 @@ module _ (calls : Calls) (keep : CallsKeepNone calls) where
     all_none done r e = e
     all_none (next st ss) r e = (let one = stmt_none st r e in after_none (meaning_of_stmt calls st r).1 (meaning_of_stmt calls st r).0 (meaning_of calls ss) one (all_none ss (meaning_of_stmt calls st r).0 one))
 
-bound_none : (ps : List Param) (ws : List Word) (s : Store) → s.headers [] ≡ None → (bound ps ws s).headers [] ≡ None
+pub bound_none : (ps : List Param) (ws : List Word) (s : Store) → s.headers [] ≡ None → (bound ps ws s).headers [] ≡ None
 bound_none [] ws s e = e
 bound_none (p ∷ ps) [] s e = bound_none ps [] (set_value s (p.name ∷ []) (word (sound_width p.width) 0)) e
 bound_none (p ∷ ps) (w ∷ ws) s e = bound_none ps ws (set_value s (p.name ∷ []) (cast_word (sound_width p.width) w)) e

@@ -20,3 +20,9 @@ pub mod TiedPlaces
 pub mod RunWidths
 pub mod KeptPlaces
 pub mod AlongRuns
+pub mod KnownScopes
+pub mod ReadyPlaces
+pub mod HiddenParams
+pub mod RunPlaces
+pub mod ActionStores
+pub mod RunPrograms

@@ -221,7 +221,7 @@ pub states_tied : (p : Parts) (sts : List ParserState) (s : Scope) (sc : meaning
 states_tied p [] s sc t = t
 states_tied p (st ∷ sts) s sc t = states_tied p sts (declare s st.name parser_state) sc (plain_tied p s sc st.name parser_state t tt)
 
-fixed_no_constant : Fixed ≡ Constant → ⊥
+pub fixed_no_constant : Fixed ≡ Constant → ⊥
 fixed_no_constant e = cc
 
 pub writable_no_constant : Writable ≡ Constant → ⊥
@@ -323,8 +323,9 @@ missing_has p sc x (function f) e h = broken (sym e)
 missing_has p sc x algorithm e h = broken (sym e)
 missing_has p sc x other e h = broken (sym e)
 
-pub in_action_tied : (p : Parts) (h : Part) (s : Scope) (sc : meaning.Scope) (a : tree.Action) → IsOuter sc → IsTied p s sc → IsFine (action_tests h s a) → IsTied p (with_params s a.params) (in_action sc a)
-in_action_tied p h s sc a o t f = params_tied p a.at a.params s (in_action sc a) inside f.1.0
+-- at the beginning of an action
+pub enter_tied : (p : Parts) (h : Part) (s : Scope) (sc : meaning.Scope) (a : tree.Action) → IsOuter sc → IsTied p s sc → IsFine (action_tests h s a) → IsTied p s (in_action sc a)
+enter_tied p h s sc a o t f = record { names = λ x. go x (is_among (params_in a.params ++ names_in a.body) x) refl }
   where
     go : (x : List ℕ) (b : Bool) → is_among (params_in a.params ++ names_in a.body) x ≡ b → HasIt p (in_action sc a) x (s (x ∷ []))
     go x true e = missing_has p (in_action sc a) x (s (x ∷ [])) (inner_missing h s a f x e) (ap (λ (b : Bool). cond b None (constant_named sc.constants x)) e)
@@ -336,8 +337,8 @@ in_action_tied p h s sc a o t f = params_tied p a.at a.params s (in_action sc a)
           full = λ k. refl;
         }) (t.names x)
 
-    inside : IsTied p s (in_action sc a)
-    inside = record { names = λ x. go x (is_among (params_in a.params ++ names_in a.body) x) refl }
+pub in_action_tied : (p : Parts) (h : Part) (s : Scope) (sc : meaning.Scope) (a : tree.Action) → IsOuter sc → IsTied p s sc → IsFine (action_tests h s a) → IsTied p (with_params s a.params) (in_action sc a)
+in_action_tied p h s sc a o t f = params_tied p a.at a.params s (in_action sc a) (enter_tied p h s sc a o t f) f.1.0
 
 -- the widths of an action's parameters are those of their kinds
 pub params_are : (p : Parts) (q : ℕ) (s : Scope) (sc sd : meaning.Scope) → IsTied p s sc → sd.types ≡ sc.types → (ps : List (PTy × List ℕ)) → AllScalar q s ps → ParamsAre (kinds_in s ps) (map (param_under sd) ps)

@@ -9,3 +9,4 @@ pub mod Counted
 pub mod Tied
 pub mod Stores
 pub mod Along
+pub mod Runs

@@ -3,6 +3,7 @@
 ghost use Rattle.p4_typing_laws.specs.Along.{StoresFit};
 ghost use Rattle.p4_typing_laws.specs.Counted.{DigestsAreCounted};
 ghost use Rattle.p4_typing_laws.specs.Names.{NamesResolve};
+ghost use Rattle.p4_typing_laws.specs.Runs.{ControlsRun};
 ghost use Rattle.p4_typing_laws.specs.Soundness.{SightsAreSound};
 ghost use Rattle.p4_typing_laws.specs.States.{NoStateReachesItself};
 ghost use Rattle.p4_typing_laws.specs.Stores.{RunsHaveStaticWidths};
@@ -67,4 +68,10 @@ pub fn runs_have_static_widths()
 /// the run comes.
 pub fn stores_fit()
     ensures { StoresFit }
+{}
+
+/// In ingress and egress of a well-typed program, and in their actions, the store fits both scopes at
+/// each statement to which a run comes, whatever the tables hold.
+pub fn controls_run()
+    ensures { ControlsRun }
 {}
