@@ -84,7 +84,7 @@ each-append : (P : ℕ → Type 0) (us : List ℕ) (v : ℕ) → Each P us → P
 each-append P [] v e p = (p, tt)
 each-append P (u ∷ us) v e p = (e.0, each-append P us v e.1 p)
 
-each_behind : (P : ℕ → Type 0) (kept vs : List ℕ) → Each P kept → Each P vs → Each P (distinct_behind kept vs)
+pub each_behind : (P : ℕ → Type 0) (kept vs : List ℕ) → Each P kept → Each P vs → Each P (distinct_behind kept vs)
 each_behind P kept [] k e = k
 each_behind P kept (v ∷ vs) k e = each_behind P (cond (list_any (λ k. nat_eq k v) kept) kept (kept ++ v ∷ [])) vs (by_there (list_any (λ k. nat_eq k v) kept)) e.1
   where
@@ -92,7 +92,7 @@ each_behind P kept (v ∷ vs) k e = each_behind P (cond (list_any (λ k. nat_eq 
     by_there true = k
     by_there false = each-append P kept v k e.0
 
-each_at : (P : ℕ → Type 0) (vs : List ℕ) (i : ℕ) → i < length vs → Each P vs → P (slice_index vs i)
+pub each_at : (P : ℕ → Type 0) (vs : List ℕ) (i : ℕ) → i < length vs → Each P vs → P (slice_index vs i)
 each_at P [] i lt e = absurd (omega arith)
 each_at P (v ∷ vs) zero lt e = e.0
 each_at P (v ∷ vs) (suc i) lt e = each_at P vs i (omega arith) e.1

@@ -47,7 +47,7 @@ stands_still ds ls items bs f h same s = record { at = λ x. at_still ds ls f h 
 
 -- ---- inside a loop
 
-abbrev or_bound : Option Bound → Option Bound → Option Bound
+abbrev pub or_bound : Option Bound → Option Bound → Option Bound
 or_bound None p = p
 or_bound (Some b) p = Some b
 
@@ -59,7 +59,7 @@ bound_step : (c : Bool) (b : Bound) (o p : Option Bound) → cond c (Some b) (or
 bound_step true b o p = refl
 bound_step false b o p = refl
 
-found-append : (bs cs : List Bound) (x : List ℕ) → found (bs ++ cs) x ≡ or_bound (found bs x) (found cs x)
+pub found-append : (bs cs : List Bound) (x : List ℕ) → found (bs ++ cs) x ≡ or_bound (found bs x) (found cs x)
 found-append [] cs x = refl
 found-append (b ∷ bs) cs x = ap (cond (same_text b.name x) (Some b)) (found-append bs cs x) ∙ bound_step (same_text b.name x) b (found bs x) (found cs x)
 
@@ -105,7 +105,7 @@ parts_false : (a b : Bool) → (a || b) ≡ false → (a ≡ false) × (b ≡ fa
 parts_false true b e = absurd (let c : true ≡ false = e in cc)
 parts_false false b e = (refl, e)
 
-name_new : (g : Sight) (ns lists : List (List ℕ)) (x : List ℕ) (k : Kind) → repeats g ns ≡ false → kind_in g.decls ns lists x ≡ Some k → item_of g.decls g.loops x ≡ None
+pub name_new : (g : Sight) (ns lists : List (List ℕ)) (x : List ℕ) (k : Kind) → repeats g ns ≡ false → kind_in g.decls ns lists x ≡ Some k → item_of g.decls g.loops x ≡ None
 name_new g [] lists x k e h = absurd (cc h)
 name_new g (n ∷ ns) [] x k e h =
     let o = parts_false (not (is_missing (role_of g n)) || among ns n) (repeats g ns) e in

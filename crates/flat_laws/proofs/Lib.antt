@@ -17,3 +17,9 @@ pub mod Whole
 pub mod FormLemmas
 pub mod SizeLemmas
 pub mod HeightLemmas
+pub mod FineSites
+pub mod FineDecls
+pub mod FineNames
+pub mod FineExprs
+pub mod FineBlocks
+pub mod FineProperty

@@ -20,7 +20,7 @@ nothing_at : (b : Bool) (d : Decl) (o : Option Decl) → cond b (Some d) o ≡ N
 nothing_at true d o e = absurd (cc e)
 nothing_at false d o e = (refl, e)
 
-behind_none : (fs bs : List Decl) (x : List ℕ) → lookup fs x ≡ None → lookup (fs ++ bs) x ≡ lookup bs x
+pub behind_none : (fs bs : List Decl) (x : List ℕ) → lookup fs x ≡ None → lookup (fs ++ bs) x ≡ lookup bs x
 behind_none [] bs x e = refl
 behind_none (a ∷ fs) bs x e =
     let n = nothing_at (same_text a.name x) a (lookup fs x) e in
@@ -42,7 +42,7 @@ alone p x t = ap (λ b. cond b (Some (scalar_decl p x t)) None) (same_self x)
 
 -- ---- the items of a list
 
-items_not : (p v : ℕ) (t : Ty) (n : ℕ) (q : List ℕ) → ((i : ℕ) → i < n → same_text (item_name v i) q ≡ false) → lookup (item_decls p v t n) q ≡ None
+pub items_not : (p v : ℕ) (t : Ty) (n : ℕ) (q : List ℕ) → ((i : ℕ) → i < n → same_text (item_name v i) q ≡ false) → lookup (item_decls p v t n) q ≡ None
 items_not p v t zero q h = refl
 items_not p v t (suc n) q h =
     behind_none (item_decls p v t n) (scalar_decl p (item_name v n) t ∷ []) q (items_not p v t n q (λ i lt. h i (omega arith)))
@@ -90,7 +90,7 @@ shape_other p v (list t n) q h =
 shape_other p v (set ks) q h = refl
 shape_other p v (dict ks t) q h = refl
 
-kind_other : (k : DeclKind) (v : ℕ) (d : Decl) (q : List ℕ) → ((b : Option ℕ) → same_text (slot v b) q ≡ false) → same_text d.name q ≡ false → lookup (numbered_kind k v d) q ≡ None
+pub kind_other : (k : DeclKind) (v : ℕ) (d : Decl) (q : List ℕ) → ((b : Option ℕ) → same_text (slot v b) q ≡ false) → same_text d.name q ≡ false → lookup (numbered_kind k v d) q ≡ None
 kind_other Tele v d q h n = shape_other d.at v d.shape q h
 kind_other Sensor v d q h n = alone_other d q n
 kind_other Header v d q h n = alone_other d q n

@@ -90,7 +90,7 @@ ready p h plain few =
 -- ---- names
 
 mutual
-  expr_suits : (g : Sight) (e : Expr) (want : Kind) → Fine (expr_sites g want e) → Suits g e
+  pub expr_suits : (g : Sight) (e : Expr) (want : Kind) → Fine (expr_sites g want e) → Suits g e
   expr_suits g (num p n) want f = tt
   expr_suits g (flag p b) want f = tt
   expr_suits g (read p x) want f = (f NoSuchName, not_true (reads (role_of g x)) (neither (kinds_differ (own g (read p x)) want) (not (reads (role_of g x))) (f KindDiffers)).1)
@@ -110,7 +110,7 @@ mutual
   expr_suits g (binary p op a b) want f = (expr_suits g a (left_want op (own g a) (own g b) want) f.1.0, expr_suits g b (right_want op (own g a) (own g b) want) f.1.1)
   expr_suits g (cast p w a) want f = expr_suits g a (as_number (own g a)) f.1
 
-  all_suit : (g : Sight) (es : Exprs) (ws : Wants) → Fine (all_sites g ws es) → AllSuit g es
+  pub all_suit : (g : Sight) (es : Exprs) (ws : Wants) → Fine (all_sites g ws es) → AllSuit g es
   all_suit g none ws f = tt
   all_suit g (more e es) ws f = (expr_suits g e (head_want ws (own g e)) f.0, all_suit g es (tail_wants ws) f.1)
 
@@ -133,7 +133,7 @@ lists_suit g (l ∷ ls) m c =
     (n.0, b.0, lists_suit g ls n.1 b.1)
 
 mutual
-  stmt_suits : (c : Stmt) (g : Sight) → Fine (stmt_sites g c) → StmtSuits c g
+  pub stmt_suits : (c : Stmt) (g : Sight) → Fine (stmt_sites g c) → StmtSuits c g
   stmt_suits (assign p x e) g f = (f.0 NoSuchName, not_true (reads (role_of g x)) (f.0 KindDiffers), not_true (writable (role_of g x)) (f.0 NotWritable), expr_suits g e (read_kind (role_of g x)) f.1)
   stmt_suits (cell p x i e) g f = (
     f.0 NoSuchName,

@@ -112,7 +112,7 @@ other_decl : (d : Decl) → (d.kind ≡ Tele → ⊥) → (o : Option Decl) → 
 other_decl d n None e = tt
 other_decl d n (Some c) e = λ h. n (ap (λ (a : Decl). a.kind) (sym (some_is c d e)) ∙ h)
 
-name_none : (o : Option ℕ) (x : List ℕ) → name_in o None x ≡ x
+pub name_none : (o : Option ℕ) (x : List ℕ) → name_in o None x ≡ x
 name_none None x = refl
 name_none (Some v) x = refl
 

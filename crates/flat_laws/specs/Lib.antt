@@ -3,3 +3,4 @@ pub mod Numbered
 pub mod Meaning
 pub mod Form
 pub mod Sizes
+pub mod Typing

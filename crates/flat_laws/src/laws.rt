@@ -3,6 +3,7 @@
 ghost use Rattle.flat_laws.specs.Form.{FlatCodeIsFlat};
 ghost use Rattle.flat_laws.specs.Meaning.{FlatCodeDoesTheSame, StartsAreNumbered};
 ghost use Rattle.flat_laws.specs.Sizes.{HeightsAreBounded, ReportsAreBounded, SizesAreBounded};
+ghost use Rattle.flat_laws.specs.Typing.{FlatCodeIsWellTyped};
 
 /// At each hop the flat code of a block of a well-typed property does to the numbered scalars what the
 /// block does to the packet's variables, and the same to all else.
@@ -34,4 +35,9 @@ pub fn reports_are_bounded()
 /// Flat code is little higher than the code from which it comes.
 pub fn heights_are_bounded()
     ensures { HeightsAreBounded }
+{}
+
+/// The property of flat code breaks no rule of types.
+pub fn flat_code_is_well_typed()
+    ensures { FlatCodeIsWellTyped }
 {}
