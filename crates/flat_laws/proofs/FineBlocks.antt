@@ -13,7 +13,7 @@ use Rattle.indus_tree.specs.declared.tree.DeclKind.TheVariants.{Tele, Sensor}
 use Rattle.indus_tree.specs.declared.tree.Op.TheVariants.{Add, Less, Equal}
 use Rattle.indus_tree.specs.declared.tree.Ty.{Ty}
 use Rattle.indus_tree.specs.declared.tree.Ty.TheVariants as ty
-use Rattle.indus_scopes.specs.Kinds.{kind_of, join, as_number, kinds_differ, widths_differ}
+use Rattle.indus_scopes.specs.Kinds.{kind_of, join, as_number, kinds_differ, widths_differ, like_want}
 use Rattle.indus_scopes.specs.Scopes.{Around, Sight, item, variable, role_of, read_kind, index_kind, item_of, builtin_of, item_in, list_item, item_kind, shape_item, own}
 use Rattle.indus_scopes.specs.Uses.{is_missing, reads, counts, may_index, writable}
 use Rattle.indus_scopes.specs.Items.{repeats, within}
@@ -140,7 +140,7 @@ module _ (g : Sight) (r : IsReady g.decls) where
   sum_fine : (p v : ℕ) → IsNumbered g r (count_name v) (ty.Bit 8) → Fine (expr_sites F (Number 8) (binary p Add (read p (count_name v)) (byte p 1)))
   sum_fine p v n =
       let kind = count_kind g r p (count_name v) n in
-      let place : as_number (join (join (own F (read p (count_name v))) (Number 8)) (Number 8)) ≡ Number 8 = ap (λ q. as_number (join (join q (Number 8)) (Number 8))) kind in
+      let place : like_want (own F (read p (count_name v))) (Number 8) (Number 8) ≡ Number 8 = ap (λ q. like_want q (Number 8) (Number 8)) kind in
       let whole : as_number (join (own F (read p (count_name v))) (Number 8)) ≡ Number 8 = ap (λ q. as_number (join q (Number 8))) kind in (
         expr_site F (Number 8) (binary p Add (read p (count_name v)) (byte p 1)) refl (ap (λ q. widths_differ q (Number 8)) whole) (ap (λ q. kinds_differ q (Number 8) || false) whole) refl refl,
         (

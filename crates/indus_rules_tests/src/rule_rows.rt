@@ -135,6 +135,14 @@ fn other_widths(rt: HostRuntime) -> Result<(), Fail> {
 const KIND_DIFFERS: &str = "\
 tele n = t; => 2 KindDiffers
 tele n = n + t; => 4 KindDiffers
+tele n = 1 + true; => 4 KindDiffers
+tele n = 1 & true; => 4 KindDiffers
+tele n = true + 1; => 2 KindDiffers
+tele n = (1 + true) + n; => 5 KindDiffers
+tele n = n + (1 + true); => 7 KindDiffers
+tele a[1 + true] = 1; => 4 KindDiffers
+tele t = 1 + true; => 2 KindDiffers
+check report(1 + true); => 2 KindDiffers
 tele t = t < n; => 2 KindDiffers
 tele t = t < t; => 2 KindDiffers
 tele t = n == t; => 4 KindDiffers

@@ -1,7 +1,7 @@
 //! What an expression is, and what its place wants.
 
 ghost use Rattle.std.specs.Prelude.{◌≡◌};
-ghost use Rattle.indus_scopes.specs.Kinds.{kind_of, is_open, join, as_number, kinds_differ, widths_differ, left_want, right_want, width_in};
+ghost use Rattle.indus_scopes.specs.Kinds.{kind_of, is_open, join, as_number, kinds_differ, widths_differ, like_want, left_want, right_want, width_in};
 
 use indus_tree::{Op, Ty};
 
@@ -84,13 +84,20 @@ pub fn widths_differ(a: Kind, b: Kind) -> bool
     }
 }
 
+/// What is wanted of both operands of `+`, `&` and the like.
+fn like_want(a: Kind, b: Kind, want: Kind) -> Kind
+    ensures { result ≡ like_want a b want }
+{
+    as_number(join(join(as_number(a), as_number(b)), want))
+}
+
 /// What is wanted of a left operand.
 pub fn left_want(op: Op, a: Kind, b: Kind, want: Kind) -> Kind
     ensures { result ≡ left_want op a b want }
 {
     match op {
-        Op::Mul | Op::Add | Op::Sub => as_number(join(join(a, b), want)),
-        Op::BitAnd | Op::BitXor | Op::BitOr => as_number(join(join(a, b), want)),
+        Op::Mul | Op::Add | Op::Sub => like_want(a, b, want),
+        Op::BitAnd | Op::BitXor | Op::BitOr => like_want(a, b, want),
         Op::Shl | Op::Shr => as_number(join(a, want)),
         Op::Equal | Op::Differ => join(a, b),
         Op::Less | Op::LessEq | Op::More | Op::MoreEq => as_number(join(a, b)),
@@ -103,8 +110,8 @@ pub fn right_want(op: Op, a: Kind, b: Kind, want: Kind) -> Kind
     ensures { result ≡ right_want op a b want }
 {
     match op {
-        Op::Mul | Op::Add | Op::Sub => as_number(join(join(a, b), want)),
-        Op::BitAnd | Op::BitXor | Op::BitOr => as_number(join(join(a, b), want)),
+        Op::Mul | Op::Add | Op::Sub => like_want(a, b, want),
+        Op::BitAnd | Op::BitXor | Op::BitOr => like_want(a, b, want),
         Op::Shl | Op::Shr => as_number(join(b, Kind::Number(128))),
         Op::Equal | Op::Differ => join(a, b),
         Op::Less | Op::LessEq | Op::More | Op::MoreEq => as_number(join(a, b)),

@@ -10,7 +10,7 @@ use Rattle.indus_tree.specs.Value.{own_width}
 use Rattle.indus_tree.specs.declared.tree.Op.{Op}
 use Rattle.indus_tree.specs.declared.tree.DeclKind.{DeclKind}
 use Rattle.indus_tree.specs.declared.tree.DeclKind.TheVariants.{Tele, Sensor, Header, Control}
-use Rattle.indus_scopes.specs.Kinds.{is_open, join, as_number, kinds_differ, takes_either, left_want, right_want, class_left, class_right, class_kind}
+use Rattle.indus_scopes.specs.Kinds.{join, as_number, kinds_differ, takes_either, left_want, right_want, class_left, class_right, class_kind}
 use Rattle.indus_scopes.specs.Scopes.{Sight, role_of, role_from, read_kind, index_kind, element_kind, shape_item, item_of, builtin_of, own}
 use Rattle.indus_scopes.specs.Uses.{is_missing, is_array, is_dict, is_list, reads, counts, may_index, writable}
 use Rattle.indus_rules.specs.Sites.{push_want, expr_sites, stmt_sites}
@@ -21,7 +21,7 @@ use Rattle.indus_scopes.specs.declared.kind.Kind.TheVariants.{Number, Truth, Unk
 use Rattle.indus_types.specs.Fits.{kind_width, Fits}
 use Rattle.indus_types.specs.StaticWidths.{Serves, PartsAreServed}
 use Rattle.indus_types.proofs.Widths.{twice_not, kind_of_width, not_truth, kind_fine, own_static}
-use Rattle.indus_types.proofs.StaticWidthsLemmas.{is_plain, want_plain, pick_plain, twice, join_any, join_plain, scalar_width}
+use Rattle.indus_types.proofs.StaticWidthsLemmas.{is_plain, want_plain, twice, join_any, join_plain, like_width, scalar_width}
 
 -- ---- operands
 
@@ -34,9 +34,8 @@ left_given like t a b want w h k l s =
     let pb = is_plain b _ l in
     let pw = want_plain (join a b) want h in
     let own_is = join_plain a b pa pb in
-    let place = join_plain (join a b) want (pick_plain (is_open a) a b pa pb) pw ∙ ap (λ v. either_width v (kind_width want)) (join_any a b) in
     let same = ap (λ v. either_width v w) (sym own_is) ∙ s ∙ ap (λ v. either_width v (kind_width want)) own_is in
-    ap (either_width (kind_width a)) (same ∙ sym place)
+    ap (either_width (kind_width a)) (same ∙ sym (like_width a b want pa pb pw))
 left_given shift t a b want w h k l s =
     let pa = is_plain a _ k in
     let pw = want_plain a want h in
@@ -56,9 +55,8 @@ right_given like t a b want w h k l s =
     let pb = is_plain b _ l in
     let pw = want_plain (join a b) want h in
     let own_is = join_plain a b pa pb in
-    let place = join_plain (join a b) want (pick_plain (is_open a) a b pa pb) pw ∙ ap (λ v. either_width v (kind_width want)) (join_any a b) in
     let same = ap (λ v. either_width v w) (sym own_is) ∙ s ∙ ap (λ v. either_width v (kind_width want)) own_is in
-    ap (either_width (kind_width b)) (same ∙ sym place)
+    ap (either_width (kind_width b)) (same ∙ sym (like_width a b want pa pb pw))
 right_given shift t a b want w h k l s = ap (either_width (kind_width b)) (sym (join_plain b (Number 128) (is_plain b _ l) refl))
 right_given joined t a b want w h k l s = ap (either_width (kind_width b)) (sym (not_truth b _ l))
 right_given compare true a b want w h k l s = ap (either_width (kind_width b)) (sym (join_any a b))

@@ -1,6 +1,6 @@
 -- The static width of a fine expression can be a width, by induction on the expression: what is read has a declared
 -- width, a number takes that of its place, and an operator's is that of an operand.
-use Rattle.std.proofs.Common.{◌≡◌, ℕ, ◌+◌, zero, suc, List, Bool, true, false, cond, not, ◌||◌, ◌&&◌, Option, Some, None, refl, sym, ap, ◌∙◌, subst, nat_eq, nat_lt, min, inl, inr, ◌≤◌, arith}
+use Rattle.std.proofs.Common.{◌≡◌, ℕ, ◌+◌, zero, suc, List, Bool, true, false, cond, not, ◌||◌, ◌&&◌, Option, Some, None, refl, sym, ap, ap₂, ◌∙◌, subst, nat_eq, nat_lt, min, inl, inr, ◌≤◌, arith}
 use Rattle.std.specs.Prelude.{codes, nat_le, ◌⊎◌}
 use Rattle.std.proofs.lemmas.Bool.{le-leb}
 use Rattle.std.proofs.lemmas.Bool.Decides.{nat_tests}
@@ -11,7 +11,7 @@ use Rattle.lex_text.specs.Names.{same_text}
 use Rattle.indus_tree.specs.Tree.{Expr, Exprs, num, flag, read, count, index, member, negation, inversion, binary, cast, Shape, one, list, set, dict, Decl}
 use Rattle.indus_tree.specs.State.{lookup, shape_width}
 use Rattle.indus_tree.specs.Operators.{class_of}
-use Rattle.indus_scopes.specs.Kinds.{is_open, join, as_number, width_in, kinds_differ, takes_either, class_left, class_right, class_kind}
+use Rattle.indus_scopes.specs.Kinds.{is_open, join, as_number, width_in, kinds_differ, takes_either, like_want, class_left, class_right, class_kind}
 use Rattle.indus_scopes.specs.Scopes.{Sight, role_of, role_from, scalar_kind, read_kind, index_kind, item_of, builtin_of, own}
 use Rattle.indus_scopes.specs.Uses.{is_missing, is_scalar, reads, indexed}
 use Rattle.indus_rules.specs.Sites.{expr_sites}
@@ -130,6 +130,17 @@ join_any Unknown b = refl
 pub join_plain : (a b : Kind) → Plain a → Plain b → kind_width (as_number (join a b)) ≡ either_width (kind_width a) (kind_width b)
 join_plain a b h k = not_truth (join a b) Unknown (pick_plain (is_open a) a b h k) ∙ join_any a b
 
+number_plain : (k : Kind) → Plain (as_number k)
+number_plain (Number w) = refl
+number_plain Truth = refl
+number_plain Unknown = refl
+
+-- the width of a number's place beside another operand: that of an operand, or of the whole's place
+pub like_width : (a b want : Kind) → Plain a → Plain b → Plain want → kind_width (like_want a b want) ≡ either_width (either_width (kind_width a) (kind_width b)) (kind_width want)
+like_width a b want h k l =
+    join_plain (join (as_number a) (as_number b)) want (pick_plain (is_open (as_number a)) (as_number a) (as_number b) (number_plain a) (number_plain b)) l
+    ∙ ap (λ v. either_width v (kind_width want)) (join_any (as_number a) (as_number b) ∙ ap₂ either_width (not_truth a Unknown h) (not_truth b Unknown k))
+
 -- a shift, and `~`, has a width where its operand has
 shift_step : (a want : Kind) → kinds_differ (as_number a) want ≡ false → kinds_differ a (as_number (join a want)) ≡ false → IsWidth (either_width (kind_width a) (kind_width (as_number (join a want)))) → IsWidth (either_width (kind_width (as_number a)) (kind_width want))
 shift_step a want h k is =
@@ -163,9 +174,8 @@ left_step like t a b want h k l is =
     let pa = is_plain a _ k in
     let pb = is_plain b _ l in
     let pw = want_plain (join a b) want h in
-    let place = join_plain (join a b) want (pick_plain (is_open a) a b pa pb) pw ∙ ap (λ v. either_width v (kind_width want)) (join_any a b) in
     subst IsWidth
-    (ap (either_width (kind_width a)) place ∙ both_given (kind_width a) (kind_width b) (kind_width want) ∙ sym (ap (λ v. either_width v (kind_width want)) (join_plain a b pa pb)))
+    (ap (either_width (kind_width a)) (like_width a b want pa pb pw) ∙ both_given (kind_width a) (kind_width b) (kind_width want) ∙ sym (ap (λ v. either_width v (kind_width want)) (join_plain a b pa pb)))
     is
 left_step shift t a b want h k l is = shift_step a want h k is
 left_step joined t a b want h k l is = given _ (kind_width want) (joined_wide (width_in a) (width_in b) (subst IsWidth (joined_place a k) is))
