@@ -96,10 +96,15 @@ takes_any Equal = true
 takes_any Differ = true
 takes_any _ = false
 
+-- what is wanted of both operands of `+`, `&` and the like: the width of a number among them, and where none has one
+-- that of the place of the whole; a truth value has no width
+abbrev pub like_want : (a b want : Kind) → Kind
+like_want a b want = as_number (join (join (as_number a) (as_number b)) want)
+
 -- what is wanted of an operator's left operand, where the operands are of kinds a and b, and `want` is wanted of the
 -- whole: a number takes its width from the other operand, and where that has none from the place of the whole
 abbrev pub class_left : Class → (any : Bool) → (a b want : Kind) → Kind
-class_left like any a b want = as_number (join (join a b) want)
+class_left like any a b want = like_want a b want
 class_left shift any a b want = as_number (join a want)
 class_left joined any a b want = as_number a
 class_left compare true a b want = join a b
@@ -111,7 +116,7 @@ left_want op = class_left (class_of op) (takes_any op)
 
 -- the same of the right operand. That of a shift may have any width, and without one it has 128
 abbrev pub class_right : Class → (any : Bool) → (a b want : Kind) → Kind
-class_right like any a b want = as_number (join (join a b) want)
+class_right like any a b want = like_want a b want
 class_right shift any a b want = as_number (join b (Number 128))
 class_right joined any a b want = as_number b
 class_right compare true a b want = join a b

@@ -1,7 +1,7 @@
 //! What an expression is, and what its place wants.
 
 ghost use Rattle.std.specs.Prelude.{◌≡◌};
-ghost use Rattle.p4_scopes.specs.Kinds.{is_open, join, as_number, as_value, width_in, bits_in, kinds_differ, widths_differ, slice_width, joined_width, binary_kind, choice_kind, left_want, right_want, choice_want, index_want};
+ghost use Rattle.p4_scopes.specs.Kinds.{is_open, join, as_number, as_value, width_in, bits_in, kinds_differ, widths_differ, slice_width, joined_width, binary_kind, choice_kind, like_want, left_want, right_want, choice_want, index_want};
 
 use p4_tree::Op;
 
@@ -152,13 +152,20 @@ pub fn choice_kind(a: Kind, b: Kind) -> Kind
     join(as_value(a), as_value(b))
 }
 
+/// What is wanted of both operands of `+`, `&` and the like.
+fn like_want(a: Kind, b: Kind, want: Kind) -> Kind
+    ensures { result ≡ like_want a b want }
+{
+    as_number(join(join(as_number(a), as_number(b)), want))
+}
+
 /// What is wanted of an operator's left operand.
 pub fn left_want(op: Op, a: Kind, b: Kind, want: Kind) -> Kind
     ensures { result ≡ left_want op a b want }
 {
     match op {
-        Op::Mul | Op::Add | Op::Sub => as_number(join(join(a, b), want)),
-        Op::BitAnd | Op::BitXor | Op::BitOr => as_number(join(join(a, b), want)),
+        Op::Mul | Op::Add | Op::Sub => like_want(a, b, want),
+        Op::BitAnd | Op::BitXor | Op::BitOr => like_want(a, b, want),
         Op::Shl | Op::Shr => as_number(join(a, want)),
         Op::Concat => as_number(a),
         Op::Less | Op::LessEq | Op::More | Op::MoreEq => as_number(join(a, b)),
@@ -172,8 +179,8 @@ pub fn right_want(op: Op, a: Kind, b: Kind, want: Kind) -> Kind
     ensures { result ≡ right_want op a b want }
 {
     match op {
-        Op::Mul | Op::Add | Op::Sub => as_number(join(join(a, b), want)),
-        Op::BitAnd | Op::BitXor | Op::BitOr => as_number(join(join(a, b), want)),
+        Op::Mul | Op::Add | Op::Sub => like_want(a, b, want),
+        Op::BitAnd | Op::BitXor | Op::BitOr => like_want(a, b, want),
         Op::Shl | Op::Shr => as_number(join(b, Kind::Number(128))),
         Op::Concat => as_number(b),
         Op::Less | Op::LessEq | Op::More | Op::MoreEq => as_number(join(a, b)),

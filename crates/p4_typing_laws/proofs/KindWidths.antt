@@ -3,7 +3,7 @@ use Rattle.std.proofs.Common.{◌≡◌, ℕ, ◌+◌, ◌-◌, ◌≤◌, zero,
 use Rattle.std.proofs.lemmas.Bool.Decides.{nat_tests}
 use borrow.Author.Tests.{eqb-true}
 use Rattle.bit_values.specs.Widths.{either_width}
-use Rattle.p4_scopes.specs.Kinds.{is_open, join, as_number, as_value, width_in, kinds_differ, joined_width, slice_width, choice_kind, choice_want}
+use Rattle.p4_scopes.specs.Kinds.{is_open, join, as_number, as_value, width_in, kinds_differ, joined_width, slice_width, choice_kind, like_want, choice_want}
 use Rattle.p4_scopes.specs.declared.kind.Kind.{Kind}
 use Rattle.p4_scopes.specs.declared.kind.Kind.TheVariants.{Number, Truth, Error, Unknown}
 use Rattle.p4_typing_laws.specs.Soundness.{kind_width, IsWidth}
@@ -94,6 +94,18 @@ join_width Unknown b = refl
 -- the width of a number's place, which two kinds give
 pub join_plain : (a b : Kind) → Plain a → Plain b → kind_width (as_number (join a b)) ≡ either_width (kind_width a) (kind_width b)
 join_plain a b h k = plain_width (join a b) (pick_plain (is_open a) a b h k) ∙ join_width a b
+
+number_plain : (k : Kind) → Plain (as_number k)
+number_plain (Number w) = refl
+number_plain Truth = refl
+number_plain Error = refl
+number_plain Unknown = refl
+
+-- the width of a number's place beside another operand: that of an operand, or of the whole's place
+pub like_width : (a b want : Kind) → Plain a → Plain b → Plain want → kind_width (like_want a b want) ≡ either_width (either_width (kind_width a) (kind_width b)) (kind_width want)
+like_width a b want h k l =
+    join_plain (join (as_number a) (as_number b)) want (pick_plain (is_open (as_number a)) (as_number a) (as_number b) (number_plain a) (number_plain b)) l
+    ∙ ap (λ v. either_width v (kind_width want)) (join_width (as_number a) (as_number b) ∙ ap₂ either_width (plain_width a h) (plain_width b k))
 
 -- ---- kinds of values
 

@@ -21,6 +21,7 @@ use Rattle.p4_statement_rules.specs.declared.rule.Part.{Part}
 use Rattle.p4_statement_rules.specs.declared.rule.Part.TheVariants as place
 use Rattle.p4_declaration_rules.specs.Parsers.{with_ways}
 use Rattle.p4_declaration_rules.specs.Controls.{after_local, locals_tests, in_control, control_tests, part_in, after_top, tops_tests, after_tops, after_locals}
+use Rattle.p4_declaration_rules.proofs.FirstsLemmas.{all_first}
 use Rattle.p4_rules.specs.Mains.{Structs, structs_of, apply_wants, control_params, parts_params, wanted_tests}
 use Rattle.p4_rules.specs.ProgramRules.{program_scope, IsWellTyped}
 use Rattle.p4_meaning.specs.Store.{Store}
@@ -231,4 +232,4 @@ module _ (p : Program) (typed : IsWellTyped p) where
 
 pub controls_run : ControlsRun
 controls_run p typed names values =
-    tops_run p typed p.tops core no_scope (record { known = core_known; outer = refl; all = refl; finds = λ x m. refl }) (each_tied p typed names) values (typed_fine p typed).0
+    tops_run p typed p.tops core no_scope (record { known = core_known; outer = refl; all = sym (all_first p.main core p.tops (typed_fine p typed).0); finds = λ x m. refl }) (each_tied p typed names) values (typed_fine p typed).0

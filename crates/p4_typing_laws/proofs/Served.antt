@@ -10,14 +10,14 @@ use Rattle.p4_tree.specs.Operators.{class_of}
 use Rattle.p4_tree.specs.declared.statement.Op.{Op}
 use Rattle.p4_meaning.specs.Store.{Store, shown}
 use Rattle.p4_meaning.specs.Value.{own_width}
-use Rattle.p4_scopes.specs.Kinds.{is_open, join, as_number, as_value, kinds_differ, takes_any, class_kind, class_left, class_right, left_want, right_want, choice_want, index_want}
+use Rattle.p4_scopes.specs.Kinds.{join, as_number, as_value, kinds_differ, takes_any, class_kind, class_left, class_right, left_want, right_want, choice_want, index_want}
 use Rattle.p4_scopes.specs.Scopes.{Scope, own}
 use Rattle.p4_scopes.specs.declared.kind.Kind.{Kind}
 use Rattle.p4_scopes.specs.declared.kind.Kind.TheVariants.{Number, Truth, Error, Unknown}
 use Rattle.p4_statement_rules.specs.Expressions.{expr_tests}
 use Rattle.p4_typing_laws.specs.Soundness.{kind_width}
 use Rattle.p4_typing_laws.specs.Widths.{Shows, Serves, PartsAreServed, EachPartIsServed}
-use Rattle.p4_typing_laws.proofs.KindWidths.{twice, Plain, is_plain, plain_width, want_plain, pick_plain, join_width, join_plain, choice_place, choice_width}
+use Rattle.p4_typing_laws.proofs.KindWidths.{twice, Plain, is_plain, plain_width, want_plain, join_width, join_plain, like_width, choice_place, choice_width}
 use Rattle.p4_typing_laws.proofs.StaticWidths.{ReadsSound, differs, left_most, right_most, turned_most, choice_most, choice_left, choice_right, found, shown_sound}
 
 -- ---- operands
@@ -27,13 +27,12 @@ left_given : (c : Class) (t : Bool) (a b want : Kind) (w : ℕ) → kinds_differ
     → either_width (kind_width (class_kind c a b)) w ≡ either_width (kind_width (class_kind c a b)) (kind_width want)
     → either_width (kind_width a) (left_place c (kind_width a) (kind_width b) w) ≡ either_width (kind_width a) (kind_width (class_left c t a b want))
 left_given like t a b want w h k l s =
-    let pa = is_plain a (join (join a b) want) k in
-    let pb = is_plain b (join (join a b) want) l in
+    let pa = is_plain a (join (join (as_number a) (as_number b)) want) k in
+    let pb = is_plain b (join (join (as_number a) (as_number b)) want) l in
     let pw = want_plain (join a b) want h in
     let own_is = join_plain a b pa pb in
-    let place = join_plain (join a b) want (pick_plain (is_open a) a b pa pb) pw ∙ ap (λ v. either_width v (kind_width want)) (join_width a b) in
     let same = ap (λ v. either_width v w) (sym own_is) ∙ s ∙ ap (λ v. either_width v (kind_width want)) own_is in
-    ap (either_width (kind_width a)) (same ∙ sym place)
+    ap (either_width (kind_width a)) (same ∙ sym (like_width a b want pa pb pw))
 left_given shift t a b want w h k l s =
     let pa = is_plain a (join a want) k in
     let pw = want_plain a want h in
@@ -49,13 +48,12 @@ right_given : (c : Class) (t : Bool) (a b want : Kind) (w : ℕ) → kinds_diffe
     → either_width (kind_width (class_kind c a b)) w ≡ either_width (kind_width (class_kind c a b)) (kind_width want)
     → either_width (kind_width b) (right_place c (kind_width a) (kind_width b) w) ≡ either_width (kind_width b) (kind_width (class_right c t a b want))
 right_given like t a b want w h k l s =
-    let pa = is_plain a (join (join a b) want) k in
-    let pb = is_plain b (join (join a b) want) l in
+    let pa = is_plain a (join (join (as_number a) (as_number b)) want) k in
+    let pb = is_plain b (join (join (as_number a) (as_number b)) want) l in
     let pw = want_plain (join a b) want h in
     let own_is = join_plain a b pa pb in
-    let place = join_plain (join a b) want (pick_plain (is_open a) a b pa pb) pw ∙ ap (λ v. either_width v (kind_width want)) (join_width a b) in
     let same = ap (λ v. either_width v w) (sym own_is) ∙ s ∙ ap (λ v. either_width v (kind_width want)) own_is in
-    ap (either_width (kind_width b)) (same ∙ sym place)
+    ap (either_width (kind_width b)) (same ∙ sym (like_width a b want pa pb pw))
 right_given shift t a b want w h k l s = ap (either_width (kind_width b)) (sym (join_plain b (Number 128) (is_plain b (join b (Number 128)) l) refl))
 right_given joined t a b want w h k l s = ap (either_width (kind_width b)) (sym (plain_width b (is_plain b b l)))
 right_given compare true a b want w h k l s = ap (either_width (kind_width b)) (sym (join_width a b))

@@ -17,7 +17,7 @@ use Rattle.p4_meaning.specs.Store.{Store, read}
 use Rattle.p4_meaning.specs.Value.{width_of, own_width}
 use Rattle.p4_meaning.specs.Laws.{IsOf}
 use Rattle.p4_meaning.proofs.Words.{sound}
-use Rattle.p4_scopes.specs.Kinds.{is_open, join, as_number, as_value, width_in, kinds_differ, takes_any, joined_width, slice_width, class_kind, choice_kind, class_left, class_right, left_want, right_want, choice_want}
+use Rattle.p4_scopes.specs.Kinds.{is_open, join, as_number, as_value, width_in, kinds_differ, takes_any, joined_width, slice_width, class_kind, choice_kind, like_want, class_left, class_right, left_want, right_want, choice_want}
 use Rattle.p4_scopes.specs.Scopes.{is_missing, value_kind, Scope, cast_kind, own}
 use Rattle.p4_scopes.specs.Uses.{reads}
 use Rattle.p4_scopes.specs.declared.kind.Kind.{Kind}
@@ -27,7 +27,7 @@ use Rattle.p4_typing_laws.specs.Soundness.{kind_width, IsWidth, IsSoundKind}
 use Rattle.p4_typing_laws.specs.Widths.{static_width, Shows}
 use Rattle.p4_typing_laws.proofs.Fine.{twice_not, neither}
 use Rattle.p4_typing_laws.proofs.Agreement.{agrees}
-use Rattle.p4_typing_laws.proofs.KindWidths.{one_bit, two_bits, nonzero, given, twice, first_given, Plain, is_plain, plain_width, width_in_plain, want_plain, pick_plain, join_width, join_plain, is_value, is_some_kind, choice_no_error, is_value_there, as_value_is, pick_value, value_some, choice_place, choice_width, joined_is, slice_is}
+use Rattle.p4_typing_laws.proofs.KindWidths.{one_bit, two_bits, nonzero, given, twice, first_given, Plain, is_plain, plain_width, width_in_plain, want_plain, join_plain, like_width, is_value, is_some_kind, choice_no_error, is_value_there, as_value_is, pick_value, value_some, choice_place, choice_width, joined_is, slice_is}
 
 -- what is read is of a sound kind
 pub record ReadsSound (s : Scope) : Type 0 where
@@ -104,8 +104,14 @@ class_cap joined a b h k = joined_cap (width_in a) (width_in b)
 class_cap compare a b h k = omega arith
 class_cap logic a b h k = omega arith
 
+like_cap : (a b want : Kind) → kind_width a ≤ 128 → kind_width b ≤ 128 → kind_width want ≤ 128 → kind_width (like_want a b want) ≤ 128
+like_cap a b want h k l =
+    let both = pick_cap (is_open (as_number a)) (as_number a) (as_number b) (number_cap a h) (number_cap b k) in
+    let whole = pick_cap (is_open (join (as_number a) (as_number b))) (join (as_number a) (as_number b)) want both l in
+    number_cap (join (join (as_number a) (as_number b)) want) whole
+
 left_cap : (c : Class) (t : Bool) (a b want : Kind) → kind_width a ≤ 128 → kind_width b ≤ 128 → kind_width want ≤ 128 → kind_width (class_left c t a b want) ≤ 128
-left_cap like t a b want h k l = number_cap (join (join a b) want) (pick_cap (is_open (join a b)) (join a b) want (pick_cap (is_open a) a b h k) l)
+left_cap like t a b want h k l = like_cap a b want h k l
 left_cap shift t a b want h k l = number_cap (join a want) (pick_cap (is_open a) a want h l)
 left_cap joined t a b want h k l = number_cap a h
 left_cap compare true a b want h k l = pick_cap (is_open a) a b h k
@@ -113,7 +119,7 @@ left_cap compare false a b want h k l = number_cap (join a b) (pick_cap (is_open
 left_cap logic t a b want h k l = omega arith
 
 right_cap : (c : Class) (t : Bool) (a b want : Kind) → kind_width a ≤ 128 → kind_width b ≤ 128 → kind_width want ≤ 128 → kind_width (class_right c t a b want) ≤ 128
-right_cap like t a b want h k l = number_cap (join (join a b) want) (pick_cap (is_open (join a b)) (join a b) want (pick_cap (is_open a) a b h k) l)
+right_cap like t a b want h k l = like_cap a b want h k l
 right_cap shift t a b want h k l = number_cap (join b (Number 128)) (pick_cap (is_open b) b (Number 128) k (omega arith))
 right_cap joined t a b want h k l = number_cap b k
 right_cap compare true a b want h k l = pick_cap (is_open a) a b h k
@@ -237,12 +243,11 @@ tested_joined logic p k l a b f = tt
 class_sound : (c : Class) (t : Bool) (a b want : Kind) → IsJoined c a b → kinds_differ (class_kind c a b) want ≡ false → kinds_differ a (class_left c t a b want) ≡ false → kinds_differ b (class_right c t a b want) ≡ false
     → IsWidth (either_width (kind_width a) (kind_width (class_left c t a b want))) → IsWidth (either_width (kind_width b) (kind_width (class_right c t a b want))) → IsWidth (either_width (kind_width (class_kind c a b)) (kind_width want))
 class_sound like t a b want j h k l is js =
-    let pa = is_plain a (join (join a b) want) k in
-    let pb = is_plain b (join (join a b) want) l in
+    let pa = is_plain a (join (join (as_number a) (as_number b)) want) k in
+    let pb = is_plain b (join (join (as_number a) (as_number b)) want) l in
     let pw = want_plain (join a b) want h in
-    let place = join_plain (join a b) want (pick_plain (is_open a) a b pa pb) pw ∙ ap (λ v. either_width v (kind_width want)) (join_width a b) in
     subst IsWidth
-    (ap (either_width (kind_width a)) place ∙ first_given (kind_width a) (kind_width b) (kind_width want) ∙ sym (ap (λ v. either_width v (kind_width want)) (join_plain a b pa pb)))
+    (ap (either_width (kind_width a)) (like_width a b want pa pb pw) ∙ first_given (kind_width a) (kind_width b) (kind_width want) ∙ sym (ap (λ v. either_width v (kind_width want)) (join_plain a b pa pb)))
     is
 class_sound shift t a b want j h k l is js = shift_step a want h k is
 class_sound joined t a b want j h k l is js =
@@ -256,7 +261,9 @@ class_sound logic t a b want j h k l is js = given 1 (kind_width want) one_bit
 -- the width that the meaning finds of an operator is that of its kind
 class_found : (c : Class) (t : Bool) (a b want : Kind) → IsJoined c a b → kinds_differ a (class_left c t a b want) ≡ false → kinds_differ b (class_right c t a b want) ≡ false
     → IsWidth (either_width (kind_width a) (kind_width (class_left c t a b want))) → IsWidth (either_width (kind_width b) (kind_width (class_right c t a b want))) → own_of c (kind_width a) (kind_width b) ≡ kind_width (class_kind c a b)
-class_found like t a b want j k l is js = sym (join_plain a b (is_plain a (join (join a b) want) k) (is_plain b (join (join a b) want) l))
+class_found like t a b want j k l is js =
+    let place = join (join (as_number a) (as_number b)) want in
+    sym (join_plain a b (is_plain a place k) (is_plain b place l))
 class_found shift t a b want j k l is js = sym (plain_width a (is_plain a (join a want) k))
 class_found joined t a b want j k l is js =
     let sum = joined_is (width_in a) (width_in b) (joined_operand a (is_plain a a k) is) (joined_operand b (is_plain b b l) js) j in
