@@ -1,6 +1,5 @@
 -- What is known of each state, one by one.
-use Rattle.std.proofs.Common.{◌≡◌, ℕ, zero, suc, ◌+◌, ◌<◌, List, [], ◌∷◌, Bool, false, Option, map, length, drop, get_or, refl, sym, ap, ◌∙◌, arith}
-use Rattle.rule_tests.specs.Tests.{Tests}
+use Rattle.std.proofs.Common.{◌≡◌, ℕ, zero, suc, ◌+◌, ◌<◌, List, [], ◌∷◌, Bool, false, Option, map, length, drop, get_or, sym, ap, ◌∙◌, arith}
 use Rattle.p4_tree.specs.Tree.{ParserState}
 use Rattle.p4_tree.specs.View.{state_of}
 use Rattle.p4_tree.specs.declared.program.ParserState as code

@@ -7,7 +7,7 @@ use Rattle.std.proofs.lemmas.Slice.Eq.{slice_eq-Decides, bytes_eq-Decides}
 use Rattle.std.specs.List.{list_any}
 use Rattle.rule_tests.specs.Tests.{Tests, test, both}
 use Rattle.lex_text.specs.Names.{same_text, same_path}
-use Rattle.p4_tree.specs.Tree.{Stmt, Stmts, done, next}
+use Rattle.p4_tree.specs.Tree.{Stmts, done, next}
 use Rattle.p4_tree.specs.View.{stmt_of, stmts_of}
 use Rattle.p4_tree.specs.declared.statement.Stmt as code
 use Rattle.p4_scopes.specs.Scopes.{Scope}

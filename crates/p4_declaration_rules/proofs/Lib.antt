@@ -1,6 +1,8 @@
 pub mod Cyclic
 pub mod Emitted
+pub mod FirstsLemmas
 pub mod Keys
+pub mod NameTables
 pub mod Prefixes
 pub mod Seen
 pub mod Sizes

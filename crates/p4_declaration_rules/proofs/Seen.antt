@@ -1,15 +1,12 @@
 -- Names that stand twice are found by a table of the names before.
-use Rattle.std.proofs.Common.{◌≡◌, ℕ, suc, ◌+◌, ◌<◌, length, drop, drop-cons, get_or, Bool, true, false, cond, not, ◌||◌, List, [], ◌∷◌, ◌++◌, map, Bor, refl, sym, ap, ◌∙◌, arith}
+use Rattle.std.proofs.Common.{◌≡◌, ℕ, suc, ◌+◌, ◌<◌, length, drop, drop-cons, get_or, Bool, true, false, cond, not, ◌||◌, List, [], ◌∷◌, ◌++◌, Bor, refl, sym, ap, ◌∙◌, arith}
 use Rattle.std.specs.List.{list_any}
 use Rattle.std.specs.Str.{bytes_eq}
 use Rattle.lex_text.specs.Names.{same_text}
 use Rattle.p4_tree.specs.declared.statement.PTy.{PTy}
 use Rattle.p4_parser_states.specs.Cycles.{is_among}
 use Rattle.p4_declaration_rules.specs.Declarations.{has_twice, field_names}
-
--- the names of a table
-abbrev pub named : List (Bor (List ℕ)) → List (List ℕ)
-named ks = map (λ k. k.now) ks
+use Rattle.p4_declaration_rules.specs.Loops.{named}
 
 abbrev pub is_seen : List (List ℕ) → List ℕ → Bool
 is_seen [] x = false
@@ -31,7 +28,7 @@ meets_none (x ∷ xs) = meets_none xs
 pub none_seen : (xs : List (List ℕ)) → still_twice [] xs ≡ has_twice xs
 none_seen xs = ap (λ (b : Bool). b || has_twice xs) (meets_none xs)
 
-or_none : (a : Bool) → (a || false) ≡ a
+pub or_none : (a : Bool) → (a || false) ≡ a
 or_none true = refl
 or_none false = refl
 
@@ -56,7 +53,7 @@ meets_push ks x (y ∷ ys) =
     ∙ ap (λ (b : Bool). (is_seen ks y || same_text y x) || b) (meets_push ks x ys)
     ∙ crossed (is_seen ks y) (same_text y x) (meets ks ys) (is_among ys x)
 
-regroup : (a b c : Bool) → ((a || b) || c) ≡ (a || (b || c))
+pub regroup : (a b c : Bool) → ((a || b) || c) ≡ (a || (b || c))
 regroup true b c = refl
 regroup false b c = refl
 
@@ -64,7 +61,7 @@ any_seen : (ks : List (Bor (List ℕ))) (x : List ℕ) → list_any (λ k. bytes
 any_seen [] x = refl
 any_seen (k ∷ ks) x = ap (λ (b : Bool). bytes_eq x k.now || b) (any_seen ks x)
 
-named_push : (ks : List (Bor (List ℕ))) (k : Bor (List ℕ)) → named (ks ++ k ∷ []) ≡ named ks ++ k.now ∷ []
+pub named_push : (ks : List (Bor (List ℕ))) (k : Bor (List ℕ)) → named (ks ++ k ∷ []) ≡ named ks ++ k.now ∷ []
 named_push [] k = refl
 named_push (j ∷ ks) k = ap (λ xs. j.now ∷ xs) (named_push ks k)
 
@@ -72,7 +69,7 @@ not_true : (b : Bool) → not b ≡ true → b ≡ false
 not_true true e = absurd cc
 not_true false e = refl
 
-not_false : (b : Bool) → not b ≡ false → b ≡ true
+pub not_false : (b : Bool) → not b ≡ false → b ≡ true
 not_false true e = refl
 not_false false e = absurd cc
 

@@ -1,4 +1,4 @@
--- What is tested of controls and of declarations at top level. Read `Parsers` before it and `Mains` after it.
+-- What is tested of controls and of declarations at top level. Read `Parsers` before it and `Firsts` after it.
 use Rattle.std.specs.Prelude.{ℕ, List, [], ◌∷◌, Bool, false, ◌||◌, Option, Some, None, if◌then◌else◌}
 use Rattle.lex_text.specs.Names.{same_text, same_path}
 use Rattle.rule_tests.specs.Tests.{Tests, fine, test, both}

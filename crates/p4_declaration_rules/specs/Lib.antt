@@ -4,5 +4,6 @@ pub mod Declarations
 pub mod Tables
 pub mod Parsers
 pub mod Controls
+pub mod Firsts
 -- What serves the proofs.
 pub mod Loops

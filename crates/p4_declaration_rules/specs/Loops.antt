@@ -52,3 +52,7 @@ path_in texts = map (λ x. x.now) texts.items
 
 abbrev pub paths_in : List (Vec (Bor (List ℕ))) → List (List (List ℕ))
 paths_in all = map path_in all
+
+-- the names that a table holds
+abbrev pub named : List (Bor (List ℕ)) → List (List ℕ)
+named ks = map (λ k. k.now) ks

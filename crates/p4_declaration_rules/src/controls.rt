@@ -78,7 +78,7 @@ fn check_local<'a>(
 }
 
 /// Puts into sight what a declaration of a control declares.
-fn declare_local<'a>(scope: &mut Scope<'a>, local: &'a Local) -> Result<(), AllocError>
+pub fn declare_local<'a>(scope: &mut Scope<'a>, local: &'a Local) -> Result<(), AllocError>
     ensures declared { IfOk result (λ _. scope_of scope.new
         ≡ after_local (scope_of scope.old) (local_of local.now)) }
     ensures kept { IfOk result (λ _. take (length scope.old) scope.new ≡ scope.old) }
@@ -221,7 +221,7 @@ fn check_top<'a>(
 }
 
 /// Puts into sight what a declaration at top level declares.
-fn declare_top<'a>(scope: &mut Scope<'a>, top: &'a Top) -> Result<(), AllocError>
+pub fn declare_top<'a>(scope: &mut Scope<'a>, top: &'a Top) -> Result<(), AllocError>
     ensures { IfOk result (λ _. scope_of scope.new
         ≡ after_top (scope_of scope.old) (top_of top.now)) }
 {

@@ -1,8 +1,9 @@
-//! Questions on lists of names.
+//! Questions on lists and tables of names.
 
-ghost use Rattle.std.specs.Prelude.{◌≡◌, IfOk};
-ghost use Rattle.p4_declaration_rules.specs.Declarations.{has_twice, field_names};
+ghost use Rattle.std.specs.Prelude.{◌≡◌, ℕ, List, IfOk};
 ghost use Rattle.p4_parser_states.specs.Cycles.{is_among};
+ghost use Rattle.p4_declaration_rules.specs.Declarations.{has_twice, field_names};
+ghost use Rattle.p4_declaration_rules.specs.Loops.{named};
 
 use indexmap::IndexSet;
 use lex_text::Name;
@@ -10,7 +11,7 @@ use p4_tree::PTy;
 use std::alloc::{AllocError, Global};
 
 /// Whether the name is one of the list.
-pub fn is_among(names: &[Name], name: &Name) -> bool
+pub(crate) fn is_among(names: &[Name], name: &Name) -> bool
     ensures { result ≡ is_among names.now name.now }
 {
     for other in names {
@@ -19,6 +20,25 @@ pub fn is_among(names: &[Name], name: &Name) -> bool
         }
     }
     false
+}
+
+/// A table of the names, for many questions on one list.
+pub fn name_table<'a>(alloc: Global, names: &'a [Name]) -> Result<IndexSet<&'a str>, AllocError>
+    ensures { IfOk result (λ table. (x : List ℕ)
+        → is_among (named table.keys) x ≡ is_among names.now x) }
+{
+    let mut table = IndexSet::new(alloc);
+    for name in names {
+        table.insert(name.as_str())?;
+    }
+    Ok(table)
+}
+
+/// Whether the name is in the table.
+pub fn is_in(table: &IndexSet<&str>, name: &Name) -> bool
+    ensures { result ≡ is_among (named table.now.keys) name.now }
+{
+    table.contains(name.as_str())
 }
 
 /// Whether some name stands twice.

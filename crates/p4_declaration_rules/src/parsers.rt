@@ -22,7 +22,7 @@ use p4_tree::{Param, Parser, ParserState, Way};
 use std::alloc::AllocError;
 
 /// Who may write a parameter.
-fn way_access(way: Way) -> Access
+pub fn way_access(way: Way) -> Access
     ensures { result ≡ way_access way }
 {
     match way {

@@ -17,9 +17,10 @@ use Rattle.p4_declaration_rules.specs.Digests.{most_of}
 use Rattle.p4_declaration_rules.specs.Declarations.{action_tests, with_params}
 use Rattle.p4_declaration_rules.specs.Parsers.{with_ways, ways_tests, parser_tests}
 use Rattle.p4_declaration_rules.specs.Controls.{action_part, local_tests, after_local, locals_tests, after_locals, in_control, control_tests, top_tests, after_top, tops_tests, after_tops}
+use Rattle.p4_declaration_rules.specs.Firsts.{top_name}
 use Rattle.p4_rule_laws.specs.Old.{Names, Alike, OldFields, OldType, OldExpr, OldStmts}
 use Rattle.p4_rule_laws.specs.OldPrograms.{OldWays, OldTop}
-use Rattle.p4_rule_laws.specs.Kept.{Keeps, top_name}
+use Rattle.p4_rule_laws.specs.Kept.{Keeps}
 use Rattle.p4_rule_laws.specs.Replaced.{Replaces, BlockReplaced}
 use Rattle.p4_rule_laws.specs.Growth.{More, with_more, MoreIsNew, MoreFits, Sees, BodyGrows, ActionGrows, with_body, LocalGrows, LocalsGrow, no_local, same_local, new_local, other_local, StatesGrow, is_struct_type, parser_with, control_with, TopsGrow, no_top, same_top, new_top, wider_struct, other_states, other_control}
 use Rattle.p4_rule_laws.proofs.AlikeScopes.{declare_alike, skip_alike}

@@ -14,7 +14,7 @@ use Rattle.p4_meaning.specs.Scope.{param_at, param_type}
 use Rattle.p4_meaning.specs.Parts.{parser_named, control_named, struct_fields, parser_type, parser_in}
 use Rattle.p4_parser_states.specs.Cycles.{case_targets, targets, leads, state_names, reaches_by, is_on_cycle}
 use Rattle.p4_scopes.specs.Kinds.{as_number, as_value}
-use Rattle.p4_scopes.specs.Scopes.{Stands, missing, typed, held, cells, act, rows, state, function, algorithm, other, Scope, core, value, action, table, parser_state, declare, kind_in, own}
+use Rattle.p4_scopes.specs.Scopes.{Stands, missing, typed, held, cells, act, rows, state, function, algorithm, other, is_missing, Scope, core, value, action, table, parser_state, declare, kind_in, own}
 use Rattle.p4_scopes.specs.Uses.{is_scalar, is_header}
 use Rattle.p4_scopes.specs.declared.kind.Kind.{Kind}
 use Rattle.p4_scopes.specs.declared.thing.Thing.{Thing}
@@ -29,7 +29,8 @@ use Rattle.p4_declaration_rules.specs.Digests.{most_of, most_of_default, most_of
 use Rattle.p4_declaration_rules.specs.Declarations.{const_tests, typedef_tests, register_tests, params_tests, with_params, action_tests, is_no_number, is_no_field, fields_tests, header_tests, struct_tests}
 use Rattle.p4_declaration_rules.specs.Tables.{keys_tests, all_key_kinds, has_key_kind, has_two_prefixes, ill_matched, listed_tests, known_args, default_args, default_tests, table_tests}
 use Rattle.p4_declaration_rules.specs.Parsers.{way_access, with_ways, ways_tests, onto_tests, simple_tests, key_tests, keyset_tests, each_keyset, keysets_tests, cases_tests, transition_tests, with_states, states_names, state_tests, states_tests, parser_tests}
-use Rattle.p4_declaration_rules.specs.Controls.{action_part, declared_tests, local_tests, after_local, locals_tests, after_locals, some_path, arg_path, form_emits, stmt_emits, emit_at, emit_tests, emitted_behind, emits_tests, once_tests, in_control, control_tests, part_in, top_tests, after_top, tops_tests, after_tops, most_of_part, most_of_top, most_of_tops}
+use Rattle.p4_declaration_rules.specs.Controls.{action_part, declared_tests, local_tests, after_local, locals_tests, after_locals, some_path, arg_path, form_emits, stmt_emits, emit_at, emit_tests, emitted_behind, emits_tests, once_tests, in_control, control_tests, part_in, top_tests, after_top, tops_tests, most_of_part, most_of_top, most_of_tops}
+use Rattle.p4_declaration_rules.specs.Firsts.{top_name, first_top, first_tops}
 use Rattle.p4_rules.specs.Mains.{leaves_out, leaves_some_out, has_controls, names_parts, Wanted, core_type, headers, metadata, is_wanted, parser_wants, checksum_wants, apply_wants, deparser_wants, is_struct_of, Structs, structs_of, wanted_tests, parser_params, control_params, parts_params, main_tests}
 use Rattle.p4_rules.specs.Limits.{fields_bytes, header_bytes, local_cells, locals_cells, top_cells, tops_cells, limit_tests}
 use Rattle.p4_rules.specs.ProgramRules.{program_scope, program_tests, IsWellTyped}
@@ -385,9 +386,21 @@ tops_plain main s (y ∷ ys) =
     let g = ap (λ u. unplaced (tops_tests main u (map plain_top ys))) (after_top_plain s y) in
     cc
 
-after_tops_plain : (s : Scope) (ys : List Top) → after_tops s ys ≡ after_tops s (map plain_top ys)
-after_tops_plain s [] = refl
-after_tops_plain s (y ∷ ys) = after_tops_plain (after_top s y) ys ∙ ap (λ u. after_tops u (map plain_top ys)) (after_top_plain s y)
+top_name_plain : (y : Top) → top_name y ≡ top_name (plain_top y)
+top_name_plain (constant p t x e) = refl
+top_name_plain (typedef p t x) = refl
+top_name_plain (header_type p x fs) = refl
+top_name_plain (struct_type p x fs) = refl
+top_name_plain (register p r) = refl
+top_name_plain (parser p d) = refl
+top_name_plain (control p c) = refl
+
+first_top_plain : (s : Scope) (y : Top) → first_top s y ≡ first_top s (plain_top y)
+first_top_plain s y = ap (λ u. cond (is_missing (s (top_name y ∷ []))) u s) (after_top_plain s y) ∙ ap (λ n. cond (is_missing (s (n ∷ []))) (after_top s (plain_top y)) s) (top_name_plain y)
+
+first_tops_plain : (s : Scope) (ys : List Top) → first_tops s ys ≡ first_tops s (map plain_top ys)
+first_tops_plain s [] = refl
+first_tops_plain s (y ∷ ys) = first_tops_plain (first_top s y) ys ∙ ap (λ u. first_tops u (map plain_top ys)) (first_top_plain s y)
 
 -- ---- main
 
@@ -616,7 +629,7 @@ program_plain p =
     let e = main_plain (program_scope p) p in
     let f = limit_plain (program_scope p) p in
     let g = tops_plain p.main core p.tops in
-    let u = after_tops_plain core p.tops in
+    let u = first_tops_plain core p.tops in
     let h = ap (λ s. unplaced (main_tests s (plain_program p))) u in
     let i = ap (λ s. unplaced (limit_tests s (plain_program p))) u in
     cc

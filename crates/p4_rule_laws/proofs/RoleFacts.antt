@@ -15,10 +15,11 @@ use Rattle.p4_scopes.specs.declared.thing.Thing.TheVariants.{Header, Struct}
 use Rattle.p4_scopes.specs.declared.thing.Access.TheVariants.{Constant}
 use Rattle.p4_statement_rules.specs.declared.rule.Part.{Part}
 use Rattle.p4_statement_rules.specs.declared.rule.Part.TheVariants as place
-use Rattle.p4_declaration_rules.specs.Controls.{part_in, top_tests, after_top, tops_tests}
+use Rattle.p4_declaration_rules.specs.Controls.{part_in, after_top, tops_tests}
+use Rattle.p4_declaration_rules.specs.Firsts.{top_name}
+use Rattle.p4_declaration_rules.proofs.FirstsLemmas.{is_new}
 use Rattle.p4_rules.specs.Mains.{is_named, leaves_out, leaves_some_out, has_controls, names_parts, Wanted, parser_wants, checksum_wants, apply_wants, deparser_wants, Structs, structs_of, wanted_tests, parser_params, control_params, parts_params}
 use Rattle.p4_rules.specs.ProgramRules.{program_scope, program_tests, IsWellTyped}
-use Rattle.p4_rule_laws.specs.Kept.{top_name}
 use Rattle.p4_rule_laws.specs.Roles.{wants_of, is_main_part, In, PartsAreInRole}
 use Rattle.p4_rule_laws.proofs.KeepsLemmas.{declared, after_top_keeps}
 
@@ -57,15 +58,6 @@ not_false true e = refl
 not_false false e = no_case e
 
 -- ---- a name is declared once
-
-is_new : (main : List (List ℕ)) (s : Scope) (y : Top) → IsFine (top_tests main s y) → is_missing (s (top_name y ∷ [])) ≡ true
-is_new main s (constant p t n e) f = not_false (is_missing (s (top_name (constant p t n e) ∷ []))) f.0
-is_new main s (typedef p t n) f = not_false (is_missing (s (top_name (typedef p t n) ∷ []))) f.0
-is_new main s (header_type p n fs) f = not_false (is_missing (s (top_name (header_type p n fs) ∷ []))) f.0
-is_new main s (struct_type p n fs) f = not_false (is_missing (s (top_name (struct_type p n fs) ∷ []))) f.0
-is_new main s (register p r) f = not_false (is_missing (s (top_name (register p r) ∷ []))) f.0
-is_new main s (parser p d) f = not_false (is_missing (s (top_name (parser p d) ∷ []))) f.0
-is_new main s (control p c) f = not_false (is_missing (s (top_name (control p c) ∷ []))) f.0
 
 is_declared : (s : Scope) (y : Top) → is_missing (after_top s y (top_name y ∷ [])) ≡ false
 is_declared s (constant p t n e) = ap is_missing (declared s n (value Constant t) [])

@@ -18,12 +18,14 @@ use Rattle.p4_scopes.specs.declared.thing.Thing.{Thing}
 use Rattle.p4_scopes.specs.declared.thing.Thing.TheVariants.{Struct, Standard, PacketIn, PacketOut}
 use Rattle.p4_scopes.specs.declared.thing.Function.TheVariants.{MarkToDrop, Digest, VerifyChecksum, UpdateChecksum}
 use Rattle.p4_declaration_rules.specs.Controls.{tops_tests, after_tops}
+use Rattle.p4_declaration_rules.specs.Firsts.{top_name}
+use Rattle.p4_declaration_rules.proofs.FirstsLemmas.{all_first}
 use Rattle.p4_rules.specs.Mains.{parser_wants, is_named, all_fields, is_struct, is_struct_of, Structs, structs_of, wanted_tests, parser_params, main_tests, leaves_some_out}
 use Rattle.p4_rules.specs.Limits.{limit_tests}
 use Rattle.p4_rules.specs.ProgramRules.{program_scope, program_tests, IsWellTyped}
 use Rattle.p4_rule_laws.specs.Old.{Names, Alike, OldType, OldFields}
 use Rattle.p4_rule_laws.specs.OldPrograms.{OldWays, OldTop}
-use Rattle.p4_rule_laws.specs.Kept.{top_name, NewTops}
+use Rattle.p4_rule_laws.specs.Kept.{NewTops}
 use Rattle.p4_rule_laws.specs.Growth.{More, with_more, Sees, is_struct_type, NewInFront, TopsGrow, no_top, same_top, new_top, wider_struct, other_states, other_control, InRole, grown}
 use Rattle.p4_rule_laws.proofs.AlikeScopes.{thing_alike, alike_self}
 use Rattle.p4_rule_laws.proofs.KeepsLemmas.{keeps_self, skip_tops}
@@ -247,7 +249,7 @@ no_struct_yet x =
     (passed (same_text x (codes "HashAlgorithm")) other missing (λ e. cc) (λ e. cc))))))))))
 
 -- the fields that are added to the struct of headers and to that of metadata fit their roles
-module _ (old : Names) (more : List ℕ → More) (p : Program) (q : ℕ) (front zs : List Top) (i : NewInFront old front) (g : TopsGrow old more p.main (after_tops core front) core (after_tops core front) p.tops zs) (w : IsWellTyped p) where
+module _ (old : Names) (more : List ℕ → More) (p : Program) (q : ℕ) (front zs : List Top) (i : NewInFront old front) (g : TopsGrow old more p.main (after_tops core front) core (after_tops core front) p.tops zs) (j : IsFine (tops_tests p.main core front)) (w : IsWellTyped p) where
   abbrev made : Program
   made = grown p q front zs
 
@@ -267,11 +269,18 @@ module _ (old : Names) (more : List ℕ → More) (p : Program) (q : ℕ) (front
   given : IsFine (program_tests p)
   given = unbroken_fine (program_tests p) w
 
-  own_tops : IsFine (tops_tests p.main (after_tops core front) zs) × Sees old more (after_tops core front) (program_scope p) (after_tops (after_tops core front) zs)
+  own_tops : IsFine (tops_tests p.main (after_tops core front) zs) × Sees old more (after_tops core front) (after_tops core p.tops) (after_tops (after_tops core front) zs)
   own_tops = tops_grow g sees_front given.0
 
+  made_fine : IsFine (tops_tests p.main core (front ++ zs))
+  made_fine = tops_joined p.main core front zs j own_tops.0
+
   scopes_alike : Alike old (program_scope p) (program_scope made)
-  scopes_alike = let P : Scope → Type 0 = λ u. Alike old (program_scope p) u in subst P (sym (tops_append core front zs)) own_tops.1.alike
+  scopes_alike =
+      let P : Scope → Type 0 = λ u. Alike old (after_tops core p.tops) u in
+      let Q : Scope → Type 0 = λ u. Alike old u (program_scope made) in
+      let made_scope : after_tops (after_tops core front) zs ≡ program_scope made = sym (all_first p.main core (front ++ zs) made_fine ∙ tops_append core front zs) in
+      subst Q (sym (all_first p.main core p.tops given.0)) (subst P made_scope own_tops.1.alike)
 
   module _ (hs : InRole is_header (program_scope made) (more (structs_of (program_scope p) p).headers_type)) (ms : InRole is_scalar (program_scope made) (more (structs_of (program_scope p) p).metadata_type)) where
     in_role : (fits : Thing → Bool) (x : List ℕ) → old x ≡ true → InRole fits (program_scope made) (more x) → is_struct_of fits (program_scope p) p.tops x ≡ true → is_struct_of fits (program_scope made) (front ++ zs) x ≡ true
@@ -297,5 +306,5 @@ module _ (old : Names) (more : List ℕ → More) (p : Program) (q : ℕ) (front
         roles_same : (r m : Structs) → m.headers_type ≡ r.headers_type → m.metadata_type ≡ r.metadata_type → m.has_headers ≡ true → m.has_metadata ≡ true → AreInRole p.tops (front ++ zs) parsers_same controls_same r m
         roles_same r m e f g h = record { same_headers = e; same_metadata = f; are_headers = g; are_metadata = h }
 
-    pub program_grows : IsFine (tops_tests p.main core front) → IsFine (limit_tests (program_scope made) made) → IsWellTyped made
-    program_grows j l = fine_unbroken (program_tests made) (tops_joined p.main core front zs j own_tops.0, (main_grows given.1.0, l))
+    pub program_grows : IsFine (limit_tests (program_scope made) made) → IsWellTyped made
+    program_grows l = fine_unbroken (program_tests made) (made_fine, (main_grows given.1.0, l))

@@ -355,4 +355,4 @@ well_typed = fine_unbroken (program_tests given) (none_is_fine rank (program_tes
 grown_well_typed : ReachesIsExact → IsWellTyped (grown given 0 front behind)
 unfolding declare core old more
 grown_well_typed exact =
-    program_grows old more given 0 front behind (refl, refl, tt) (grows exact) well_typed (record { front = refl; back = refl }) (record { front = refl; back = refl }) (none_is_fine rank (tops_tests given.main core front) refl) (refl, (refl, refl))
+    program_grows old more given 0 front behind (refl, refl, tt) (grows exact) (none_is_fine rank (tops_tests given.main core front) refl) well_typed (record { front = refl; back = refl }) (record { front = refl; back = refl }) (refl, (refl, refl))

@@ -15,10 +15,11 @@ use Rattle.p4_statement_rules.specs.declared.rule.Part.TheVariants as place
 use Rattle.p4_declaration_rules.specs.Declarations.{params_tests, with_params, is_no_field, fields_tests, field_names, has_twice}
 use Rattle.p4_declaration_rules.specs.Parsers.{onto_tests, with_states, states_names, states_tests, parser_tests}
 use Rattle.p4_declaration_rules.specs.Controls.{local_tests, after_local, once_tests, part_in, top_tests, after_top, control_tests}
+use Rattle.p4_declaration_rules.specs.Firsts.{top_name}
 use Rattle.p4_rules.specs.Mains.{all_fields}
 use Rattle.p4_rule_laws.specs.Old.{Names, Alike, OldFields}
 use Rattle.p4_rule_laws.specs.OldPrograms.{OldWays, OldLocal, OldTop}
-use Rattle.p4_rule_laws.specs.Kept.{Keeps, local_name, top_name, NewFields}
+use Rattle.p4_rule_laws.specs.Kept.{Keeps, local_name, NewFields}
 
 -- ---- fields
 

@@ -1,9 +1,10 @@
 -- What declarations leave in sight, and declarations of names that are not old. Read `OldPrograms` before it.
 use Rattle.std.specs.Prelude.{◌≡◌, ℕ, List, [], ◌∷◌, true, false}
-use Rattle.p4_tree.specs.Tree.{Stmt, Stmts, MaybeStmt, nothing, block, var, assign, choice, return_, exit_, call, done, next, without, otherwise, ParserState, Local, local_action, local_table, local_register, local_const, local_var, Top, constant, typedef, header_type, struct_type, register, parser, control}
+use Rattle.p4_tree.specs.Tree.{Stmt, Stmts, MaybeStmt, nothing, block, var, assign, choice, return_, exit_, call, done, next, without, otherwise, ParserState, Local, local_action, local_table, local_register, local_const, local_var, Top}
 use Rattle.p4_tree.specs.declared.statement.PTy.{PTy}
 use Rattle.p4_scopes.specs.Scopes.{Scope, is_missing}
 use Rattle.p4_statement_rules.specs.Statements.{after}
+use Rattle.p4_declaration_rules.specs.Firsts.{top_name}
 use Rattle.p4_rule_laws.specs.Old.{Names}
 
 -- a name that stands for something in the first scope stands for the same in the second, and so do the paths behind it
@@ -18,15 +19,6 @@ local_name (local_table p t) = t.name
 local_name (local_register p r) = r.name
 local_name (local_const p t x e) = x
 local_name (local_var p t x e) = x
-
-abbrev pub top_name : Top → List ℕ
-top_name (constant p t x e) = x
-top_name (typedef p t x) = x
-top_name (header_type p x fs) = x
-top_name (struct_type p x fs) = x
-top_name (register p r) = r.name
-top_name (parser p d) = d.name
-top_name (control p c) = c.name
 
 -- ---- no name that is declared is old
 

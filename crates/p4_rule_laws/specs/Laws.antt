@@ -21,6 +21,7 @@ use Rattle.p4_declaration_rules.specs.Digests.{most_of_stmt, most_of}
 use Rattle.p4_declaration_rules.specs.Declarations.{params_tests, with_params}
 use Rattle.p4_declaration_rules.specs.Parsers.{with_ways, ways_tests, with_states, states_names, states_tests, parser_tests}
 use Rattle.p4_declaration_rules.specs.Controls.{locals_tests, after_locals, control_tests, tops_tests, after_tops}
+use Rattle.p4_declaration_rules.specs.Firsts.{first_tops}
 use Rattle.p4_rules.specs.ProgramRules.{program_tests, IsWellTyped}
 use Rattle.p4_rule_laws.specs.Old.{Names, Alike, OldType, OldFields, OldWhat, OldExpr, OldStmt, OldStmts}
 use Rattle.p4_rule_laws.specs.OldPrograms.{OldWays, OldStates, OldParser, OldLocals, OldControl, OldTops}
@@ -78,7 +79,7 @@ pub record NewNamesAreNotSeen : Type 0 where
       → Alike old (declare s n (fields h fs)) (declare t n (fields h (front ++ (fs ++ back))))
 
 -- ---- a name that stands for something goes on to stand for it, since a fine declaration takes a name that stands for
--- nothing
+-- nothing; so each declaration at top level is the first of its name
 pub record FineTreesKeep : Type 0 where
   pub blocks : (h : Part) (s : Scope) (b : Stmts) → IsFine (block_tests h s b) → Keeps s (after_all s b)
   pub params : (s : Scope) (qs : List Param) → IsFine (ways_tests s qs) → Keeps s (with_ways s qs)
@@ -86,6 +87,7 @@ pub record FineTreesKeep : Type 0 where
   pub states : (s : Scope) (sts : List ParserState) → IsFine (states_names s sts) → Keeps s (with_states s sts)
   pub locals : (h : Part) (s : Scope) (ls : List Local) → IsFine (locals_tests h s ls) → Keeps s (after_locals s ls)
   pub programs : (main : List (List ℕ)) (s : Scope) (ys : List Top) → IsFine (tops_tests main s ys) → Keeps s (after_tops s ys)
+  pub firsts : (main : List (List ℕ)) (s : Scope) (ys : List Top) → IsFine (tops_tests main s ys) → first_tops s ys ≡ after_tops s ys
   pub through : (s t u : Scope) → Keeps s t → Keeps t u → Keeps s u
   -- what a declared name stands for, with the paths behind it, and any other name
   pub declared : (s : Scope) (n : List ℕ) (w : What) (xs : List (List ℕ)) → declare s n w (n ∷ xs) ≡ behind s w xs

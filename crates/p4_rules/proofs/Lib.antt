@@ -1,4 +1,5 @@
 pub mod Bytes
 pub mod Cells
+pub mod LeftOut
 pub mod Params
 mod Rows

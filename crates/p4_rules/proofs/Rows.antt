@@ -111,6 +111,18 @@ core_name_again : with_front (typedef 10 (Bit 8) (codes "NoAction") ∷ []) ≡ 
 unfolding declare core with_front
 core_name_again = refl
 
+-- header e_t { bit<128> x; }, once more; the first has three bytes
+header_again : List Top
+header_again = header_type 10 (codes "e_t") ((Bit 128, codes "x") ∷ []) ∷ []
+
+type_again : with_front header_again ≡ Some (10, NameTwice)
+unfolding declare core with_front header_again
+type_again = refl
+
+first_counts : header_bytes (program_scope (program header_again starts [] [] [])) (program header_again starts [] [] []) ≡ 6
+unfolding declare core header_again
+first_counts = refl
+
 -- ---- NoSuchName
 
 -- const bit<8> A = B;

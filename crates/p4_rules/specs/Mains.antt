@@ -1,5 +1,5 @@
 -- What is tested of `main`: it names a parser and five different controls, all that are declared, which have the
--- parameters of the architecture. Read `Controls` before it and `Limits` after it.
+-- parameters of the architecture. Read `Firsts` before it and `Limits` after it.
 use Rattle.std.specs.Prelude.{ℕ, List, [], ◌∷◌, Bool, true, false, not, ◌&&◌, ◌||◌, Option, Some, None, is_some, codes}
 use Rattle.lex_text.specs.Names.{same_text}
 use Rattle.rule_tests.specs.Tests.{Tests, fine, test, both}

@@ -1,17 +1,18 @@
--- Which rules a program breaks, and where. Read `Controls`, `Mains` and `Limits` before it.
+-- Which rules a program breaks, and where. Read `Controls`, `Firsts`, `Mains` and `Limits` before it.
 use Rattle.std.specs.Prelude.{ℕ, Option}
 use Rattle.rule_tests.specs.Tests.{Tests, both, BreaksAt, IsFirst}
 use Rattle.p4_tree.specs.Tree.{Program}
 use Rattle.p4_scopes.specs.Scopes.{Scope, core}
 use Rattle.p4_statement_rules.specs.Ranks.{rank, first_broken}
 use Rattle.p4_statement_rules.specs.declared.rule.ProgramRule.{ProgramRule}
-use Rattle.p4_declaration_rules.specs.Controls.{tops_tests, after_tops}
+use Rattle.p4_declaration_rules.specs.Controls.{tops_tests}
+use Rattle.p4_declaration_rules.specs.Firsts.{first_tops}
 use Rattle.p4_rules.specs.Mains.{main_tests}
 use Rattle.p4_rules.specs.Limits.{limit_tests}
 
--- what is in sight behind all declarations
+-- what is in sight behind all declarations, where of those of one name the first counts
 abbrev pub program_scope : Program → Scope
-program_scope p = after_tops core p.tops
+program_scope p = first_tops core p.tops
 
 -- what is tested of a program
 abbrev pub program_tests : Program → Tests ProgramRule

@@ -8,11 +8,13 @@ ghost use Rattle.p4_scopes.specs.View.{scope_of};
 ghost use Rattle.p4_meaning.specs.Parts.{parser_type};
 ghost use Rattle.p4_resolved.specs.Lent.{lent};
 ghost use Rattle.p4_statement_rules.specs.Ranks.{first_from};
+ghost use Rattle.p4_declaration_rules.specs.Loops.{named};
 ghost use Rattle.p4_rules.specs.Mains.{leaves_out, leaves_some_out, has_controls, names_parts, same_way, is_named, all_fields, is_struct, is_struct_of, structs_of, is_wanted, wanted_tests, parser_params, control_params, parts_params, main_tests};
 ghost use Rattle.p4_rules.specs.Views.{fits_of, wanted_of, structs_view, wanted_at};
 
+use indexmap::IndexSet;
 use lex_text::Name;
-use p4_declaration_rules::names::{has_twice, is_among};
+use p4_declaration_rules::names::{has_twice, is_in, name_table};
 use p4_resolved::{control_named, named_in, param_type, parser_named, struct_fields};
 use p4_scopes::scope::Scope;
 use p4_scopes::thing::Thing;
@@ -21,27 +23,36 @@ use p4_statement_rules::rule::ProgramRule;
 use p4_tree::{Control, PTy, Param, Parser, Program, Top, Way};
 use std::alloc::{AllocError, Global};
 
-/// Whether a declaration is a parser or a control that `main` does not name.
-fn leaves_out(main: &[Name], top: &Top) -> bool
-    ensures { result ≡ leaves_out main.now (top_of top.now) }
+/// Whether a declaration is a parser or a control whose name is not in the table.
+fn leaves_out(table: &IndexSet<&str>, top: &Top) -> bool
+    ensures { result ≡ leaves_out (named table.now.keys) (top_of top.now) }
 {
     match top {
-        Top::Pars(_, parser) => !is_among(main, &parser.name),
-        Top::Ctl(_, control) => !is_among(main, &control.name),
+        Top::Pars(_, parser) => !is_in(table, &parser.name),
+        Top::Ctl(_, control) => !is_in(table, &control.name),
         Top::Const(_, _, _, _) | Top::Typedef(_, _, _) | Top::Header(_, _, _) => false,
         Top::Struct(_, _, _) | Top::Reg(_, _) => false,
     }
 }
 
-fn leaves_some_out(main: &[Name], tops: &[Top]) -> bool
-    ensures { result ≡ leaves_some_out main.now (map top_of tops.now) }
+/// Whether some declaration is a parser or a control whose name is not in the table.
+fn table_leaves_out(table: &IndexSet<&str>, tops: &[Top]) -> bool
+    ensures { result ≡ leaves_some_out (named table.now.keys) (map top_of tops.now) }
 {
     for top in tops {
-        if leaves_out(main, top) {
+        if leaves_out(table, top) {
             return true;
         }
     }
     false
+}
+
+/// Whether some declaration is a parser or a control that `main` does not name.
+fn leaves_some_out(alloc: Global, main: &[Name], tops: &[Top]) -> Result<bool, AllocError>
+    ensures { IfOk result (λ some. some ≡ leaves_some_out main.now (map top_of tops.now)) }
+{
+    let table = name_table(alloc, main)?;
+    Ok(table_leaves_out(&table, tops))
 }
 
 /// Whether each name is a control's.
@@ -319,7 +330,7 @@ pub(crate) fn check_main(
 {
     let named = names_parts(found.alloc(), &program.tops, &program.main)?;
     found.test(program.at, ProgramRule::BadMain, !named);
-    let left_out = leaves_some_out(&program.main, &program.tops);
+    let left_out = leaves_some_out(found.alloc(), &program.main, &program.tops)?;
     found.test(program.at, ProgramRule::BadMain, left_out);
     check_parts(found, program.at, structs, &program.tops, &program.main);
     Ok(())

@@ -49,7 +49,27 @@ Limit @top $ register<bit<8>>(4194304) r; register<bit<8>>(16386) q; @ingress zz
 NameTwice @top $register<bit<0>>(4194304) digest; register<bit<8>>(16386) q;
 ";
 
+/// The first declaration of a name says what the name stands for where `main` and the limits are
+/// tested. A header of 8 times 128 bits has 128 bytes, and 19 of them are more than 2,304. Cells are
+/// those of all declarations.
+const FIRSTS: &str = "\
+NameTwice @headers e_t h0; e_t h1; e_t h2; e_t h3; e_t h4; e_t h5; e_t h6; e_t h7; e_t h8; e_t h9; e_t i0; e_t i1; e_t i2; e_t i3; e_t i4; e_t i5; e_t i6; @parser $header e_t { bit<128> a; bit<128> b; bit<128> c; bit<128> d; bit<128> e; bit<128> f; bit<128> g; bit<128> h; }
+NameTwice @top header b_t { bit<8> a; } $header b_t { bit<128> a; bit<128> b; bit<128> c; bit<128> d; bit<128> e; bit<128> f; bit<128> g; bit<128> h; } @headers b_t h0; b_t h1; b_t h2; b_t h3; b_t h4; b_t h5; b_t h6; b_t h7; b_t h8; b_t h9; b_t i0; b_t i1; b_t i2; b_t i3; b_t i4; b_t i5; b_t i6; b_t i7; b_t i8;
+Limit @top $header b_t { bit<128> a; bit<128> b; bit<128> c; bit<128> d; bit<128> e; bit<128> f; bit<128> g; bit<128> h; } header b_t { bit<8> a; } @headers b_t h0; b_t h1; b_t h2; b_t h3; b_t h4; b_t h5; b_t h6; b_t h7; b_t h8; b_t h9; b_t i0; b_t i1; b_t i2; b_t i3; b_t i4; b_t i5; b_t i6; b_t i7; b_t i8;
+NameTwice @bottom $header headers { bit<8> x; }
+NameTwice @bottom $struct metadata { e_t e; }
+NameTwice @bottom $header metadata { bit<8> x; }
+NameTwice @bottom $struct e_t { bit<8> x; }
+NameTwice @top typedef bit<8> m_t; @meta m_t n; @bottom $header m_t { bit<8> x; }
+Limit @top $ register<bit<8>>(4194304) r; register<bit<8>>(16386) r;
+";
+
 #[test]
 fn order(rt: HostRuntime) -> Result<(), Fail> {
     each(&rt, rt.alloc(), ORDER)
+}
+
+#[test]
+fn firsts(rt: HostRuntime) -> Result<(), Fail> {
+    each(&rt, rt.alloc(), FIRSTS)
 }

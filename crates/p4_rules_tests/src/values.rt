@@ -92,6 +92,18 @@ KindDiffers @ingress meta.g = meta.g && $hdr.e.x;
 KindDiffers @ingress meta.g = $1 || true;
 KindDiffers @ingress meta.m = $meta.g + 1;
 KindDiffers @ingress meta.m = hdr.e.x + $true;
+KindDiffers @ingress meta.m = 1 + $true;
+KindDiffers @ingress meta.m = 1 & $true;
+KindDiffers @ingress meta.m = $true + 1;
+KindDiffers @ingress meta.m = (1 + $true) + hdr.e.x;
+KindDiffers @ingress meta.m = hdr.e.x + (1 + $true);
+KindDiffers @ingress meta.m = 1 + $standard_metadata.parser_error;
+KindDiffers @ingress bit<8> v = 1 + $true;
+KindDiffers @ingress if (1 + $true == hdr.e.x) { }
+KindDiffers @ingress if ($1 + true == 2) { }
+KindDiffers @ingress meta.g = $1 + true;
+KindDiffers @top const bit<8> A = 1 + $true;
+KindDiffers @locals register<bit<8>>(4) r; @ingress r.read(meta.m, 1 + $true);
 KindDiffers @ingress meta.m = -$true;
 KindDiffers @ingress meta.m = ~$meta.g;
 KindDiffers @ingress meta.g = $~1;

@@ -1,4 +1,4 @@
-use Rattle.std.proofs.Common.{sym, ap, ◌∙◌, Bool, not}
+use Rattle.std.proofs.Common.{ap, ◌∙◌, Bool}
 use Rattle.rule_tests.specs.Tests.{test}
 use Rattle.p4_statement_rules.specs.Ranks.{first_from}
 use Rattle.p4_statement_rules.specs.declared.rule.ProgramRule.TheVariants.{NameTwice}

@@ -1,4 +1,3 @@
-use Rattle.std.proofs.Common.{sym, ap, ◌∙◌}
 use Rattle.p4_scopes.specs.View.{scope_of}
 use Rattle.p4_declaration_rules.proofs.Emitted.{emit_next, emit_none}
 use Rattle.p4_declaration_rules.proofs.emits.check_emits.Goals.{in-Some+in_ok-check_emit-in-Some, in-None}

@@ -1,6 +1,7 @@
 use Rattle.std.proofs.Common.{◌≡◌, drop}
 use Rattle.p4_declaration_rules.specs.Declarations.{has_twice, field_names}
-use Rattle.p4_declaration_rules.proofs.Seen.{named, still_twice}
+use Rattle.p4_declaration_rules.specs.Loops.{named}
+use Rattle.p4_declaration_rules.proofs.Seen.{still_twice}
 use Rattle.p4_declaration_rules.proofs.names.has_field_twice.Given as goal
 
 abbrev pub invariant-loop-field : goal.invariant-loop-field

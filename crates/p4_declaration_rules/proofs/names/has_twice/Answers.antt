@@ -1,6 +1,6 @@
 use Rattle.std.proofs.Common.{◌+◌, sym, ap, ◌∙◌, drop}
-use Rattle.p4_declaration_rules.specs.Declarations.{has_twice, field_names}
-use Rattle.p4_declaration_rules.proofs.Seen.{named, still_twice, none_seen, fresh_name, old_name, left_at, fields_left}
+use Rattle.p4_declaration_rules.specs.Loops.{named}
+use Rattle.p4_declaration_rules.proofs.Seen.{still_twice, none_seen, fresh_name, old_name, left_at}
 use Rattle.p4_declaration_rules.proofs.names.has_twice.Goals as goal
 
 pub loop-name-init : goal.loop-name-init

@@ -1,6 +1,7 @@
 use Rattle.std.proofs.Common.{◌≡◌, drop}
 use Rattle.p4_declaration_rules.specs.Declarations.{has_twice}
-use Rattle.p4_declaration_rules.proofs.Seen.{named, still_twice}
+use Rattle.p4_declaration_rules.specs.Loops.{named}
+use Rattle.p4_declaration_rules.proofs.Seen.{still_twice}
 use Rattle.p4_declaration_rules.proofs.names.has_twice.Given as goal
 
 abbrev pub invariant-loop-name : goal.invariant-loop-name

@@ -1,4 +1,4 @@
-use Rattle.std.proofs.Common.{sym, ap, ◌∙◌}
+use Rattle.std.proofs.Common.{ap, ◌∙◌}
 use Rattle.p4_declaration_rules.specs.Parsers.{state_tests}
 use Rattle.p4_tree.specs.View.{state_of}
 use Rattle.p4_scopes.specs.View.{scope_of}

@@ -1,4 +1,4 @@
-use Rattle.std.proofs.Common.{sym, ap, ◌∙◌, List, drop, map}
+use Rattle.std.proofs.Common.{sym, ap, ◌∙◌, drop, map}
 use Rattle.std.proofs.lemmas.List.{drop_all}
 use Rattle.rule_tests.specs.Tests.{Tests}
 use Rattle.p4_tree.specs.View.{keyset_of}

@@ -6,7 +6,7 @@ use Rattle.p4_scopes.specs.declared.kind.Kind.{Kind}
 use Rattle.p4_statement_rules.specs.Ranks.{first_from}
 use Rattle.p4_statement_rules.specs.declared.rule.ProgramRule.{ProgramRule}
 use Rattle.p4_declaration_rules.specs.Loops.{all_wanted}
-use Rattle.p4_declaration_rules.proofs.Keys.{default_fits, each_fits}
+use Rattle.p4_declaration_rules.proofs.Keys.{each_fits}
 use Rattle.p4_declaration_rules.proofs.transitions.check_keysets.Goals as goal
 
 pub returns : goal.returns
