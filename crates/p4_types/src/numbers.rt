@@ -1,9 +1,9 @@
 //! Tables, registers and actions by their numbers.
 
-ghost use Rattle.std.specs.Prelude.{◌≡◌, ◌+◌, [], ◌∷◌, List, ℕ, IfOk, map, string_bytes};
+ghost use Rattle.std.specs.Prelude.{◌≡◌, ◌+◌, [], ◌∷◌, List, ℕ, None, IfOk, map, string_bytes};
 ghost use Rattle.p4_tree.specs.View.{local_of, top_of, program_of};
-ghost use Rattle.p4_types.specs.Numbers.{dotted, local_name, all_dotted, locals_names, top_names, tops_names, names, number_in};
-ghost use Rattle.p4_types.specs.Kept.{sort_of, as_list, IsNumbering, Adds};
+ghost use Rattle.p4_types.specs.Numbers.{dotted, local_name, locals_names, top_names, tops_names, names, number_in};
+ghost use Rattle.p4_types.specs.Kept.{sort_of, as_list, number_in_group, lesser, Gains, IsGroup, IsNumbering, Adds};
 
 use indexmap::IndexMap;
 use lex_text::Name;
@@ -28,12 +28,76 @@ fn one_more(count: u32) -> Result<u32, AllocError>
     }
 }
 
-/// Names with their numbers. Of those of one name the first counts.
+/// Names that begin alike, with their numbers. Of those of one name the first counts.
+#[derive(Drop)]
+pub(crate) struct Group {
+    /// What all of them begin with.
+    front: String,
+    /// What stands behind that.
+    numbers: IndexMap<String, u32>,
+    /// The number of the next name.
+    next: u32,
+}
+
+impl Group {
+    /// No name.
+    fn new(alloc: Global, front: String, next: u32) -> Group
+        ensures front { result.front ≡ front }
+        ensures next { result.next ≡ next }
+        ensures found { (x : List ℕ) → number_in_group result x ≡ None }
+    {
+        Group {
+            front,
+            numbers: IndexMap::new(alloc),
+            next,
+        }
+    }
+
+    /// Gives the name with this behind the front the next number.
+    fn add(&mut self, name: String) -> Result<(), AllocError>
+        ensures { IfOk result (λ _. Gains self.old self.new (string_bytes name ∷ [])) }
+    {
+        let next = one_more(self.next)?;
+        if self.numbers.contains_key(name.as_str()) {
+            self.next = next;
+            return Ok(());
+        }
+        self.numbers.insert(name, self.next)?;
+        self.next = next;
+        Ok(())
+    }
+
+    /// The number of a name.
+    fn number(&self, name: &str) -> Option<u32>
+        ensures { result ≡ number_in_group self.now name.now }
+    {
+        match name.strip_prefix(self.front.as_str()) {
+            Some(rest) => self.numbers.get(rest).copied(),
+            None => None,
+        }
+    }
+}
+
+/// The lesser of two numbers, where there are.
+fn lesser(m: Option<u32>, n: Option<u32>) -> Option<u32>
+    ensures { result ≡ lesser m n }
+{
+    match m {
+        Some(m) => match n {
+            Some(n) => Some(m.min(n)),
+            None => Some(m),
+        },
+        None => n,
+    }
+}
+
+/// Names with their numbers. A control's name stands there once, whatever the control declares.
 #[derive(Drop)]
 pub(crate) struct Numbering {
-    numbers: IndexMap<String, u32>,
-    /// How many names there are.
-    count: u32,
+    /// The names at top level; the next number is that of the whole numbering.
+    plain: Group,
+    /// The names in each control.
+    controls: Vec<Group>,
 }
 
 impl Numbering {
@@ -42,22 +106,34 @@ impl Numbering {
         ensures { IsNumbering result [] }
     {
         Numbering {
-            numbers: IndexMap::new(alloc),
-            count: 0,
+            plain: Group::new(alloc, String::new(alloc), 0),
+            controls: Vec::new(alloc),
         }
     }
 
-    /// Gives a name the next number.
+    /// Gives a name at top level the next number.
     fn add(&mut self, name: String) -> Result<(), AllocError>
         ensures { IfOk result (λ _. Adds self.old self.new (string_bytes name ∷ [])) }
     {
-        let count = one_more(self.count)?;
-        if self.numbers.contains_key(name.as_str()) {
-            self.count = count;
-            return Ok(());
-        }
-        self.numbers.insert(name, self.count)?;
-        self.count = count;
+        self.plain.add(name)?;
+        Ok(())
+    }
+
+    /// Gives the names of this sort that a control declares the next numbers.
+    fn add_control(
+        &mut self,
+        alloc: Global,
+        sort: Sort,
+        control: &Name,
+        locals: &[Local],
+    ) -> Result<(), AllocError>
+        ensures { IfOk result (λ _. Adds self.old self.new
+            (locals_names (sort_of sort) control.now (map local_of locals.now))) }
+    {
+        let group = group_of(alloc, sort, control, locals, self.plain.next)?;
+        let next = group.next;
+        self.controls.push(group)?;
+        self.plain.next = next;
         Ok(())
     }
 
@@ -65,7 +141,11 @@ impl Numbering {
     pub(crate) fn number(&self, name: &str) -> Option<u32>
         ensures { (all : List (List ℕ)) → IsNumbering self.now all → result ≡ number_in all name.now }
     {
-        self.numbers.get(name).copied()
+        let mut found = self.plain.number(name);
+        for group in &self.controls {
+            found = lesser(found, group.number(name));
+        }
+        found
     }
 }
 
@@ -90,52 +170,45 @@ fn local_name(sort: Sort, local: &Local) -> Option<&Name>
     }
 }
 
-/// A name in a control.
-fn dotted(alloc: Global, control: &Name, name: &Name) -> Result<String, AllocError>
-    ensures { IfOk result (λ text. string_bytes text ≡ dotted control.now name.now) }
+/// What the names in a control begin with.
+fn front(alloc: Global, control: &Name) -> Result<String, AllocError>
+    ensures { IfOk result (λ text. string_bytes text ≡ dotted control.now []) }
 {
     let mut text = String::from_str(alloc, control.as_str())?;
     text.push_str(".")?;
-    text.push_str(name.as_str())?;
     Ok(text)
 }
 
 /// Adds the name of a declaration of a control, where it is of this sort.
-fn add_local(
-    alloc: Global,
-    numbering: &mut Numbering,
-    sort: Sort,
-    control: &Name,
-    local: &Local,
-) -> Result<(), AllocError>
-    ensures { IfOk result (λ _. Adds numbering.old numbering.new
-        (all_dotted control.now (local_name (sort_of sort) (local_of local.now)))) }
+fn add_local(alloc: Global, group: &mut Group, sort: Sort, local: &Local) -> Result<(), AllocError>
+    ensures { IfOk result (λ _. Gains group.old group.new
+        (local_name (sort_of sort) (local_of local.now))) }
 {
     match local_name(sort, local) {
         Some(name) => {
-            let text = dotted(alloc, control, name)?;
-            numbering.add(text)?;
+            group.add(String::from_str(alloc, name.as_str())?)?;
             Ok(())
         }
         None => Ok(()),
     }
 }
 
-/// Adds the names of this sort that a control declares.
-fn add_locals(
+/// The names of this sort that a control declares, numbered from `next` on.
+fn group_of(
     alloc: Global,
-    numbering: &mut Numbering,
     sort: Sort,
     control: &Name,
     locals: &[Local],
-) -> Result<(), AllocError>
-    ensures { IfOk result (λ _. Adds numbering.old numbering.new
+    next: u32,
+) -> Result<Group, AllocError>
+    ensures { IfOk result (λ g. IsGroup g control.now next
         (locals_names (sort_of sort) control.now (map local_of locals.now))) }
 {
+    let mut group = Group::new(alloc, front(alloc, control)?, next);
     for local in locals {
-        add_local(alloc, numbering, sort, control, local)?;
+        add_local(alloc, &mut group, sort, local)?;
     }
-    Ok(())
+    Ok(group)
 }
 
 /// Adds the names of this sort that a declaration at top level declares.
@@ -150,7 +223,7 @@ fn add_top(
 {
     match top {
         Top::Ctl(_, control) => {
-            add_locals(alloc, numbering, sort, &control.name, &control.locals)
+            numbering.add_control(alloc, sort, &control.name, &control.locals)
         }
         Top::Reg(_, register) => match sort {
             Sort::Registers => { numbering.add(String::from_str(alloc, register.name.as_str())?) }

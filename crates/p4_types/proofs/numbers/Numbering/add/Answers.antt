@@ -1,17 +1,6 @@
-use Rattle.std.proofs.Common.{ℕ, List, is_some, string_bytes, refl, sym, ap, ◌∙◌}
-use Rattle.indexmap.proofs.CallerLemmas.{insert_entry-new}
-use Rattle.p4_types.specs.Kept.{at_name}
-use Rattle.p4_types.proofs.Numbered.{same_keys, no_one, name_new, name_again}
+use Rattle.std.proofs.Common.{string_bytes, refl}
+use Rattle.p4_types.proofs.Numbered.{plain_more}
 use Rattle.p4_types.proofs.numbers.Numbering.add.Goals as goal
 
-pub returns-then-contains_key : goal.returns-then-contains_key
-returns-then-contains_key c = λ all so.
-    name_again c.args.self.now _ (string_bytes c.args.name) all so c.in_ok-count.ensures
-    (ap (λ (x : List ℕ). is_some (at_name c.args.self.now.numbers.entries x)) (sym c.as_str.ensures.value) ∙ sym c.contains_key.ensures ∙ c.if-contains_key.true) refl
-
 pub returns : goal.returns
-returns c =
-    let out = ap (λ (x : List ℕ). is_some (at_name c.args.self.now.numbers.entries x)) (sym c.as_str.ensures.value) ∙ sym c.contains_key.ensures ∙ c.if-contains_key.false in
-    λ all so.
-    name_new c.args.self.now _ (string_bytes c.args.name) all so c.in_ok-count.ensures c.args.name refl out
-    (c.in_ok-insert.ensures.entries ∙ insert_entry-new same_keys c.args.self.now.numbers c.args.name c.args.self.now.count (no_one _ out))
+returns c = λ all so. plain_more c.args.self.now _ all so (string_bytes c.args.name) c.in_ok-add.ensures refl
