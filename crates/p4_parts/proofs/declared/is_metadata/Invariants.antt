@@ -1,0 +1,8 @@
+use Rattle.std.proofs.Common.{◌≡◌, ◌∷◌, [], map, drop}
+use Rattle.p4_meaning.specs.Standard.{metadata_root}
+use Rattle.p4_meaning.specs.Pass.{is_field_of}
+use Rattle.p4_parts.specs.Headers.{field_in}
+use Rattle.p4_parts.proofs.declared.is_metadata.Given as goal
+
+abbrev pub invariant-loop-f : goal.invariant-loop-f
+invariant-loop-f l = is_field_of (metadata_root ∷ []) (map field_in (drop l.f-index l.fields)) l.path ≡ is_field_of (metadata_root ∷ []) (map field_in l.fields) l.path

@@ -1,0 +1,172 @@
+//! The actions of a program, and words for their parameters.
+
+ghost use Rattle.std.specs.Prelude.{◌≡◌, ◌++◌, IfOk, OnOk, map};
+ghost use Rattle.std.specs.Option.{option_map};
+ghost use Rattle.p4_tree.specs.View.{action_of, arg_of, control_of, expr_of, local_of, top_of};
+ghost use Rattle.p4_meaning.specs.Statements.{values_in};
+ghost use Rattle.p4_meaning.specs.Under.{in_control, no_scope};
+ghost use Rattle.p4_meaning.specs.Actions.{param_under, action_under, actions_in, actions_of, action_named, params_of, args_of};
+ghost use Rattle.p4_resolved.specs.Lent.{lent};
+ghost use Rattle.p4_parts.specs.PartsIn.{action_in, param_in};
+ghost use Rattle.p4_resolved.specs.Scopes.{scope_of};
+
+use crate::parts::{Action, Taken};
+use bit_values::Bits;
+use lex_text::Name;
+use p4_resolved::{
+    Scope, first_name, full_name, in_action, in_control, no_scope, pass_local, pass_top,
+    stmts_under, width_under,
+};
+use p4_tree::{Arg, Control, Expr, Local, PTy, Top};
+use p4_values::{Sight, same_text, value_of};
+use std::alloc::{AllocError, Global};
+
+fn param_under(alloc: Global, sc: &Scope, p: &(PTy, Name)) -> Result<Taken, AllocError>
+    ensures { IfOk result (λ t. param_in t ≡ param_under (scope_of sc.now) p.now) }
+{
+    let name = first_name(alloc, sc, &p.1)?;
+    let width = width_under(&sc.types, &p.0);
+    Ok(Taken { name, width })
+}
+
+fn params_under(alloc: Global, sc: &Scope, list: &[(PTy, Name)]) -> Result<Vec<Taken>, AllocError>
+    ensures { IfOk result (λ v. map param_in v.items ≡ map (param_under (scope_of sc.now)) list.now) }
+{
+    let mut params = Vec::new(alloc);
+    for p in list {
+        params.push(param_under(alloc, sc, p)?)?;
+    }
+    Ok(params)
+}
+
+/// An action.
+fn action_under(alloc: Global, sc: &Scope, a: &p4_tree::Action) -> Result<Action, AllocError>
+    ensures { IfOk result (λ t. action_in t ≡ action_under (scope_of sc.now) (action_of a.now)) }
+{
+    let inner = in_action(alloc, sc, a)?;
+    let name = full_name(alloc, sc, &a.name)?;
+    let params = params_under(alloc, &inner, &a.params)?;
+    let body = stmts_under(alloc, &inner, &a.body)?;
+    Ok(Action { name, params, body })
+}
+
+/// The actions among a control's declarations go behind those that are there.
+fn push_actions_in(
+    alloc: Global,
+    sc: &mut Scope,
+    locals: &[Local],
+    actions: &mut Vec<Action>,
+) -> Result<(), AllocError>
+    ensures { OnOk result (map action_in actions.new.items ≡ map action_in actions.old.items ++ actions_in (scope_of sc.old) (map local_of locals.now)) }
+{
+    for local in locals {
+        match local {
+            Local::Act(_, a) => actions.push(action_under(alloc, sc, a)?)?,
+            Local::Tab(_, _) => pass_local(alloc, sc, local)?,
+            Local::Reg(_, _) => pass_local(alloc, sc, local)?,
+            Local::Const(_, _, _, _) => pass_local(alloc, sc, local)?,
+            Local::Var(_, _, _, _) => pass_local(alloc, sc, local)?,
+        }
+    }
+    Ok(())
+}
+
+/// The actions of a control go behind those that are there.
+fn push_actions_of(
+    alloc: Global,
+    sc: &Scope,
+    control: &Control,
+    actions: &mut Vec<Action>,
+) -> Result<(), AllocError>
+    ensures { OnOk result (map action_in actions.new.items ≡ map action_in actions.old.items ++ actions_in (in_control 0 1 2 (scope_of sc.now) (control_of control.now)) (control_of control.now).locals) }
+{
+    let mut inner = in_control(alloc, 0, 1, 2, sc, control)?;
+    push_actions_in(alloc, &mut inner, &control.locals, actions)
+}
+
+/// The actions of a program, in the order of the text.
+pub fn actions_of(alloc: Global, tops: &[Top]) -> Result<Vec<Action>, AllocError>
+    ensures { IfOk result (λ v. map action_in v.items ≡ actions_of no_scope (map top_of tops.now)) }
+{
+    let mut sc = no_scope(alloc)?;
+    let mut actions = Vec::new(alloc);
+    for top in tops {
+        match top {
+            Top::Ctl(_, c) => push_actions_of(alloc, &sc, c, &mut actions)?,
+            Top::Const(_, _, _, _) => pass_top(alloc, &mut sc, top)?,
+            Top::Typedef(_, _, _) => pass_top(alloc, &mut sc, top)?,
+            Top::Header(_, _, _) => pass_top(alloc, &mut sc, top)?,
+            Top::Struct(_, _, _) => pass_top(alloc, &mut sc, top)?,
+            Top::Reg(_, _) => pass_top(alloc, &mut sc, top)?,
+            Top::Pars(_, _) => pass_top(alloc, &mut sc, top)?,
+        }
+    }
+    Ok(actions)
+}
+
+/// The action of a full name.
+pub fn action_named<'a>(actions: &'a [Action], x: &str) -> Option<&'a Action>
+    ensures { option_map action_in (lent result) ≡ action_named (map action_in actions.now) x.now }
+{
+    for a in actions {
+        if same_text(a.name.as_str(), x) {
+            return Some(a);
+        }
+    }
+    None
+}
+
+/// The parameters of an action that may be there.
+pub fn params_of<'a>(action: Option<&'a Action>) -> &'a [Taken]
+    ensures { map param_in result.now ≡ params_of (option_map action_in (lent action.entry)) }
+{
+    match action {
+        None => &[],
+        Some(a) => &a.params,
+    }
+}
+
+/// The words of expressions, each taken at the width of its parameter.
+pub fn words_of<S: Sight>(
+    alloc: Global,
+    params: &[Taken],
+    list: &[Expr],
+    s: &S,
+) -> Result<Vec<Bits>, AllocError>
+    ensures { IfOk result (λ v. v.items ≡ args_of (map param_in params.now) (map expr_of list.now) (S.store s.now)) }
+{
+    let mut words = Vec::new(alloc);
+    for i in 0..params.len() {
+        if i >= list.len() {
+            return Ok(words);
+        }
+        words.push(value_of(&list[i], params[i].width, s))?;
+    }
+    Ok(words)
+}
+
+/// The words of a call's arguments, each taken at the width of its parameter.
+pub fn args_of<S: Sight>(
+    alloc: Global,
+    params: &[Taken],
+    args: &[Arg],
+    s: &S,
+) -> Result<Vec<Bits>, AllocError>
+    ensures { IfOk result (λ v. v.items ≡ args_of (map param_in params.now) (values_in (map arg_of args.now)) (S.store s.now)) }
+{
+    let mut words = Vec::new(alloc);
+    let mut n = 0;
+    for a in args {
+        match a {
+            Arg::One(_, e) => {
+                if n >= params.len() {
+                    return Ok(words);
+                }
+                words.push(value_of(e, params[n].width, s))?;
+                n += 1;
+            }
+            Arg::Many(_, _) => {}
+        }
+    }
+    Ok(words)
+}

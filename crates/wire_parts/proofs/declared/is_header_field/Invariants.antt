@@ -1,7 +1,0 @@
-use Rattle.std.proofs.Common.{◌≡◌, map, drop}
-use Rattle.p4_meaning.specs.Pass.{is_header_field}
-use Rattle.wire_parts.specs.Headers.{header_in}
-use Rattle.wire_parts.proofs.declared.is_header_field.Given as goal
-
-abbrev pub invariant-loop-h : goal.invariant-loop-h
-invariant-loop-h l = is_header_field (map header_in (drop l.h-index l.headers)) l.path ≡ is_header_field (map header_in l.headers) l.path
