@@ -1,0 +1,9 @@
+use Rattle.std.proofs.Common.{map}
+use Rattle.p4_tree.specs.View.{arg_of}
+use Rattle.p4_meaning.specs.Statements.{sum_of}
+use Rattle.p4_statements.specs.Runs.{run_of}
+use Rattle.p4_statements.proofs.PlainLemmas.{does_plainly, sum_plain}
+use Rattle.p4_statements.proofs.dispatch.on_sum.Goals as goal
+
+pub returns : goal.returns
+returns g c = does_plainly (g.C.Calls.means c.args.calls.now) (sum_of c.args.verifies (map arg_of c.args.args.now)) (run_of c.args.r.now) (run_of c.sum.new.r) (sum_plain c.args.verifies (map arg_of c.args.args.now)) c.in_ok-sum.ensures

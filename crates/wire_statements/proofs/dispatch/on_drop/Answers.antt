@@ -1,7 +1,0 @@
-use Rattle.p4_meaning.specs.Statements.{drops}
-use Rattle.wire_statements.specs.Runs.{run_of}
-use Rattle.wire_statements.proofs.PlainLemmas.{does_plainly}
-use Rattle.wire_statements.proofs.dispatch.on_drop.Goals as goal
-
-pub returns : goal.returns
-returns g c = does_plainly (g.C.Calls.means c.args.calls.now) (drops) (run_of c.args.r.now) (run_of c.drop_packet.new.r) (tt) c.in_ok-drop_packet.ensures

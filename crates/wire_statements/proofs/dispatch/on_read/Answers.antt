@@ -1,9 +1,0 @@
-use Rattle.std.proofs.Common.{map}
-use Rattle.p4_tree.specs.View.{arg_of}
-use Rattle.p4_meaning.specs.Statements.{read_of}
-use Rattle.wire_statements.specs.Runs.{run_of}
-use Rattle.wire_statements.proofs.PlainLemmas.{does_plainly, read_plain}
-use Rattle.wire_statements.proofs.dispatch.on_read.Goals as goal
-
-pub returns : goal.returns
-returns g c = does_plainly (g.C.Calls.means c.args.calls.now) (read_of c.args.name.now (map arg_of c.args.args.now)) (run_of c.args.r.now) (run_of c.read_register.new.r) (read_plain c.args.name.now (map arg_of c.args.args.now)) c.in_ok-read_register.ensures

@@ -1,7 +1,0 @@
-use Rattle.std.proofs.Common.{◌≡◌, drop, take}
-use Rattle.wire_statements.specs.Fields.{put_in}
-use Rattle.wire_statements.proofs.FieldsLemmas.{behind}
-use Rattle.wire_statements.proofs.fields.overwrite.Given as goal
-
-abbrev pub invariant-loop-i : goal.invariant-loop-i
-invariant-loop-i g l = record { same : l.entries ≡ l.initial.entries; rest : behind (take l.i l.entries.items) (put_in (drop l.i l.entries.items) l.path l.v) ≡ put_in l.entries.items l.path l.v }

@@ -1,6 +1,0 @@
-use Rattle.std.proofs.Common.{◌≡◌, drop}
-use Rattle.wire_statements.specs.Fields.{value_in}
-use Rattle.wire_statements.proofs.fields.value_of.Given as goal
-
-abbrev pub invariant-loop-entry : goal.invariant-loop-entry
-invariant-loop-entry l = value_in (drop l.entry-index l.entries) l.path ≡ value_in l.entries l.path
