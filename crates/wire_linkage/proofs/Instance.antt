@@ -113,8 +113,8 @@ built fields cases entry exit =
       emits = tele_header ∷ [];
     }
 
-pub linked_wire_parts : (p : indus.Property) (linked_ports : List ℕ) → parts_of (linked_wire p linked_ports) ≡ linked_parts (parts_of wire_program) p linked_ports
-linked_wire_parts p linked_ports =
+pub linked_p4_parts : (p : indus.Property) (linked_ports : List ℕ) → parts_of (linked_wire p linked_ports) ≡ linked_parts (parts_of wire_program) p linked_ports
+linked_p4_parts p linked_ports =
     let ingress = codes "WireIngress" in
     let egress = codes "WireEgress" in
     let e0 = stmt_under (sight ingress) (entry_stmt p linked_ports) in

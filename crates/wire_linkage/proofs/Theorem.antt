@@ -17,7 +17,7 @@ use Rattle.linked_halves.proofs.Theorem.{linked}
 use Rattle.wire_program.specs.Network.{wire_line}
 use Rattle.wire_linkage.specs.Line.{program_at, plain_line, line_of}
 use Rattle.wire_linkage.specs.Linkage.{IsWireLinkage}
-use Rattle.wire_linkage.proofs.Instance.{linked_wire_parts, wire_forwards, linked_names}
+use Rattle.wire_linkage.proofs.Instance.{linked_p4_parts, wire_forwards, linked_names}
 use Rattle.wire_linkage.proofs.Ways.{wire_line_is}
 
 module _ (p : Property) (small : IsSmall p) where
@@ -29,7 +29,7 @@ module _ (p : Property) (small : IsSmall p) where
 
   -- the machine of the parts is that of the programs
   same_machine : linked_machine given ≡ line_of (program_at p)
-  same_machine = ap machine_of (λ i s. sym (linked_wire_parts p (ports_at wire_line.links s)) i)
+  same_machine = ap machine_of (λ i s. sym (linked_p4_parts p (ports_at wire_line.links s)) i)
 
   pub wire_linked : IsWireLinkage (program_at p) p
   wire_linked =
@@ -38,5 +38,5 @@ module _ (p : Property) (small : IsSmall p) where
             subst (λ (m : Machine Tables Kept Queued Contents). Linkage plain_line m wire_line (law_of p) (telemetry_of p.decls) (registers_of (parts_of wire_program)) AnyEntries NoVariable NoContents) same_machine
             (linked given is_given);
         names = λ s. linked_names p (ports_at wire_line.links s);
-        registers = λ s. ap (λ parts. parts.registers) (linked_wire_parts p (ports_at wire_line.links s));
+        registers = λ s. ap (λ parts. parts.registers) (linked_p4_parts p (ports_at wire_line.links s));
       }

@@ -19,7 +19,8 @@ use Rattle.network_run.specs.NetworkRun as law_run
 use Rattle.network_run.specs.World.{first_net}
 use Rattle.network_run.proofs.Numbers.{nat_eq_self}
 use Rattle.network_run.proofs.Links.{far_end_is}
-use Rattle.wire_machine.specs.Machine.{Machine, goes_to}
+use Rattle.p4_passages.specs.Waiting.{goes_to}
+use Rattle.wire_machine.specs.Machine.{Machine}
 use Rattle.wire_network.specs.Travel.{Net, Fate, left, dropped, lost, left_from, passed, is_end, far_end, Way, on_link, behind, at_switch, no_way, travel}
 use Rattle.wire_network.specs.declared.link.Link.{Link}
 use Rattle.linked_halves.specs.Telemetry.{telemetry_of}

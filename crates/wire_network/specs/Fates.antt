@@ -4,7 +4,7 @@ use Rattle.std.specs.Global.{Vec}
 use Rattle.p4_meaning.specs.Statements.{Digest}
 use Rattle.p4_meaning.specs.Parts.{Parts}
 use Rattle.wire_machine.specs.Machine.{Machine}
-use Rattle.wire_statements.specs.Runs.{digest_of}
+use Rattle.p4_statements.specs.Runs.{digest_of}
 use Rattle.wire_network.specs.Travel as travel
 use Rattle.wire_network.specs.declared.link.Told as code_told
 use Rattle.wire_network.specs.declared.link.Fate as code_fate

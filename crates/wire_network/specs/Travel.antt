@@ -4,7 +4,8 @@ use Rattle.p4_tree.specs.Tree.{done}
 use Rattle.p4_meaning.specs.Statements.{Digest}
 use Rattle.p4_meaning.specs.Tables.{tables_before}
 use Rattle.p4_meaning.specs.Pass.{Registers, Queued, parts_enter, parts_leave}
-use Rattle.wire_machine.specs.Machine.{Machine, goes_to}
+use Rattle.p4_passages.specs.Waiting.{goes_to}
+use Rattle.wire_machine.specs.Machine.{Machine}
 use Rattle.wire_network.specs.declared.link.Link.{Link}
 
 -- a network: its switches, and the digests so far, each with its switch

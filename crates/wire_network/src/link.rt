@@ -1,6 +1,6 @@
 //! Links between switches, and what becomes of a packet.
 
-use wire_statements::Digest;
+use p4_statements::Digest;
 
 /// A cable between two ports. Frames pass it both ways.
 #[derive(Clone, Copy, Debug, PartialEq, Eq)]

@@ -2,15 +2,17 @@
 
 ghost use Rattle.std.specs.Prelude.{◌≡◌, ◌<◌, ◌≤◌, ◌++◌, ◌-◌, [], length, map, get_or, ℕ, IfOk, OnOk, IfSome};
 ghost use Rattle.std.specs.Option.{option_map};
-ghost use Rattle.wire_machine.specs.Machine.{machine_of, queued_of};
-ghost use Rattle.wire_statements.specs.Runs.{digest_of};
+ghost use Rattle.p4_passages.specs.Waiting.{waiting_of};
+ghost use Rattle.wire_machine.specs.Machine.{machine_of};
+ghost use Rattle.p4_statements.specs.Runs.{digest_of};
 ghost use Rattle.wire_network.specs.Travel.{AreJoined, at_edge, behind, far_end, left_from, no_machine, over, passage, passed, travel};
 ghost use Rattle.wire_network.specs.Fates.{fate_of, frame_in, net_of, programs_of, told_of};
 
 use crate::link::{Arrival, Fate, Link, Told};
+use p4_passages::{Gone, Waiting};
+use p4_statements::Digest;
 use std::alloc::{AllocError, Global};
-use wire_machine::{Passed, Queued, Switch};
-use wire_statements::Digest;
+use wire_machine::Switch;
 
 /// The other end of the cable at a port, or `None` at an edge.
 fn far_end(links: &[Link], switch: u16, port: u16) -> Option<(u16, u16)>
@@ -35,19 +37,19 @@ fn far_end(links: &[Link], switch: u16, port: u16) -> Option<(u16, u16)>
 fn leave(
     alloc: Global,
     switch: &mut Switch,
-    queued: Option<Queued>,
+    queued: Option<Waiting>,
     digests: &mut Vec<Digest>,
 ) -> Result<Option<(u16, Vec<u8>)>, AllocError>
     ensures kept { (machine_of switch.new).parts ≡ (machine_of switch.old).parts }
-    ensures machine { OnOk result (machine_of switch.new ≡ (left_from (machine_of switch.old) (machine_of switch.old).kept.registers (map digest_of digests.old.items) (option_map queued_of queued)).machine) }
-    ensures digests { OnOk result (map digest_of digests.new.items ≡ (left_from (machine_of switch.old) (machine_of switch.old).kept.registers (map digest_of digests.old.items) (option_map queued_of queued)).digests) }
-    ensures out { IfOk result (λ o. frame_in o ≡ (left_from (machine_of switch.old) (machine_of switch.old).kept.registers (map digest_of digests.old.items) (option_map queued_of queued)).out) }
+    ensures machine { OnOk result (machine_of switch.new ≡ (left_from (machine_of switch.old) (machine_of switch.old).kept.registers (map digest_of digests.old.items) (option_map waiting_of queued)).machine) }
+    ensures digests { OnOk result (map digest_of digests.new.items ≡ (left_from (machine_of switch.old) (machine_of switch.old).kept.registers (map digest_of digests.old.items) (option_map waiting_of queued)).digests) }
+    ensures out { IfOk result (λ o. frame_in o ≡ (left_from (machine_of switch.old) (machine_of switch.old).kept.registers (map digest_of digests.old.items) (option_map waiting_of queued)).out) }
 {
     match queued {
         None => Ok(None),
         Some(queued) => match switch.leave(alloc, queued, digests)? {
-            Passed::Dropped => Ok(None),
-            Passed::Out { port, frame } => Ok(Some((port, frame))),
+            Gone::Dropped => Ok(None),
+            Gone::Out { port, frame } => Ok(Some((port, frame))),
         },
     }
 }

@@ -1,5 +1,4 @@
-//! Tests of the wire program: its linker and machine; and of what P4 programs do, from their texts to the
-//! frames that leave.
+//! Tests of the wire program: its linker, its parts, and the way of a packet.
 #![tactic(auto)]
 
 #[cfg(test)]
@@ -8,7 +7,3 @@ mod linking;
 mod network;
 #[cfg(test)]
 mod parts;
-#[cfg(test)]
-mod rows;
-#[cfg(test)]
-mod support;

@@ -1,11 +1,23 @@
 //! Two switches and a cable, by hand. Each switch sends all frames out by port 2, and tells the port
 //! by which a frame came.
 
-use crate::support::program;
 use bit_values::Bits;
+use p4_decls::read_program;
+use p4_tree::Program;
+use std::alloc::Global;
+use std::process::Abort;
 use std::test::Fail;
 use wire_machine::Switch;
 use wire_network::{Arrival, Fate, Link, Told, carry};
+
+/// The program of a text.
+fn program(rt: &impl Abort, alloc: Global, text: &str) -> Result<Program, Fail> {
+    assert!(rt; text.len() <= 65536);
+    match read_program(alloc, text.as_bytes()) {
+        Ok(program) => Ok(program),
+        Err(fault) => Err(Fail::new(&format!(in alloc; "{fault:?} in {text}")?)),
+    }
+}
 
 /// All frames go out by port 2, and the port by which they came is told.
 const ALL_BY_PORT_TWO: &str = "control Ing(in a h, in a m, in a std) { apply { \

@@ -2,9 +2,9 @@
 
 use indus_reader::read_property;
 use lex_text::Name;
+use p4_parts::parts_of;
 use std::test::Fail;
 use wire_linker::link_wire;
-use wire_parts::parts_of;
 
 const COUNTS: &[u8] = b"tele bit<8> n; {} {n = n + 1;} {if (n == 2) {reject;}}";
 

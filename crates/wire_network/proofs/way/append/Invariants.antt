@@ -1,5 +1,5 @@
 use Rattle.std.proofs.Common.{◌≡◌, ◌++◌, map}
-use Rattle.wire_statements.specs.Runs.{digest_of}
+use Rattle.p4_statements.specs.Runs.{digest_of}
 use Rattle.wire_network.specs.Fates.{told_of}
 use Rattle.wire_network.proofs.way.append.Given as goal
 

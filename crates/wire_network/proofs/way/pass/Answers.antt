@@ -2,7 +2,7 @@ use Rattle.std.proofs.Common.{◌≡◌, ◌++◌, ℕ, List, map, ap, ◌∙◌
 use Rattle.std.specs.Prelude.{IfOk, OnOk}
 use Rattle.p4_meaning.specs.Statements.{Digest}
 use Rattle.p4_meaning.specs.Pass.{parts_enter}
-use Rattle.wire_statements.specs.Runs.{digest_of}
+use Rattle.p4_statements.specs.Runs.{digest_of}
 use Rattle.wire_machine.specs.Machine.{machine_of}
 use Rattle.wire_network.specs.Fates.{frame_in}
 use Rattle.wire_network.proofs.TravelLemmas.{passes}

@@ -1,7 +1,0 @@
-pub mod ParseLemmas
-pub mod LeftLemmas
-pub mod SwitchLemmas
-pub mod HalvesLemmas
-pub mod PassLemmas
-pub mod HeldLemmas
-pub mod SelectLemmas

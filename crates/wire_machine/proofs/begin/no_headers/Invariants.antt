@@ -1,8 +1,0 @@
-use Rattle.std.proofs.Common.{◌≡◌, map, drop}
-use Rattle.p4_meaning.specs.Pass.{no_headers}
-use Rattle.wire_parts.specs.Headers.{header_in}
-use Rattle.wire_statements.specs.Fields.{store_of}
-use Rattle.wire_machine.proofs.begin.no_headers.Given as goal
-
-abbrev pub invariant-loop-h : goal.invariant-loop-h
-invariant-loop-h l = no_headers (map header_in (drop l.h-index l.headers)) (store_of l.s) ≡ no_headers (map header_in l.headers) (store_of l.initial.s)

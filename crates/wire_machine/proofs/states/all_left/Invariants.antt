@@ -1,7 +1,0 @@
-use Rattle.std.proofs.Common.{◌≡◌, take, map}
-use Rattle.p4_tree.specs.View.{state_of}
-use Rattle.wire_machine.specs.Left.{states_in}
-use Rattle.wire_machine.proofs.states.all_left.Given as goal
-
-abbrev pub invariant-loop-st : goal.invariant-loop-st
-invariant-loop-st l = states_in l.left.items ≡ map state_of (take l.st-index l.states)
