@@ -1,0 +1,56 @@
+-- Two lists that are walked together, of which one ends first.
+use Rattle.std.proofs.Common.{◌≡◌, ℕ, zero, suc, ◌<◌, List, [], ◌∷◌, length, map, drop, false, refl, arith}
+use Rattle.bit_values.specs.Bits.{Word}
+use Rattle.p4_meaning.specs.Choice.{fits_keys}
+use Rattle.p4_tables.specs.declared.entry.Match as code_match
+use Rattle.p4_tables.specs.declared.shape.KeyShape.{KeyShape}
+use Rattle.p4_tables.specs.Shapes.{are_for_keys, have_widths}
+use Rattle.p4_tables.specs.Entries.{same_keys}
+use Rattle.p4_tables.specs.View.{match_of}
+
+-- matches are left, and no keys
+pub no_keys : (ms : List code_match.Match) (i : ℕ) → i < length ms → fits_keys (map match_of (drop i ms)) [] ≡ false
+no_keys [] i lt = absurd (omega arith)
+no_keys (m ∷ ms) zero lt = refl
+no_keys (m ∷ ms) (suc i) lt = no_keys ms i (omega arith)
+
+-- keys are left, and no matches
+pub no_matches : (ks : List Word) (n : ℕ) → n < length ks → fits_keys [] (drop n ks) ≡ false
+no_matches [] n lt = absurd (omega arith)
+no_matches (k ∷ ks) zero lt = refl
+no_matches (k ∷ ks) (suc n) lt = no_matches ks n (omega arith)
+
+-- widths are left, and no words
+pub no_words : (ns : List ℕ) (i : ℕ) → i < length ns → have_widths (drop i ns) [] ≡ false
+no_words [] i lt = absurd (omega arith)
+no_words (n ∷ ns) zero lt = refl
+no_words (n ∷ ns) (suc i) lt = no_words ns i (omega arith)
+
+-- words are left, and no widths
+pub no_widths : (ws : List Word) (i : ℕ) → i < length ws → have_widths [] (drop i ws) ≡ false
+no_widths [] i lt = absurd (omega arith)
+no_widths (w ∷ ws) zero lt = refl
+no_widths (w ∷ ws) (suc i) lt = no_widths ws i (omega arith)
+
+-- keys of a table are left, and no matches
+pub none_asked : (ks : List KeyShape) (i : ℕ) → i < length ks → are_for_keys (drop i ks) [] ≡ false
+none_asked [] i lt = absurd (omega arith)
+none_asked (k ∷ ks) zero lt = refl
+none_asked (k ∷ ks) (suc i) lt = none_asked ks i (omega arith)
+
+-- matches are left, and no keys of a table
+pub none_wanted : (ms : List code_match.Match) (i : ℕ) → i < length ms → are_for_keys [] (map match_of (drop i ms)) ≡ false
+none_wanted [] i lt = absurd (omega arith)
+none_wanted (m ∷ ms) zero lt = refl
+none_wanted (m ∷ ms) (suc i) lt = none_wanted ms i (omega arith)
+
+-- matches are left on the left, or on the right
+pub more_left : (ms : List code_match.Match) (i : ℕ) → i < length ms → same_keys (map match_of (drop i ms)) [] ≡ false
+more_left [] i lt = absurd (omega arith)
+more_left (m ∷ ms) zero lt = refl
+more_left (m ∷ ms) (suc i) lt = more_left ms i (omega arith)
+
+pub more_right : (ms : List code_match.Match) (i : ℕ) → i < length ms → same_keys [] (map match_of (drop i ms)) ≡ false
+more_right [] i lt = absurd (omega arith)
+more_right (m ∷ ms) zero lt = refl
+more_right (m ∷ ms) (suc i) lt = more_right ms i (omega arith)

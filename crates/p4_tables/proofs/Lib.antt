@@ -1,0 +1,10 @@
+pub mod Keys
+pub mod Changed
+pub mod Sound
+pub mod Found
+pub mod Stays
+pub mod Unique
+pub mod Steps
+pub mod Started
+pub mod Applied
+pub mod Rows

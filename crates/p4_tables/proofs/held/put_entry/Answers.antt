@@ -1,0 +1,14 @@
+use Rattle.std.proofs.lemmas.Result.{on_ok_weaker, on_err_weaker}
+use Rattle.std.proofs.Common.{◌++◌, ◌∷◌, [], map, refl}
+use Rattle.p4_tables.specs.State.{Held}
+use Rattle.p4_tables.specs.View.{entry_of, act_of}
+use Rattle.p4_tables.proofs.Changed.{put_at, kept_at}
+use Rattle.p4_tables.proofs.held.put_entry.Goals as goal
+
+pub returns-clause-ok : goal.returns-clause-ok
+returns-clause-ok c =
+    on_ok_weaker c.push_entry.result (put_at c.args.tables.now.items c.args.table c.index_mut.result.now c.push_entry.new.h (λ (h : Held). record h { listed = h.listed ++ entry_of c.args.e ∷ [] }) c.requires c.index_mut.ensures.value) c.push_entry.ensures.ok
+
+pub returns-clause-err : goal.returns-clause-err
+returns-clause-err c =
+    on_err_weaker c.push_entry.result (kept_at c.args.tables.now.items c.args.table c.index_mut.result.now c.push_entry.new.h c.requires c.index_mut.ensures.value) c.push_entry.ensures.err

@@ -1,0 +1,14 @@
+-- What callers rest on: what tables take, entries, what tables hold, why entries are refused, what a table answers, the
+-- tables of a program, and what holds of them. To be read in this order.
+pub mod Shapes
+pub mod Entries
+pub mod State
+pub mod Faults
+pub mod Answers
+pub mod Programs
+pub mod Named
+pub mod Laws
+pub mod View
+-- What serves the proofs.
+pub mod Walk
+pub mod Kept

@@ -1,0 +1,59 @@
+-- What the values of the program stand for.
+use Rattle.std.specs.Prelude.{ℕ, List, [], map, get_or}
+use Rattle.std.specs.Global.{Vec}
+use Rattle.bit_values.specs.Bits.{Word}
+use Rattle.p4_meaning.specs.Choice.{Match, exact, lpm, ternary}
+use Rattle.p4_tables.specs.Shapes.{ActionShape, Shape}
+use Rattle.p4_tables.specs.Entries.{Entry, Act}
+use Rattle.p4_tables.specs.State.{Held}
+use Rattle.p4_tables.specs.declared.entry.Match as code_match
+use Rattle.p4_tables.specs.declared.entry.Match.TheVariants as match
+use Rattle.p4_tables.specs.declared.entry.Entry as code_entry
+use Rattle.p4_tables.specs.declared.entry.Act as code_act
+use Rattle.p4_tables.specs.declared.entry.Chosen as code_chosen
+use Rattle.p4_tables.specs.declared.shape.ActionShape as code_action
+use Rattle.p4_tables.specs.declared.shape.Shape as code_shape
+use Rattle.p4_tables.specs.declared.held.Held as code_held
+
+-- what an entry asks of a key
+abbrev pub match_of : code_match.Match → Match
+match_of (match.Exact v) = exact v
+match_of (match.Lpm v n) = lpm v n
+match_of (match.Ternary v m) = ternary v m
+
+-- an entry
+abbrev pub entry_of : code_entry.Entry → Entry
+entry_of e = record { keys = map match_of e.keys.items; action = e.action; args = e.args.items; priority = e.priority }
+
+-- an action with arguments, and one that is answered
+abbrev pub act_of : code_act.Act → Act
+act_of a = record { action = a.action; args = a.args.items }
+
+-- a default that is given
+abbrev pub given_act : ℕ × Vec Word → Act
+given_act d = record { action = d.0; args = d.1.items }
+
+abbrev pub chosen_act : code_chosen.Chosen → Act
+chosen_act c = record { action = c.action; args = c.args.now }
+
+-- an action of a table's list, and what a table takes
+abbrev pub action_shape_of : code_action.ActionShape → ActionShape
+action_shape_of a = record { number = a.number; widths = a.widths.items }
+
+abbrev pub shape_of : code_shape.Shape → Shape
+shape_of s = record { keys = s.keys.items; actions = map action_shape_of s.actions.items; written = s.written; fixed = s.fixed }
+
+-- a table
+abbrev pub held_of : code_held.Held → Held
+held_of h = record { shape = shape_of h.shape; listed = map entry_of h.listed.items; default = act_of h.default }
+
+-- lists of numbers, and the one of a number
+abbrev pub lists_in : List (Vec ℕ) → List (List ℕ)
+lists_in vs = map (λ v. v.items) vs
+
+abbrev pub widths_at : List (List ℕ) → ℕ → List ℕ
+widths_at vs i = get_or vs i []
+
+-- all tables
+abbrev pub held_in : List code_held.Held → List Held
+held_in = map held_of

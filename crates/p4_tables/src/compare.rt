@@ -1,0 +1,169 @@
+//! What a table takes, and which entries are the same.
+
+ghost use Rattle.std.specs.Prelude.{◌≡◌, ◌-◌, ◌/◌, ◌^◌, map};
+ghost use Rattle.p4_tables.specs.Shapes.{is_for_key, are_for_keys};
+ghost use Rattle.p4_tables.specs.Entries.{same_match, same_keys, same_entry, has_same, has_priority};
+ghost use Rattle.p4_tables.specs.Faults.{takes_entry, fault_in, default_fault_in};
+ghost use Rattle.p4_tables.specs.View.{match_of, entry_of, act_of, shape_of, held_of};
+
+use crate::entry::{Act, Entry, Match};
+use crate::fault::EntryFault;
+use crate::held::Held;
+use crate::shape::{KeyKind, KeyShape, Shape, has_action, has_ternary, takes};
+use bit_values::Bits;
+
+/// Whether what is asked of a key is of its kind and its width.
+fn is_for_key(k: &KeyShape, m: &Match) -> bool
+    ensures { result ≡ is_for_key k.now (match_of m.now) }
+{
+    match m {
+        Match::Exact(v) => match k.kind {
+            KeyKind::Exact => v.width() == k.width,
+            KeyKind::Lpm | KeyKind::Ternary => false,
+        },
+        Match::Lpm(v, n) => match k.kind {
+            KeyKind::Lpm => v.width() == k.width && *n <= k.width,
+            KeyKind::Exact | KeyKind::Ternary => false,
+        },
+        Match::Ternary(v, mask) => match k.kind {
+            KeyKind::Ternary => v.width() == k.width && mask.width() == k.width,
+            KeyKind::Exact | KeyKind::Lpm => false,
+        },
+    }
+}
+
+/// Whether all are, one by one.
+fn are_for_keys(keys: &[KeyShape], list: &[Match]) -> bool
+    ensures { result ≡ are_for_keys keys.now (map match_of list.now) }
+{
+    for i in 0..keys.len() {
+        if i >= list.len() {
+            return false;
+        }
+        if !is_for_key(&keys[i], &list[i]) {
+            return false;
+        }
+    }
+    if keys.len() < list.len() {
+        return false;
+    }
+    true
+}
+
+/// Whether a table of this shape takes an entry.
+fn takes_entry(shape: &Shape, e: &Entry) -> bool
+    ensures { result ≡ takes_entry (shape_of shape.now) (entry_of e.now) }
+{
+    are_for_keys(&shape.keys, &e.keys) && takes(&shape.actions, e.action, &e.args)
+}
+
+/// A number without the bits behind so many.
+fn first_bits(v: Bits, count: u8) -> u128
+    ensures { result ≡ v.value / 2 ^ (v.width - count) }
+{
+    v.shr(v.width().saturating_sub(count) as u128).value
+}
+
+/// Whether the same is asked of a key.
+fn same_match(a: &Match, b: &Match) -> bool
+    ensures { result ≡ same_match (match_of a.now) (match_of b.now) }
+{
+    match a {
+        Match::Exact(v) => match b {
+            Match::Exact(w) => v.value == w.value,
+            Match::Lpm(_, _) | Match::Ternary(_, _) => false,
+        },
+        Match::Lpm(v, n) => match b {
+            Match::Lpm(w, m) => *n == *m && first_bits(*v, *n) == first_bits(*w, *m),
+            Match::Exact(_) | Match::Ternary(_, _) => false,
+        },
+        Match::Ternary(v, m) => match b {
+            Match::Ternary(w, k) => { m.value == k.value && v.value & m.value == w.value & k.value }
+            Match::Exact(_) | Match::Lpm(_, _) => false,
+        },
+    }
+}
+
+/// Whether the same is asked of all keys.
+fn same_keys(a: &[Match], b: &[Match]) -> bool
+    ensures { result ≡ same_keys (map match_of a.now) (map match_of b.now) }
+{
+    for i in 0..a.len() {
+        if i >= b.len() {
+            return false;
+        }
+        if !same_match(&a[i], &b[i]) {
+            return false;
+        }
+    }
+    if a.len() < b.len() {
+        return false;
+    }
+    true
+}
+
+/// Whether two entries are the same.
+fn same_entry(has_ternary: bool, a: &Entry, b: &Entry) -> bool
+    ensures { result ≡ same_entry has_ternary (entry_of a.now) (entry_of b.now) }
+{
+    same_keys(&a.keys, &b.keys) && (!has_ternary || a.priority == b.priority)
+}
+
+/// Whether some entry is the same as this one.
+fn has_same(has_ternary: bool, list: &[Entry], e: &Entry) -> bool
+    ensures { result ≡ has_same has_ternary (map entry_of list.now) (entry_of e.now) }
+{
+    for f in list {
+        if same_entry(has_ternary, f, e) {
+            return true;
+        }
+    }
+    false
+}
+
+/// Whether some entry has this priority.
+fn has_priority(list: &[Entry], priority: u32) -> bool
+    ensures { result ≡ has_priority (map entry_of list.now) priority }
+{
+    for f in list {
+        if f.priority == priority {
+            return true;
+        }
+    }
+    false
+}
+
+/// The first reason for which a table refuses an entry, where all tables hold so many.
+pub(crate) fn fault_in(held: &Held, count: u32, e: &Entry) -> Option<EntryFault>
+    ensures { result ≡ fault_in (held_of held.now) count (entry_of e.now) }
+{
+    let has_ternary = has_ternary(&held.shape.keys);
+    if !has_action(&held.shape.actions, e.action) {
+        Some(EntryFault::NoSuchAction)
+    } else if !takes_entry(&held.shape, e) {
+        Some(EntryFault::WidthDiffers)
+    } else if has_same(has_ternary, &held.listed, e) {
+        Some(EntryFault::SameEntry)
+    } else if has_ternary && has_priority(&held.listed, e.priority) {
+        Some(EntryFault::SamePriority)
+    } else if count >= 65_536 {
+        Some(EntryFault::TableLimit)
+    } else {
+        None
+    }
+}
+
+/// The first reason for which a table refuses a default.
+pub(crate) fn default_fault_in(shape: &Shape, d: &Act) -> Option<EntryFault>
+    ensures { result ≡ default_fault_in (shape_of shape.now) (act_of d.now) }
+{
+    if !has_action(&shape.actions, d.action) {
+        Some(EntryFault::NoSuchAction)
+    } else if !takes(&shape.actions, d.action, &d.args) {
+        Some(EntryFault::WidthDiffers)
+    } else if shape.fixed {
+        Some(EntryFault::ConstDefault)
+    } else {
+        None
+    }
+}

@@ -1,0 +1,102 @@
+//! Entries of tables.
+
+ghost use Rattle.std.specs.Prelude.{◌≡◌, map, IfOk};
+ghost use Rattle.p4_tables.specs.View.{match_of, entry_of, act_of};
+
+use bit_values::Bits;
+use std::alloc::{AllocError, Global};
+
+/// What an entry asks of a key: a number, the first bits of one, or the bits of one under a mask.
+#[derive(Clone, Copy, Debug, PartialEq, Eq)]
+pub enum Match {
+    Exact(Bits),
+    /// A number, and how many of its bits count.
+    Lpm(Bits, u8),
+    /// A number and its mask.
+    Ternary(Bits, Bits),
+}
+
+/// An entry: what it asks of each key, and the action that it runs, by its number, with these words
+/// for its parameters. The priority counts in tables with a ternary key alone.
+#[derive(Debug, Drop)]
+pub struct Entry {
+    pub keys: Vec<Match>,
+    pub action: u32,
+    pub args: Vec<Bits>,
+    pub priority: u32,
+}
+
+/// An action by its number, and words for its parameters.
+#[derive(Debug, Drop)]
+pub struct Act {
+    pub action: u32,
+    pub args: Vec<Bits>,
+}
+
+/// What a table chooses for its keys: an action, words for its parameters, and whether an entry
+/// fits.
+#[derive(Clone, Copy, Debug)]
+pub struct Chosen<'a> {
+    pub action: u32,
+    pub args: &'a [Bits],
+    pub hit: bool,
+}
+
+pub(crate) fn copy_words(alloc: Global, list: &[Bits]) -> Result<Vec<Bits>, AllocError>
+    ensures { IfOk result (λ v. v.items ≡ list.now) }
+{
+    let mut copies = Vec::new(alloc);
+    for w in list {
+        copies.push(*w)?;
+    }
+    Ok(copies)
+}
+
+fn copy_matches(alloc: Global, list: &[Match]) -> Result<Vec<Match>, AllocError>
+    ensures { IfOk result (λ v. v.items ≡ list.now) }
+{
+    let mut copies = Vec::new(alloc);
+    for m in list {
+        copies.push(*m)?;
+    }
+    Ok(copies)
+}
+
+impl Entry {
+    /// An equal entry.
+    pub fn copy(&self, alloc: Global) -> Result<Entry, AllocError>
+        ensures { IfOk result (λ e. entry_of e ≡ entry_of self.now) }
+    {
+        let keys = copy_matches(alloc, &self.keys)?;
+        let args = copy_words(alloc, &self.args)?;
+        Ok(Entry {
+            keys,
+            action: self.action,
+            args,
+            priority: self.priority,
+        })
+    }
+}
+
+impl Act {
+    /// An equal action with equal words.
+    pub fn copy(&self, alloc: Global) -> Result<Act, AllocError>
+        ensures { IfOk result (λ a. act_of a ≡ act_of self.now) }
+    {
+        let args = copy_words(alloc, &self.args)?;
+        Ok(Act {
+            action: self.action,
+            args,
+        })
+    }
+}
+
+pub(crate) fn copy_entries(alloc: Global, list: &[Entry]) -> Result<Vec<Entry>, AllocError>
+    ensures { IfOk result (λ v. map entry_of v.items ≡ map entry_of list.now) }
+{
+    let mut copies = Vec::new(alloc);
+    for e in list {
+        copies.push(e.copy(alloc)?)?;
+    }
+    Ok(copies)
+}

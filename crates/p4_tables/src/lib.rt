@@ -1,0 +1,32 @@
+//! The tables of a switch: what they hold, and what they choose.
+//!
+//! The layer above gets `TableState`, all tables of one switch, by their numbers in the text of a
+//! well-typed program (`new`). `insert` and `set_default` test what they are given; `replace` puts a
+//! list that was tested into the place of another; `choose` answers the action that a table runs for
+//! its keys. Contracts see a list of what each table takes and holds (`specs/State`).
+//!
+//! `choose` takes no memory. What it answers is said by the relation `IsChosen` of `p4_meaning`, and
+//! no two entries that a table holds have that relation to the same keys (`choices_are_unique`).
+//!
+//! `specs/Shapes`, `Entries`, `State`, `Faults`, `Answers`, `Programs`, `Named` and `Laws` are read in
+//! this order.
+//!
+//! Follows: P4_16 Language Specification and v1model, this project's subset.
+//!
+//! Speed is not promised: each entry is compared with all that its table holds, and a choice is one
+//! walk over them.
+#![tactic(auto)]
+
+mod choice;
+mod compare;
+mod entry;
+mod fault;
+mod held;
+mod shape;
+mod start;
+mod state;
+mod widths;
+
+pub use entry::{Chosen, Entry, Match};
+pub use fault::EntryFault;
+pub use state::{TableState, actions_are_listed, choices_are_unique};
