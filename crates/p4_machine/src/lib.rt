@@ -1,0 +1,23 @@
+//! A switch that runs a well-typed P4 program, on maps by name.
+//!
+//! The layers above get the trait `Pass`, what a switch does with a packet, whatever keeps its program:
+//! `room`, `enter`, `leave`, `pass`, `set_table` and `cell`; `Switch`, which meets it over the maps by
+//! name of `p4_passages`; and `FrameBuf` and `Queued`, which are handed in. Contracts say what each call
+//! does as the halves of the trees' meaning (`specs/Passages`), and see buffers and places as records
+//! (`specs/Buffers`).
+//!
+//! Follows: P4_16 Language Specification and v1model, this project's subset.
+//!
+//! After want of memory in a half the switch and the packet's place are given up. Speed is not promised.
+#![tactic(auto)]
+
+mod buffer;
+mod loaded;
+mod pass;
+mod queued;
+mod switch;
+
+pub use buffer::FrameBuf;
+pub use pass::{Entered, Pass, Passed};
+pub use queued::Queued;
+pub use switch::Switch;
