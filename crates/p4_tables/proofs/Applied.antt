@@ -1,28 +1,23 @@
 -- What is chosen, the actions of tables, and keys under masks.
-use Rattle.std.proofs.Common.{◌≡◌, ℕ, zero, suc, ◌<◌, List, [], ◌∷◌, length, map, get_or, Bool, true, false, cond, Option, Some, None, refl, sym, ap, ap₂, subst, ◌∙◌, codes, arith}
+use Rattle.std.proofs.Common.{◌≡◌, ℕ, List, [], ◌∷◌, map, Bool, true, false, cond, Option, Some, None, refl, sym, ap₂, ◌∙◌, codes}
 use Rattle.std.specs.Prelude.{◌||◌}
 use Rattle.std.specs.List.{AllByRecursion}
 use Rattle.std.proofs.lemmas.Bool.{false≢true, and_parts}
 use Rattle.bit_values.specs.Bits.{Word}
 use Rattle.lex_text.specs.Names.{same_text}
-use Rattle.p4_tree.specs.Tree.{Program}
 use Rattle.p4_meaning.specs.Choice as choice
 use Rattle.p4_meaning.specs.Choice.{fits_keys, IsChosen, IsChoice, choice_of}
-use Rattle.p4_meaning.specs.Statements.{Run}
-use Rattle.p4_meaning.specs.Actions.{Action}
 use Rattle.p4_meaning.specs.Tables as meaning
 use Rattle.p4_meaning.specs.Tables.{Key, Table, Entries, table_named, key_words, chosen_runs, apply_if}
-use Rattle.p4_meaning.specs.Parts.{parts_of}
 use Rattle.p4_meaning.proofs.Choices.{choice_is, below}
-use Rattle.p4_scopes.specs.Scopes.{core}
 use Rattle.p4_tables.specs.Shapes.{Shape, is_ternary, has_ternary, are_for_keys, takes}
 use Rattle.p4_tables.specs.Faults.{takes_entry}
 use Rattle.p4_tables.specs.Entries.{Entry, Act, named}
 use Rattle.p4_tables.specs.State.{Held, held_at, no_table}
-use Rattle.p4_tables.specs.Answers.{IsHit, IsMiss}
-use Rattle.p4_tables.specs.Programs.{kind_of, key_shapes, table_shape, tops_widths, tables_before, state_before, shapes, IsStateOf}
-use Rattle.p4_tables.specs.Named.{action_name, named_act, entries_named, tables_named, tables_in, table_place}
-use Rattle.p4_tables.specs.Laws.{ChoicesAreUnique, RunsListed, IsListed}
+use Rattle.p4_tables.specs.Answers.{IsMiss}
+use Rattle.p4_tables.specs.Programs.{kind_of, key_shapes}
+use Rattle.p4_tables.specs.declared.shape.ValueShape.{ValueShape}
+use Rattle.p4_tables.specs.Laws.{ChoicesAreUnique, RunsListed}
 use Rattle.p4_tables.specs.Kept.{IsSound, AreSound}
 use Rattle.p4_tables.specs.declared.shape.KeyKind.TheVariants.{Exact, Lpm, Ternary}
 use Rattle.p4_tables.proofs.Sound.{all_at}
@@ -65,7 +60,7 @@ ternary_kind x = go (same_text x (codes "ternary")) (same_text x (codes "lpm"))
     go false true = refl
     go false false = refl
 
-pub same_ternary : (ks : List Key) (ws : List ℕ) → has_ternary (key_shapes ks ws) ≡ meaning.has_ternary ks
+pub same_ternary : (ks : List Key) (ws : List ValueShape) → has_ternary (key_shapes ks ws) ≡ meaning.has_ternary ks
 same_ternary [] ws = refl
 same_ternary (k ∷ ks) [] = ap₂ (λ (a b : Bool). a || b) (ternary_kind k.kind) (same_ternary ks [])
 same_ternary (k ∷ ks) (w ∷ ws) = ap₂ (λ (a b : Bool). a || b) (ternary_kind k.kind) (same_ternary ks ws)

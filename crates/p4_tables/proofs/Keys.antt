@@ -4,6 +4,7 @@ use Rattle.bit_values.specs.Bits.{Word}
 use Rattle.p4_meaning.specs.Choice.{fits_keys}
 use Rattle.p4_tables.specs.declared.entry.Match as code_match
 use Rattle.p4_tables.specs.declared.shape.KeyShape.{KeyShape}
+use Rattle.p4_tables.specs.declared.shape.ValueShape.{ValueShape}
 use Rattle.p4_tables.specs.Shapes.{are_for_keys, have_widths}
 use Rattle.p4_tables.specs.Entries.{same_keys}
 use Rattle.p4_tables.specs.View.{match_of}
@@ -20,17 +21,17 @@ no_matches [] n lt = absurd (omega arith)
 no_matches (k ∷ ks) zero lt = refl
 no_matches (k ∷ ks) (suc n) lt = no_matches ks n (omega arith)
 
--- widths are left, and no words
-pub no_words : (ns : List ℕ) (i : ℕ) → i < length ns → have_widths (drop i ns) [] ≡ false
+-- values are left, and no words
+pub no_words : (vs : List ValueShape) (i : ℕ) → i < length vs → have_widths (drop i vs) [] ≡ false
 no_words [] i lt = absurd (omega arith)
-no_words (n ∷ ns) zero lt = refl
-no_words (n ∷ ns) (suc i) lt = no_words ns i (omega arith)
+no_words (v ∷ vs) zero lt = refl
+no_words (v ∷ vs) (suc i) lt = no_words vs i (omega arith)
 
--- words are left, and no widths
-pub no_widths : (ws : List Word) (i : ℕ) → i < length ws → have_widths [] (drop i ws) ≡ false
-no_widths [] i lt = absurd (omega arith)
-no_widths (w ∷ ws) zero lt = refl
-no_widths (w ∷ ws) (suc i) lt = no_widths ws i (omega arith)
+-- words are left, and no values
+pub no_values : (ws : List Word) (i : ℕ) → i < length ws → have_widths [] (drop i ws) ≡ false
+no_values [] i lt = absurd (omega arith)
+no_values (w ∷ ws) zero lt = refl
+no_values (w ∷ ws) (suc i) lt = no_values ws i (omega arith)
 
 -- keys of a table are left, and no matches
 pub none_asked : (ks : List KeyShape) (i : ℕ) → i < length ks → are_for_keys (drop i ks) [] ≡ false

@@ -1,28 +1,34 @@
 -- Worked rows: entries and defaults that tables take or refuse, what tables choose, and the tables of a program.
-use Rattle.std.proofs.Common.{◌≡◌, ℕ, List, [], ◌∷◌, Bool, true, false, Option, Some, None, refl, codes}
+use Rattle.std.proofs.Common.{◌≡◌, ℕ, List, [], ◌∷◌, true, false, Some, None, refl, codes}
 use Rattle.bit_values.specs.Bits.{Word, word}
-use Rattle.p4_tree.specs.Tree.{num, path, Action, Table, local_action, local_table, done, Top, header_type, struct_type, control, Program}
+use Rattle.p4_tree.specs.Tree.{num, flag, path, Action, Table, local_action, local_table, done, header_type, struct_type, control, Program}
 use Rattle.p4_tree.specs.declared.statement.PTy.TheVariants.{Bit, Bool as Bool_, Named}
 use Rattle.p4_tree.specs.declared.program.Way.TheVariants as way
 use Rattle.p4_tree.specs.declared.program.Param.{Param}
 use Rattle.p4_scopes.specs.Scopes.{declare, core}
 use Rattle.p4_meaning.specs.Choice.{Match, exact, lpm, ternary}
 use Rattle.p4_tables.specs.Shapes.{ActionShape, Shape}
-use Rattle.p4_tables.specs.Entries.{Entry, Act}
-use Rattle.p4_tables.specs.State.{Held, inserted, with_default, replaced, entries_in}
+use Rattle.p4_tables.specs.Entries.{Entry}
+use Rattle.p4_tables.specs.State.{Held, inserted, replaced, entries_in}
 use Rattle.p4_tables.specs.Faults.{fault_in, default_fault_in}
 use Rattle.p4_tables.specs.Programs.{state_before}
 use Rattle.p4_tables.specs.Walk.{found_in}
 use Rattle.p4_tables.specs.declared.shape.KeyKind.TheVariants.{Exact, Lpm, Ternary}
 use Rattle.p4_tables.specs.declared.shape.KeyShape.{KeyShape}
-use Rattle.p4_tables.specs.declared.fault.EntryFault.{EntryFault}
-use Rattle.p4_tables.specs.declared.fault.EntryFault.TheVariants.{NoSuchAction, WidthDiffers, SameEntry, SamePriority, TableLimit, ConstDefault}
+use Rattle.p4_tables.specs.declared.shape.ValueShape.{ValueShape}
+use Rattle.table_faults.specs.declared.entry.EntryFault.TheVariants.{NoSuchAction, WidthDiffers, SameEntry, SamePriority, TableLimit, ConstDefault}
 
 -- ---- tables
 
+abbrev bits : ℕ → ValueShape
+bits n = record { width = n; is_truth = false }
+
+abbrev truth : ValueShape
+truth = record { width = 1; is_truth = true }
+
 -- an action with a parameter of 4 bits, and one with none
 abbrev listed_actions : List ActionShape
-listed_actions = record { number = 2; widths = 4 ∷ [] } ∷ record { number = 7; widths = [] } ∷ []
+listed_actions = record { number = 2; params = bits 4 ∷ [] } ∷ record { number = 7; params = [] } ∷ []
 
 abbrev table : List KeyShape → List Entry → Held
 table ks es = record { shape = record { keys = ks; actions = listed_actions; written = 7; fixed = false }; listed = es; default = record { action = 7; args = [] } }
@@ -32,10 +38,10 @@ entry ms p = record { keys = ms; action = 7; args = []; priority = p }
 
 -- keys of 4 bits by themselves and 8 bits by their first ones; and a key of 8 bits under a mask
 abbrev by_prefix : List KeyShape
-by_prefix = record { kind = Exact; width = 4 } ∷ record { kind = Lpm; width = 8 } ∷ []
+by_prefix = record { kind = Exact; value = bits 4 } ∷ record { kind = Lpm; value = bits 8 } ∷ []
 
 abbrev by_mask : List KeyShape
-by_mask = record { kind = Ternary; width = 8 } ∷ []
+by_mask = record { kind = Ternary; value = bits 8 } ∷ []
 
 abbrev prefixed : ℕ → ℕ → ℕ → Entry
 prefixed v n p = entry (exact (word 4 1) ∷ lpm (word 8 v) n ∷ []) p
@@ -148,9 +154,9 @@ none_fits = refl
 abbrev param : List ℕ → List ℕ → Param
 param t x = record { at = 0; way = way.Both; ty = Named t; name = x }
 
--- action set(bit<4> p) {}  table t { key = { hdr.e.x : lpm; meta.g : exact; } actions = { set; NoAction; } const default_action = set(3); }
+-- action set(bit<4> p, bool q) {}  table t { key = { hdr.e.x : lpm; meta.g : exact; } actions = { set; NoAction; } const default_action = set(3, true); }
 abbrev set : Action
-set = record { at = 0; name = codes "set"; params = (Bit 4, codes "p") ∷ []; body = done }
+set = record { at = 0; name = codes "set"; params = (Bit 4, codes "p") ∷ (Bool_, codes "q") ∷ []; body = done }
 
 abbrev one_table : Table
 one_table =
@@ -159,7 +165,7 @@ one_table =
       name = codes "t";
       keys = (path 0 (codes "hdr" ∷ codes "e" ∷ codes "x" ∷ []), codes "lpm") ∷ (path 0 (codes "meta" ∷ codes "g" ∷ []), codes "exact") ∷ [];
       actions = codes "set" ∷ codes "NoAction" ∷ [];
-      default = Some (codes "set", num 0 (record { width = 0; value = 3 }) ∷ []);
+      default = Some (codes "set", num 0 (record { width = 0; value = 3 }) ∷ flag 0 true ∷ []);
       fixed = true;
       size = None;
     }
@@ -179,6 +185,6 @@ program =
     }
 
 -- `set` has number 0, and `NoAction` stands behind it
-started : state_before program ≡ record { shape = record { keys = record { kind = Lpm; width = 8 } ∷ record { kind = Exact; width = 1 } ∷ []; actions = record { number = 0; widths = 4 ∷ [] } ∷ record { number = 1; widths = [] } ∷ []; written = 0; fixed = true }; listed = []; default = record { action = 0; args = word 4 3 ∷ [] } } ∷ []
+started : state_before program ≡ record { shape = record { keys = record { kind = Lpm; value = bits 8 } ∷ record { kind = Exact; value = truth } ∷ []; actions = record { number = 0; params = bits 4 ∷ truth ∷ [] } ∷ record { number = 1; params = [] } ∷ []; written = 0; fixed = true }; listed = []; default = record { action = 0; args = word 4 3 ∷ word 1 1 ∷ [] } } ∷ []
 unfolding state_before declare core
 started = refl

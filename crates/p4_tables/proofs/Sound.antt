@@ -1,8 +1,8 @@
 -- What is held stays sound: entries that no reason refuses, and defaults.
-use Rattle.std.proofs.Common.{◌≡◌, ℕ, zero, suc, ◌+◌, ◌<◌, ◌≤◌, List, [], ◌∷◌, ◌++◌, length, get_or, set, Bool, true, false, cond, Option, Some, None, refl, sym, ap, subst, ◌∙◌, arith, length-append, append_assoc}
-use Rattle.std.proofs.lemmas.Bool.{not-false, or_parts, and_cases, leb-false, or_right}
+use Rattle.std.proofs.Common.{◌≡◌, ℕ, zero, suc, ◌+◌, ◌<◌, List, [], ◌∷◌, ◌++◌, length, get_or, set, Bool, true, false, cond, Option, Some, None, refl, sym, ap, subst, ◌∙◌, arith, length-append, append_assoc}
+use Rattle.std.proofs.lemmas.Bool.{not-false, or_parts, leb-false, or_right}
 use Rattle.std.proofs.lemmas.List.{get_or-set_same, set-set, length-set, append-nil}
-use Rattle.std.specs.Prelude.{not, ◌&&◌, ◌||◌, nat_eq, nat_le}
+use Rattle.std.specs.Prelude.{not, ◌&&◌, nat_eq, nat_le}
 use Rattle.std.specs.List.{AllByRecursion}
 use Rattle.p4_tables.specs.Shapes.{Shape, has_ternary, has_action}
 use Rattle.p4_tables.specs.Entries.{Entry, Act, same_keys, has_same, has_priority}

@@ -1,13 +1,12 @@
 -- A well-typed program's tables are sound before anything is loaded: each has one prefix at most.
-use Rattle.std.proofs.Common.{◌≡◌, ℕ, List, [], ◌∷◌, ◌++◌, map, Bool, true, false, cond, refl, sym, ap, subst, ◌∙◌, codes, arith}
+use Rattle.std.proofs.Common.{◌≡◌, ℕ, List, [], ◌∷◌, ◌++◌, map, Bool, true, false, cond, refl, codes, arith}
 use Rattle.std.specs.Prelude.{not, ◌&&◌, ◌||◌, nat_eq}
 use Rattle.std.specs.List.{AllByRecursion}
 use Rattle.std.proofs.lemmas.Bool.{and_cases, and_left, and_right, or_parts, or_from, or_left, eq-eqb}
-use Rattle.std.proofs.Common.{inl, inr, ◌⊎◌}
+use Rattle.std.proofs.Common.{inl, inr}
 use Rattle.lex_text.specs.Names.{same_text}
 use Rattle.rule_tests.specs.Tests.{IsFine}
 use Rattle.rule_tests.proofs.FirstBroken.{unbroken_fine}
-use Rattle.p4_tree.specs.Tree as tree
 use Rattle.p4_tree.specs.Tree.{Expr, Local, local_action, local_table, local_register, local_const, local_var, Top, constant, typedef, header_type, struct_type, register, parser, control, Program}
 use Rattle.p4_meaning.specs.Scope as meaning
 use Rattle.p4_meaning.specs.Under.{no_scope, behind_top, behind_local, in_control}
@@ -22,8 +21,10 @@ use Rattle.p4_declaration_rules.specs.Parsers.{with_ways}
 use Rattle.p4_declaration_rules.specs.Controls.{after_local, after_top, locals_tests, tops_tests, part_in}
 use Rattle.p4_rules.specs.ProgramRules.{program_tests, IsWellTyped}
 use Rattle.p4_tables.specs.Shapes.{is_lpm, has_lpm, has_two_prefixes, has_action}
-use Rattle.p4_tables.specs.State.{Held, entries_in}
-use Rattle.p4_tables.specs.Programs.{kind_of, key_shapes, action_place, action_shape, tops_widths, tables_before, state_before}
+use Rattle.p4_tables.specs.State.{entries_in}
+use Rattle.p4_tables.specs.Programs.{kind_of, key_shapes, action_place, action_shape, tops_values, tables_before, state_before}
+use Rattle.p4_tables.specs.declared.shape.ValueShape.{ValueShape}
+use Rattle.p4_tables.specs.declared.values.Holder.TheVariants.{Keys, Params}
 use Rattle.p4_tables.specs.Kept.{IsSound, AreSound}
 use Rattle.p4_tables.specs.declared.shape.KeyKind.TheVariants.{Exact, Lpm, Ternary}
 
@@ -39,19 +40,19 @@ no_lpm_key x none = go (same_text x (codes "ternary")) (same_text x (codes "lpm"
     go false false h = refl
 
 module _ (sc : meaning.Scope) where
-  no_lpm : (ks : List (Expr × List ℕ)) (ws : List ℕ) → has_key_kind ks (codes "lpm") ≡ false → has_lpm (key_shapes (map (key_under sc) ks) ws) ≡ false
+  no_lpm : (ks : List (Expr × List ℕ)) (ws : List ValueShape) → has_key_kind ks (codes "lpm") ≡ false → has_lpm (key_shapes (map (key_under sc) ks) ws) ≡ false
   no_lpm [] ws none = refl
   no_lpm (k ∷ ks) [] none = (let h = or_parts (same_text k.1 (codes "lpm")) (has_key_kind ks (codes "lpm")) none in or_from _ _ (no_lpm_key k.1 h.0) (no_lpm ks [] h.1))
   no_lpm (k ∷ ks) (w ∷ ws) none = (let h = or_parts (same_text k.1 (codes "lpm")) (has_key_kind ks (codes "lpm")) none in or_from _ _ (no_lpm_key k.1 h.0) (no_lpm ks ws h.1))
 
-  first_lpm : (k : Expr × List ℕ) (ks : List (Expr × List ℕ)) (ws : List ℕ) → (same_text k.1 (codes "lpm") && has_key_kind ks (codes "lpm")) ≡ false → (is_lpm (kind_of k.1) && has_lpm (key_shapes (map (key_under sc) ks) ws)) ≡ false
+  first_lpm : (k : Expr × List ℕ) (ks : List (Expr × List ℕ)) (ws : List ValueShape) → (same_text k.1 (codes "lpm") && has_key_kind ks (codes "lpm")) ≡ false → (is_lpm (kind_of k.1) && has_lpm (key_shapes (map (key_under sc) ks) ws)) ≡ false
   first_lpm k ks ws none =
       elim (and_cases (same_text k.1 (codes "lpm")) (has_key_kind ks (codes "lpm")) none) [
         | inl h ↦ and_left _ _ (no_lpm_key k.1 h)
         | inr h ↦ and_right _ _ (no_lpm ks ws h)
       ]
 
-  one_prefix : (ks : List (Expr × List ℕ)) (ws : List ℕ) → rules.has_two_prefixes ks ≡ false → has_two_prefixes (key_shapes (map (key_under sc) ks) ws) ≡ false
+  one_prefix : (ks : List (Expr × List ℕ)) (ws : List ValueShape) → rules.has_two_prefixes ks ≡ false → has_two_prefixes (key_shapes (map (key_under sc) ks) ws) ≡ false
   one_prefix [] ws none = refl
   one_prefix (k ∷ ks) [] none = (let h = or_parts (same_text k.1 (codes "lpm") && has_key_kind ks (codes "lpm")) (rules.has_two_prefixes ks) none in or_from _ _ (first_lpm k ks [] h.0) (one_prefix ks [] h.1))
   one_prefix (k ∷ ks) (w ∷ ws) none = (let h = or_parts (same_text k.1 (codes "lpm") && has_key_kind ks (codes "lpm")) (rules.has_two_prefixes ks) none in or_from _ _ (first_lpm k ks ws h.0) (one_prefix ks ws h.1))
@@ -59,7 +60,7 @@ module _ (sc : meaning.Scope) where
 -- ---- the tables of a program
 
 abbrev pub HasOnePrefix : Table → Type 0
-HasOnePrefix t = (ws : List ℕ) → has_two_prefixes (key_shapes t.keys ws) ≡ false
+HasOnePrefix t = (ws : List ValueShape) → has_two_prefixes (key_shapes t.keys ws) ≡ false
 
 all_append : {A : Type 0} (P : A → Type 0) (xs ys : List A) → AllByRecursion P xs → AllByRecursion P ys → AllByRecursion P (xs ++ ys)
 all_append P [] ys h g = g
@@ -95,26 +96,26 @@ tops_prefixed main as' (control p c ∷ ts) s sc fine =
 written_first : (n : ℕ) (b : Bool) → (nat_eq n n || b) ≡ true
 written_first n b = or_left (nat_eq n n) b (eq-eqb n n refl)
 
-each_before : (as' : List Action) (ts : List Table) (kss : List (List ℕ)) → AllByRecursion HasOnePrefix ts → AllByRecursion IsSound (tables_before as' ts kss)
-each_before as' [] kss h = tt
-each_before as' (t ∷ ts) [] h = (record { one_prefix = h.0 []; taken = tt; apart = tt; default = written_first (action_place as' t.default.action) (has_action (map (action_shape as') t.actions) (action_place as' t.default.action)) }, each_before as' ts [] h.1)
-each_before as' (t ∷ ts) (ks ∷ kss) h = (record { one_prefix = h.0 ks; taken = tt; apart = tt; default = written_first (action_place as' t.default.action) (has_action (map (action_shape as') t.actions) (action_place as' t.default.action)) }, each_before as' ts kss h.1)
+each_before : (as' : List Action) (pss : List (List ValueShape)) (ts : List Table) (kss : List (List ValueShape)) → AllByRecursion HasOnePrefix ts → AllByRecursion IsSound (tables_before as' pss ts kss)
+each_before as' pss [] kss h = tt
+each_before as' pss (t ∷ ts) [] h = (record { one_prefix = h.0 []; taken = tt; apart = tt; default = written_first (action_place as' t.default.action) (has_action (map (action_shape as' pss) t.actions) (action_place as' t.default.action)) }, each_before as' pss ts [] h.1)
+each_before as' pss (t ∷ ts) (ks ∷ kss) h = (record { one_prefix = h.0 ks; taken = tt; apart = tt; default = written_first (action_place as' t.default.action) (has_action (map (action_shape as' pss) t.actions) (action_place as' t.default.action)) }, each_before as' pss ts kss h.1)
 
-none_before : (as' : List Action) (ts : List Table) (kss : List (List ℕ)) → entries_in (tables_before as' ts kss) ≡ 0
-none_before as' [] kss = refl
-none_before as' (t ∷ ts) [] = (let rest = none_before as' ts [] in omega (arith, rest))
-none_before as' (t ∷ ts) (ks ∷ kss) = (let rest = none_before as' ts kss in omega (arith, rest))
+none_before : (as' : List Action) (pss : List (List ValueShape)) (ts : List Table) (kss : List (List ValueShape)) → entries_in (tables_before as' pss ts kss) ≡ 0
+none_before as' pss [] kss = refl
+none_before as' pss (t ∷ ts) [] = (let rest = none_before as' pss ts [] in omega (arith, rest))
+none_before as' pss (t ∷ ts) (ks ∷ kss) = (let rest = none_before as' pss ts kss in omega (arith, rest))
 
 pub no_entries : (p : Program) → entries_in (state_before p) ≡ 0
 unfolding state_before
-no_entries p = none_before (parts_of p).actions (parts_of p).tables (tops_widths core p.tops)
+no_entries p = none_before (parts_of p).actions (tops_values Params core p.tops) (parts_of p).tables (tops_values Keys core p.tops)
 
 pub sound_before : (p : Program) → IsWellTyped p → AreSound (state_before p)
 unfolding state_before
 sound_before p typed =
     let fine : IsFine (program_tests p) = unbroken_fine (program_tests p) typed in
-    let none = none_before (parts_of p).actions (parts_of p).tables (tops_widths core p.tops) in
+    let none = none_before (parts_of p).actions (tops_values Params core p.tops) (parts_of p).tables (tops_values Keys core p.tops) in
     record {
-      each = each_before (parts_of p).actions (parts_of p).tables (tops_widths core p.tops) (tops_prefixed p.main (parts_of p).actions p.tops core no_scope fine.0);
+      each = each_before (parts_of p).actions (tops_values Params core p.tops) (parts_of p).tables (tops_values Keys core p.tops) (tops_prefixed p.main (parts_of p).actions p.tops core no_scope fine.0);
       few = omega (arith, none);
     }

@@ -1,8 +1,8 @@
 -- One entry is chosen at most: two that fit and have one rank clash, and no two entries of a sound table do.
-use Rattle.std.proofs.Common.{◌≡◌, ℕ, zero, suc, ◌-◌, ◌/◌, ◌^◌, ◌<◌, ◌≤◌, List, [], ◌∷◌, length, map, max, get_or, Bool, true, false, cond, Option, Some, None, refl, sym, ap, ap₂, subst, ◌∙◌, arith}
-use Rattle.std.specs.Prelude.{◌&&◌, ◌||◌, nat_eq, bit_and}
+use Rattle.std.proofs.Common.{◌≡◌, ℕ, zero, suc, ◌-◌, ◌/◌, ◌^◌, List, [], ◌∷◌, map, max, Bool, true, false, cond, refl, sym, ap, subst, ◌∙◌, arith}
+use Rattle.std.specs.Prelude.{◌&&◌, nat_eq}
 use Rattle.std.specs.List.{AllByRecursion, Contains}
-use Rattle.std.proofs.lemmas.Bool.{and_parts, and_from, or_parts, and_cases, eqb-true, eq-eqb, false≢true}
+use Rattle.std.proofs.lemmas.Bool.{and_parts, and_from, or_parts, eqb-true, eq-eqb, false≢true}
 use Rattle.bit_values.specs.Bits.{Word}
 use Rattle.p4_meaning.specs.Choice as choice
 use Rattle.p4_meaning.specs.Choice.{Match, exact, lpm, ternary, fits_key, fits_keys, prefix_of, rank_of, IsChosen}
@@ -33,12 +33,12 @@ no_prefix [] [] none fit = refl
 no_prefix [] (m ∷ ms) none fit = absurd (cc fit)
 no_prefix (k ∷ ks) [] none fit = absurd (cc fit)
 no_prefix (k ∷ ks) (exact v ∷ ms) none fit =
-    let f = and_parts (is_exact k.kind && nat_eq v.width k.width) (are_for_keys ks ms) fit in
+    let f = and_parts (is_exact k.kind && nat_eq v.width k.value.width) (are_for_keys ks ms) fit in
     no_prefix ks ms (or_parts (is_lpm k.kind) (has_lpm ks) none).1 f.1
 no_prefix (k ∷ ks) (lpm v n ∷ ms) none fit =
     let f = and_parts (is_for_key k (lpm v n)) (are_for_keys ks ms) fit in
-    let g = and_parts (is_lpm k.kind && nat_eq v.width k.width) _ f.0 in
-    let kind = and_parts (is_lpm k.kind) (nat_eq v.width k.width) g.0 in
+    let g = and_parts (is_lpm k.kind && nat_eq v.width k.value.width) _ f.0 in
+    let kind = and_parts (is_lpm k.kind) (nat_eq v.width k.value.width) g.0 in
     absurd (no_mask (is_lpm k.kind) kind.0 (or_parts (is_lpm k.kind) (has_lpm ks) none).0)
 no_prefix (k ∷ ks) (ternary v m ∷ ms) none fit =
     let f = and_parts (is_for_key k (ternary v m)) (are_for_keys ks ms) fit in
@@ -61,7 +61,7 @@ same_prefix v u w n m width vw uw ww nm fv fu =
 -- ---- what is asked of all keys
 
 -- what two entries ask is the same where keys fit both, no mask is there, and both have one prefix
-pub same_asked : (ks : List KeyShape) (ms ns : List Match) (ws : List Word) → has_ternary ks ≡ false → has_two_prefixes ks ≡ false → are_for_keys ks ms ≡ true → are_for_keys ks ns ≡ true → have_widths (map (λ (k : KeyShape). k.width) ks) ws ≡ true → fits_keys ms ws ≡ true → fits_keys ns ws ≡ true → prefix_of ms ≡ prefix_of ns → same_keys ms ns ≡ true
+pub same_asked : (ks : List KeyShape) (ms ns : List Match) (ws : List Word) → has_ternary ks ≡ false → has_two_prefixes ks ≡ false → are_for_keys ks ms ≡ true → are_for_keys ks ns ≡ true → have_widths (map (λ (k : KeyShape). k.value) ks) ws ≡ true → fits_keys ms ws ≡ true → fits_keys ns ws ≡ true → prefix_of ms ≡ prefix_of ns → same_keys ms ns ≡ true
 same_asked [] [] [] ws t two am an hw fm fn same = refl
 same_asked [] [] (n ∷ ns) ws t two am an hw fm fn same = absurd (cc an)
 same_asked [] (m ∷ ms) ns ws t two am an hw fm fn same = absurd (cc am)
@@ -73,19 +73,19 @@ same_asked (k ∷ ks) (exact v ∷ ms) (exact u ∷ ns) (w ∷ ws) t two am an h
     let b = and_parts (is_for_key k (exact u)) (are_for_keys ks ns) an in
     let f = and_parts (nat_eq v.value w.value) (fits_keys ms ws) fm in
     let g = and_parts (nat_eq u.value w.value) (fits_keys ns ws) fn in
-    let h = and_parts (nat_eq w.width k.width) (have_widths (map (λ (j : KeyShape). j.width) ks) ws) hw in
+    let h = and_parts (nat_eq w.width k.value.width) (have_widths (map (λ (j : KeyShape). j.value) ks) ws) hw in
     let one : v.value ≡ u.value = eqb-true _ _ f.0 ∙ sym (eqb-true _ _ g.0) in
     and_from _ _ (eq-eqb v.value u.value one) (same_asked ks ms ns ws (or_parts (is_ternary k.kind) (has_ternary ks) t).1 (or_parts (is_lpm k.kind && has_lpm ks) (has_two_prefixes ks) two).1 a.1 b.1 h.1 f.1 g.1 same)
 same_asked (k ∷ ks) (lpm v n ∷ ms) (lpm u m ∷ ns) (w ∷ ws) t two am an hw fm fn same =
     let a = and_parts (is_for_key k (lpm v n)) (are_for_keys ks ms) am in
     let b = and_parts (is_for_key k (lpm u m)) (are_for_keys ks ns) an in
-    let a2 = and_parts (is_lpm k.kind && nat_eq v.width k.width) _ a.0 in
-    let b2 = and_parts (is_lpm k.kind && nat_eq u.width k.width) _ b.0 in
-    let a3 = and_parts (is_lpm k.kind) (nat_eq v.width k.width) a2.0 in
-    let b3 = and_parts (is_lpm k.kind) (nat_eq u.width k.width) b2.0 in
+    let a2 = and_parts (is_lpm k.kind && nat_eq v.width k.value.width) _ a.0 in
+    let b2 = and_parts (is_lpm k.kind && nat_eq u.width k.value.width) _ b.0 in
+    let a3 = and_parts (is_lpm k.kind) (nat_eq v.width k.value.width) a2.0 in
+    let b3 = and_parts (is_lpm k.kind) (nat_eq u.width k.value.width) b2.0 in
     let f = and_parts (fits_key (lpm v n) w) (fits_keys ms ws) fm in
     let g = and_parts (fits_key (lpm u m) w) (fits_keys ns ws) fn in
-    let h = and_parts (nat_eq w.width k.width) (have_widths (map (λ (j : KeyShape). j.width) ks) ws) hw in
+    let h = and_parts (nat_eq w.width k.value.width) (have_widths (map (λ (j : KeyShape). j.value) ks) ws) hw in
     let p = or_parts (is_lpm k.kind && has_lpm ks) (has_two_prefixes ks) two in
     let none : has_lpm ks ≡ false = subst (λ (b : Bool). (b && has_lpm ks) ≡ false) a3.0 p.0 in
     let zero_left : prefix_of ms ≡ 0 = no_prefix ks ms none a.1 in
@@ -93,35 +93,35 @@ same_asked (k ∷ ks) (lpm v n ∷ ms) (lpm u m ∷ ns) (w ∷ ws) t two am an h
     let left : n ≡ max n (prefix_of ms) = omega (arith, zero_left) in
     let right : m ≡ max m (prefix_of ns) = omega (arith, zero_right) in
     let nm : n ≡ m = left ∙ same ∙ sym right in
-    and_from _ _ (same_prefix v u w n m k.width (eqb-true _ _ a3.1) (eqb-true _ _ b3.1) (eqb-true _ _ h.0) nm f.0 g.0) (same_asked ks ms ns ws (or_parts (is_ternary k.kind) (has_ternary ks) t).1 p.1 a.1 b.1 h.1 f.1 g.1 (zero_left ∙ sym zero_right))
+    and_from _ _ (same_prefix v u w n m k.value.width (eqb-true _ _ a3.1) (eqb-true _ _ b3.1) (eqb-true _ _ h.0) nm f.0 g.0) (same_asked ks ms ns ws (or_parts (is_ternary k.kind) (has_ternary ks) t).1 p.1 a.1 b.1 h.1 f.1 g.1 (zero_left ∙ sym zero_right))
 same_asked (k ∷ ks) (exact v ∷ ms) (lpm u m ∷ ns) (w ∷ ws) t two am an hw fm fn same =
     let a = and_parts (is_for_key k (exact v)) (are_for_keys ks ms) am in
     let b = and_parts (is_for_key k (lpm u m)) (are_for_keys ks ns) an in
-    let a2 = and_parts (is_exact k.kind) (nat_eq v.width k.width) a.0 in
-    let b2 = and_parts (is_lpm k.kind && nat_eq u.width k.width) _ b.0 in
-    let b3 = and_parts (is_lpm k.kind) (nat_eq u.width k.width) b2.0 in
+    let a2 = and_parts (is_exact k.kind) (nat_eq v.width k.value.width) a.0 in
+    let b2 = and_parts (is_lpm k.kind && nat_eq u.width k.value.width) _ b.0 in
+    let b3 = and_parts (is_lpm k.kind) (nat_eq u.width k.value.width) b2.0 in
     absurd (exact_or_lpm k.kind a2.0 b3.0)
 same_asked (k ∷ ks) (lpm v n ∷ ms) (exact u ∷ ns) (w ∷ ws) t two am an hw fm fn same =
     let a = and_parts (is_for_key k (lpm v n)) (are_for_keys ks ms) am in
     let b = and_parts (is_for_key k (exact u)) (are_for_keys ks ns) an in
-    let a2 = and_parts (is_lpm k.kind && nat_eq v.width k.width) _ a.0 in
-    let a3 = and_parts (is_lpm k.kind) (nat_eq v.width k.width) a2.0 in
-    let b2 = and_parts (is_exact k.kind) (nat_eq u.width k.width) b.0 in
+    let a2 = and_parts (is_lpm k.kind && nat_eq v.width k.value.width) _ a.0 in
+    let a3 = and_parts (is_lpm k.kind) (nat_eq v.width k.value.width) a2.0 in
+    let b2 = and_parts (is_exact k.kind) (nat_eq u.width k.value.width) b.0 in
     absurd (exact_or_lpm k.kind b2.0 a3.0)
 same_asked (k ∷ ks) (ternary v q ∷ ms) (n ∷ ns) (w ∷ ws) t two am an hw fm fn same =
     let a = and_parts (is_for_key k (ternary v q)) (are_for_keys ks ms) am in
-    let a2 = and_parts (is_ternary k.kind && nat_eq v.width k.width) _ a.0 in
-    let a3 = and_parts (is_ternary k.kind) (nat_eq v.width k.width) a2.0 in
+    let a2 = and_parts (is_ternary k.kind && nat_eq v.width k.value.width) _ a.0 in
+    let a3 = and_parts (is_ternary k.kind) (nat_eq v.width k.value.width) a2.0 in
     absurd (no_mask (is_ternary k.kind) a3.0 (or_parts (is_ternary k.kind) (has_ternary ks) t).0)
 same_asked (k ∷ ks) (exact v ∷ ms) (ternary u q ∷ ns) (w ∷ ws) t two am an hw fm fn same =
     let b = and_parts (is_for_key k (ternary u q)) (are_for_keys ks ns) an in
-    let b2 = and_parts (is_ternary k.kind && nat_eq u.width k.width) _ b.0 in
-    let b3 = and_parts (is_ternary k.kind) (nat_eq u.width k.width) b2.0 in
+    let b2 = and_parts (is_ternary k.kind && nat_eq u.width k.value.width) _ b.0 in
+    let b3 = and_parts (is_ternary k.kind) (nat_eq u.width k.value.width) b2.0 in
     absurd (no_mask (is_ternary k.kind) b3.0 (or_parts (is_ternary k.kind) (has_ternary ks) t).0)
 same_asked (k ∷ ks) (lpm v m ∷ ms) (ternary u q ∷ ns) (w ∷ ws) t two am an hw fm fn same =
     let b = and_parts (is_for_key k (ternary u q)) (are_for_keys ks ns) an in
-    let b2 = and_parts (is_ternary k.kind && nat_eq u.width k.width) _ b.0 in
-    let b3 = and_parts (is_ternary k.kind) (nat_eq u.width k.width) b2.0 in
+    let b2 = and_parts (is_ternary k.kind && nat_eq u.width k.value.width) _ b.0 in
+    let b3 = and_parts (is_ternary k.kind) (nat_eq u.width k.value.width) b2.0 in
     absurd (no_mask (is_ternary k.kind) b3.0 (or_parts (is_ternary k.kind) (has_ternary ks) t).0)
 
 -- ---- entries
@@ -145,7 +145,7 @@ one_of t (x ∷ xs) e f apart (suc k, lt, is) (zero, lt', is') c d =
 one_of t (x ∷ xs) e f apart (suc k, lt, is) (suc j, lt', is') c d = one_of t xs e f apart.1 (k, omega arith, is) (j, omega arith, is') c d
 
 -- two entries that fit and have one rank clash
-clash_of : (s : Shape) (t : Bool) (e f : Entry) (ws : List Word) → has_ternary s.keys ≡ t → has_two_prefixes s.keys ≡ false → takes_entry s e ≡ true → takes_entry s f ≡ true → have_widths (map (λ (k : KeyShape). k.width) s.keys) ws ≡ true → fits_keys e.keys ws ≡ true → fits_keys f.keys ws ≡ true → cond t e.priority (prefix_of e.keys) ≡ cond t f.priority (prefix_of f.keys) → clash t e f ≡ true
+clash_of : (s : Shape) (t : Bool) (e f : Entry) (ws : List Word) → has_ternary s.keys ≡ t → has_two_prefixes s.keys ≡ false → takes_entry s e ≡ true → takes_entry s f ≡ true → have_widths (map (λ (k : KeyShape). k.value) s.keys) ws ≡ true → fits_keys e.keys ws ≡ true → fits_keys f.keys ws ≡ true → cond t e.priority (prefix_of e.keys) ≡ cond t f.priority (prefix_of f.keys) → clash t e f ≡ true
 clash_of s true e f ws is two te tf hw fe ff same = eq-eqb e.priority f.priority same
 clash_of s false e f ws is two te tf hw fe ff same =
     let a = and_parts (are_for_keys s.keys e.keys) (takes s.actions e.action e.args) te in
@@ -168,7 +168,7 @@ named_back name (e ∷ es) f (suc k, lt, is) = (let r = named_back name es f (k,
 
 -- ---- the choice
 
-pub unique : (h : Held) (name : ℕ → List ℕ) (ws : List Word) → IsSound h → have_widths (map (λ (k : KeyShape). k.width) h.shape.keys) ws ≡ true → (e f : choice.Entry) → IsChosen (has_ternary h.shape.keys) (map (named name) h.listed) ws e → IsChosen (has_ternary h.shape.keys) (map (named name) h.listed) ws f → e ≡ f
+pub unique : (h : Held) (name : ℕ → List ℕ) (ws : List Word) → IsSound h → have_widths (map (λ (k : KeyShape). k.value) h.shape.keys) ws ≡ true → (e f : choice.Entry) → IsChosen (has_ternary h.shape.keys) (map (named name) h.listed) ws e → IsChosen (has_ternary h.shape.keys) (map (named name) h.listed) ws f → e ≡ f
 unique h name ws sound hw e f ce cf =
     let t = has_ternary h.shape.keys in
     let a = named_back name h.listed e ce.listed in

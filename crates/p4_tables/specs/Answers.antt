@@ -1,5 +1,5 @@
 -- What a table answers for its keys. Read `State` before it.
-use Rattle.std.specs.Prelude.{◌≡◌, ℕ, List, map, Option, Some, None}
+use Rattle.std.specs.Prelude.{◌≡◌, ℕ, List, map, Some, None}
 use Rattle.bit_values.specs.Bits.{Word}
 use Rattle.p4_meaning.specs.Choice.{IsChosen, IsChoice, choice_of}
 use Rattle.p4_tables.specs.Shapes.{has_ternary}

@@ -3,8 +3,8 @@ use Rattle.std.specs.Prelude.{◌≡◌, ℕ, List, [], ◌∷◌, Bool, not, �
 use Rattle.p4_tables.specs.Shapes.{Shape, has_ternary, are_for_keys, has_action, takes}
 use Rattle.p4_tables.specs.Entries.{Entry, Act, has_same, has_priority}
 use Rattle.p4_tables.specs.State.{Held, held_at, entries_in, with_listed, inserted}
-use Rattle.p4_tables.specs.declared.fault.EntryFault.{EntryFault}
-use Rattle.p4_tables.specs.declared.fault.EntryFault.TheVariants.{NoSuchAction, WidthDiffers, SameEntry, SamePriority, TableLimit, ConstDefault}
+use Rattle.table_faults.specs.declared.entry.EntryFault.{EntryFault}
+use Rattle.table_faults.specs.declared.entry.EntryFault.TheVariants.{NoSuchAction, WidthDiffers, SameEntry, SamePriority, TableLimit, ConstDefault}
 
 -- a table takes this entry: as many keys of their kinds and widths, and an action of its list with arguments of the
 -- widths of its parameters

@@ -10,7 +10,7 @@ use Rattle.p4_tables.specs.State.{Held, held_at}
 
 -- keys have the widths of a table's keys
 abbrev pub HaveWidths : Held → List Word → Type 0
-HaveWidths h keys = have_widths (map (λ k. k.width) h.shape.keys) keys ≡ true
+HaveWidths h keys = have_widths (map (λ k. k.value) h.shape.keys) keys ≡ true
 
 -- at most one entry of a table is chosen for keys of its widths, whatever the actions are called
 abbrev pub ChoicesAreUnique : List Held → Type 0

@@ -1,13 +1,16 @@
 -- The tables of a program: what each takes, and what it holds before anything is loaded. Read `State` before it, `Parts`
 -- of the meaning, and `Controls` of the rules.
-use Rattle.std.specs.Prelude.{◌≡◌, ℕ, suc, codes, List, [], ◌∷◌, ◌++◌, map, if◌then◌else◌}
+use Rattle.std.specs.Prelude.{◌≡◌, ℕ, suc, codes, List, [], ◌∷◌, ◌++◌, map, get_or, Bool, true, false, if◌then◌else◌}
 use Rattle.lex_text.specs.Names.{same_text}
-use Rattle.p4_tree.specs.Tree.{Expr, Local, local_table, Top, control, Program}
-use Rattle.p4_meaning.specs.Actions.{Action, Param, action_named, params_of}
+use Rattle.p4_tree.specs.Tree.{Expr, Local, local_action, local_table, Top, control, Program}
+use Rattle.p4_tree.specs.declared.statement.PTy.{PTy}
+use Rattle.p4_meaning.specs.Actions.{Action}
 use Rattle.p4_meaning.specs.Tables.{Key, Table, Chosen}
 use Rattle.p4_meaning.specs.Parts.{parts_of}
 use Rattle.p4_scopes.specs.Kinds.{bits_in}
-use Rattle.p4_scopes.specs.Scopes.{Scope, own, core}
+use Rattle.p4_scopes.specs.Scopes.{Scope, own, kind_in, core}
+use Rattle.p4_scopes.specs.declared.kind.Kind.{Kind}
+use Rattle.p4_scopes.specs.declared.kind.Kind.TheVariants as kind
 use Rattle.p4_declaration_rules.specs.Parsers.{with_ways}
 use Rattle.p4_declaration_rules.specs.Controls.{after_local, after_top}
 use Rattle.p4_tables.specs.Shapes.{ActionShape, Shape}
@@ -16,6 +19,52 @@ use Rattle.p4_tables.specs.State.{Held}
 use Rattle.p4_tables.specs.declared.shape.KeyKind.{KeyKind}
 use Rattle.p4_tables.specs.declared.shape.KeyKind.TheVariants.{Exact, Lpm, Ternary}
 use Rattle.p4_tables.specs.declared.shape.KeyShape.{KeyShape}
+use Rattle.p4_tables.specs.declared.shape.ValueShape.{ValueShape}
+use Rattle.p4_tables.specs.declared.values.Holder.{Holder}
+use Rattle.p4_tables.specs.declared.values.Holder.TheVariants.{Keys, Params}
+
+-- ---- what keys and parameters hold
+
+-- a value of this kind is a truth value
+abbrev pub is_truth : Kind → Bool
+is_truth (kind.Number w) = false
+is_truth kind.Truth = true
+is_truth kind.Error = false
+is_truth kind.Unknown = false
+
+-- what is of this kind
+abbrev pub value_of : Kind → ValueShape
+value_of k = record { width = bits_in k; is_truth = is_truth k }
+
+-- keys by the rules, with this in sight
+abbrev pub key_values : Scope → List (Expr × List ℕ) → List ValueShape
+key_values s [] = []
+key_values s (k ∷ ks) = value_of (own s k.0) ∷ key_values s ks
+
+-- parameters of these types
+abbrev pub param_values : Scope → List (PTy × List ℕ) → List ValueShape
+param_values s [] = []
+param_values s (p ∷ ps) = value_of (kind_in s p.0) ∷ param_values s ps
+
+-- the keys of the table, or the parameters of the action, that a declaration of a control declares, if it does
+abbrev pub local_values : Holder → Scope → Local → List (List ValueShape)
+local_values Keys s (local_table p t) = key_values s t.keys ∷ []
+local_values Params s (local_action p a) = param_values s a.params ∷ []
+local_values h s _ = []
+
+abbrev pub locals_values : Holder → Scope → List Local → List (List ValueShape)
+locals_values h s [] = []
+locals_values h s (l ∷ ls) = local_values h s l ++ locals_values h (after_local s l) ls
+
+-- those of the tables, or of the actions, of a control
+abbrev pub top_values : Holder → Scope → Top → List (List ValueShape)
+top_values h s (control p c) = locals_values h (with_ways s c.params) c.locals
+top_values h s _ = []
+
+-- those of all tables, or of all actions, in the order of the text
+abbrev pub tops_values : Holder → Scope → List Top → List (List ValueShape)
+tops_values h s [] = []
+tops_values h s (t ∷ ts) = top_values h s t ++ tops_values h (after_top s t) ts
 
 -- ---- keys
 
@@ -23,35 +72,15 @@ use Rattle.p4_tables.specs.declared.shape.KeyShape.{KeyShape}
 abbrev pub kind_of : List ℕ → KeyKind
 kind_of x = if same_text x (codes "ternary") then Ternary else if same_text x (codes "lpm") then Lpm else Exact
 
--- the bits of keys by the rules, with this in sight
-abbrev pub key_widths : Scope → List (Expr × List ℕ) → List ℕ
-key_widths s [] = []
-key_widths s (k ∷ ks) = bits_in (own s k.0) ∷ key_widths s ks
+-- no value
+abbrev pub no_value : ValueShape
+no_value = record { width = 0; is_truth = false }
 
--- those of the table that a declaration of a control declares, if it does
-abbrev pub local_widths : Scope → Local → List (List ℕ)
-local_widths s (local_table p t) = key_widths s t.keys ∷ []
-local_widths s _ = []
-
-abbrev pub locals_widths : Scope → List Local → List (List ℕ)
-locals_widths s [] = []
-locals_widths s (l ∷ ls) = local_widths s l ++ locals_widths (after_local s l) ls
-
--- those of the tables of a control
-abbrev pub top_widths : Scope → Top → List (List ℕ)
-top_widths s (control p c) = locals_widths (with_ways s c.params) c.locals
-top_widths s _ = []
-
--- those of all tables, in the order of the text
-abbrev pub tops_widths : Scope → List Top → List (List ℕ)
-tops_widths s [] = []
-tops_widths s (t ∷ ts) = top_widths s t ++ tops_widths (after_top s t) ts
-
--- keys with their bits
-abbrev pub key_shapes : List Key → List ℕ → List KeyShape
-key_shapes [] ws = []
-key_shapes (k ∷ ks) [] = record { kind = kind_of k.kind; width = 0 } ∷ key_shapes ks []
-key_shapes (k ∷ ks) (w ∷ ws) = record { kind = kind_of k.kind; width = w } ∷ key_shapes ks ws
+-- keys with what they hold
+abbrev pub key_shapes : List Key → List ValueShape → List KeyShape
+key_shapes [] vs = []
+key_shapes (k ∷ ks) [] = record { kind = kind_of k.kind; value = no_value } ∷ key_shapes ks []
+key_shapes (k ∷ ks) (v ∷ vs) = record { kind = kind_of k.kind; value = v } ∷ key_shapes ks vs
 
 -- ---- actions
 
@@ -60,12 +89,13 @@ abbrev pub action_place : List Action → List ℕ → ℕ
 action_place [] x = 0
 action_place (a ∷ as') x = if same_text a.name x then 0 else suc (action_place as' x)
 
-abbrev pub param_widths : List Param → List ℕ
-param_widths ps = map (λ p. p.width) ps
+-- what the table or the action of a number holds
+abbrev pub values_at : List (List ValueShape) → ℕ → List ValueShape
+values_at vss i = get_or vss i []
 
--- the action of a full name in the list of a table
-abbrev pub action_shape : List Action → List ℕ → ActionShape
-action_shape as' x = record { number = action_place as' x; widths = param_widths (params_of (action_named as' x)) }
+-- the action of a full name in the list of a table, among actions whose parameters hold this
+abbrev pub action_shape : List Action → List (List ValueShape) → List ℕ → ActionShape
+action_shape as' pss x = record { number = action_place as' x; params = values_at pss (action_place as' x) }
 
 -- an action by its number
 abbrev pub numbered : List Action → Chosen → Act
@@ -73,23 +103,23 @@ numbered as' c = record { action = action_place as' c.action; args = c.args }
 
 -- ---- tables
 
--- what a table with these actions and these bits of its keys takes
-abbrev pub table_shape : List Action → Table → List ℕ → Shape
-table_shape as' t ws = record { keys = key_shapes t.keys ws; actions = map (action_shape as') t.actions; written = action_place as' t.default.action; fixed = t.fixed }
+-- what a table takes, where its keys hold `ks`, and the parameters of these actions `pss`
+abbrev pub table_shape : List Action → List (List ValueShape) → Table → List ValueShape → Shape
+table_shape as' pss t ks = record { keys = key_shapes t.keys ks; actions = map (action_shape as' pss) t.actions; written = action_place as' t.default.action; fixed = t.fixed }
 
 -- it holds no entry, and has the default that is written
-abbrev pub table_before : List Action → Table → List ℕ → Held
-table_before as' t ws = record { shape = table_shape as' t ws; listed = []; default = numbered as' t.default }
+abbrev pub table_before : List Action → List (List ValueShape) → Table → List ValueShape → Held
+table_before as' pss t ks = record { shape = table_shape as' pss t ks; listed = []; default = numbered as' t.default }
 
--- tables with the bits of their keys
-abbrev pub tables_before : List Action → List Table → List (List ℕ) → List Held
-tables_before as' [] kss = []
-tables_before as' (t ∷ ts) [] = table_before as' t [] ∷ tables_before as' ts []
-tables_before as' (t ∷ ts) (ks ∷ kss) = table_before as' t ks ∷ tables_before as' ts kss
+-- tables with what their keys hold
+abbrev pub tables_before : List Action → List (List ValueShape) → List Table → List (List ValueShape) → List Held
+tables_before as' pss [] kss = []
+tables_before as' pss (t ∷ ts) [] = table_before as' pss t [] ∷ tables_before as' pss ts []
+tables_before as' pss (t ∷ ts) (ks ∷ kss) = table_before as' pss t ks ∷ tables_before as' pss ts kss
 
 -- what the tables of a program hold before anything is loaded
 unfoldable pub state_before : Program → List Held
-state_before p = tables_before (parts_of p).actions (parts_of p).tables (tops_widths core p.tops)
+state_before p = tables_before (parts_of p).actions (tops_values Params core p.tops) (parts_of p).tables (tops_values Keys core p.tops)
 
 -- what tables take
 abbrev pub shapes : List Held → List Shape

@@ -1,15 +1,16 @@
 -- What tables take: how their keys are matched, and the actions of their lists, by number. Read `Entries` after it.
-use Rattle.std.specs.Prelude.{ℕ, List, [], ◌∷◌, Bool, true, false, ◌&&◌, ◌||◌, nat_eq, nat_le, if◌then◌else◌}
+use Rattle.std.specs.Prelude.{ℕ, List, [], ◌∷◌, Bool, true, false, ◌&&◌, ◌||◌, nat_eq, nat_le, if◌then◌else◌, Option, Some, None}
 use Rattle.bit_values.specs.Bits.{Word}
 use Rattle.p4_meaning.specs.Choice.{Match, exact, lpm, ternary}
 use Rattle.p4_tables.specs.declared.shape.KeyKind.{KeyKind}
 use Rattle.p4_tables.specs.declared.shape.KeyKind.TheVariants.{Exact, Lpm, Ternary}
 use Rattle.p4_tables.specs.declared.shape.KeyShape.{KeyShape}
+use Rattle.p4_tables.specs.declared.shape.ValueShape.{ValueShape}
 
--- an action of a table's list: its number, and the widths of its parameters
+-- an action of a table's list: its number, and what its parameters hold
 pub record ActionShape : Type 0 where
   pub number : ℕ
-  pub widths : List ℕ
+  pub params : List ValueShape
 
 -- what a table takes: its keys, the actions of its list, and of the default that is written the number of its action and
 -- whether it is `const`
@@ -53,9 +54,9 @@ has_two_prefixes (k ∷ ks) = (is_lpm k.kind && has_lpm ks) || has_two_prefixes 
 
 -- what is asked of a key is of its kind and its width, and a prefix is no longer than the key
 abbrev pub is_for_key : KeyShape → Match → Bool
-is_for_key k (exact v) = is_exact k.kind && nat_eq v.width k.width
-is_for_key k (lpm v n) = is_lpm k.kind && nat_eq v.width k.width && nat_le n k.width
-is_for_key k (ternary v m) = is_ternary k.kind && nat_eq v.width k.width && nat_eq m.width k.width
+is_for_key k (exact v) = is_exact k.kind && nat_eq v.width k.value.width
+is_for_key k (lpm v n) = is_lpm k.kind && nat_eq v.width k.value.width && nat_le n k.value.width
+is_for_key k (ternary v m) = is_ternary k.kind && nat_eq v.width k.value.width && nat_eq m.width k.value.width
 
 -- all are, one by one
 abbrev pub are_for_keys : List KeyShape → List Match → Bool
@@ -71,14 +72,19 @@ abbrev pub has_action : List ActionShape → ℕ → Bool
 has_action [] n = false
 has_action (a ∷ as') n = nat_eq a.number n || has_action as' n
 
--- words have these widths, one by one
-abbrev pub have_widths : List ℕ → List Word → Bool
+-- what the parameters of the action of a number hold, where it is one of these
+abbrev pub params_in : List ActionShape → ℕ → Option (List ValueShape)
+params_in [] n = None
+params_in (a ∷ as') n = if nat_eq a.number n then Some a.params else params_in as' n
+
+-- words have the widths of these values, one by one; a truth value is one bit
+abbrev pub have_widths : List ValueShape → List Word → Bool
 have_widths [] [] = true
 have_widths [] (w ∷ ws) = false
-have_widths (n ∷ ns) [] = false
-have_widths (n ∷ ns) (w ∷ ws) = nat_eq w.width n && have_widths ns ws
+have_widths (v ∷ vs) [] = false
+have_widths (v ∷ vs) (w ∷ ws) = nat_eq w.width v.width && have_widths vs ws
 
 -- the action of a number is one of these, and these words have the widths of its parameters
 abbrev pub takes : List ActionShape → ℕ → List Word → Bool
 takes [] n ws = false
-takes (a ∷ as') n ws = if nat_eq a.number n then have_widths a.widths ws else takes as' n ws
+takes (a ∷ as') n ws = if nat_eq a.number n then have_widths a.params ws else takes as' n ws

@@ -1,5 +1,5 @@
 -- What the values of the program stand for.
-use Rattle.std.specs.Prelude.{ℕ, List, [], map, get_or}
+use Rattle.std.specs.Prelude.{ℕ, List, map}
 use Rattle.std.specs.Global.{Vec}
 use Rattle.bit_values.specs.Bits.{Word}
 use Rattle.p4_meaning.specs.Choice.{Match, exact, lpm, ternary}
@@ -13,6 +13,7 @@ use Rattle.p4_tables.specs.declared.entry.Act as code_act
 use Rattle.p4_tables.specs.declared.entry.Chosen as code_chosen
 use Rattle.p4_tables.specs.declared.shape.ActionShape as code_action
 use Rattle.p4_tables.specs.declared.shape.Shape as code_shape
+use Rattle.p4_tables.specs.declared.shape.ValueShape.{ValueShape}
 use Rattle.p4_tables.specs.declared.held.Held as code_held
 
 -- what an entry asks of a key
@@ -38,7 +39,7 @@ chosen_act c = record { action = c.action; args = c.args.now }
 
 -- an action of a table's list, and what a table takes
 abbrev pub action_shape_of : code_action.ActionShape → ActionShape
-action_shape_of a = record { number = a.number; widths = a.widths.items }
+action_shape_of a = record { number = a.number; params = a.params.items }
 
 abbrev pub shape_of : code_shape.Shape → Shape
 shape_of s = record { keys = s.keys.items; actions = map action_shape_of s.actions.items; written = s.written; fixed = s.fixed }
@@ -47,12 +48,9 @@ shape_of s = record { keys = s.keys.items; actions = map action_shape_of s.actio
 abbrev pub held_of : code_held.Held → Held
 held_of h = record { shape = shape_of h.shape; listed = map entry_of h.listed.items; default = act_of h.default }
 
--- lists of numbers, and the one of a number
-abbrev pub lists_in : List (Vec ℕ) → List (List ℕ)
+-- lists of values
+abbrev pub lists_in : List (Vec ValueShape) → List (List ValueShape)
 lists_in vs = map (λ v. v.items) vs
-
-abbrev pub widths_at : List (List ℕ) → ℕ → List ℕ
-widths_at vs i = get_or vs i []
 
 -- all tables
 abbrev pub held_in : List code_held.Held → List Held

@@ -7,10 +7,10 @@ ghost use Rattle.p4_tables.specs.Faults.{takes_entry, fault_in, default_fault_in
 ghost use Rattle.p4_tables.specs.View.{match_of, entry_of, act_of, shape_of, held_of};
 
 use crate::entry::{Act, Entry, Match};
-use crate::fault::EntryFault;
 use crate::held::Held;
-use crate::shape::{KeyKind, KeyShape, Shape, has_action, has_ternary, takes};
+use crate::shape::{KeyKind, KeyShape, Shape, has_action, takes};
 use bit_values::Bits;
+use table_faults::EntryFault;
 
 /// Whether what is asked of a key is of its kind and its width.
 fn is_for_key(k: &KeyShape, m: &Match) -> bool
@@ -18,15 +18,15 @@ fn is_for_key(k: &KeyShape, m: &Match) -> bool
 {
     match m {
         Match::Exact(v) => match k.kind {
-            KeyKind::Exact => v.width() == k.width,
+            KeyKind::Exact => v.width() == k.value.width,
             KeyKind::Lpm | KeyKind::Ternary => false,
         },
         Match::Lpm(v, n) => match k.kind {
-            KeyKind::Lpm => v.width() == k.width && *n <= k.width,
+            KeyKind::Lpm => v.width() == k.value.width && *n <= k.value.width,
             KeyKind::Exact | KeyKind::Ternary => false,
         },
         Match::Ternary(v, mask) => match k.kind {
-            KeyKind::Ternary => v.width() == k.width && mask.width() == k.width,
+            KeyKind::Ternary => v.width() == k.value.width && mask.width() == k.value.width,
             KeyKind::Exact | KeyKind::Lpm => false,
         },
     }
@@ -137,7 +137,7 @@ fn has_priority(list: &[Entry], priority: u32) -> bool
 pub(crate) fn fault_in(held: &Held, count: u32, e: &Entry) -> Option<EntryFault>
     ensures { result ≡ fault_in (held_of held.now) count (entry_of e.now) }
 {
-    let has_ternary = has_ternary(&held.shape.keys);
+    let has_ternary = held.shape.has_ternary();
     if !has_action(&held.shape.actions, e.action) {
         Some(EntryFault::NoSuchAction)
     } else if !takes_entry(&held.shape, e) {

@@ -1,7 +1,7 @@
 //! What tables take.
 
-ghost use Rattle.std.specs.Prelude.{◌≡◌, ◌||◌, map, IfOk};
-ghost use Rattle.p4_tables.specs.Shapes.{has_ternary, has_action, takes, have_widths};
+ghost use Rattle.std.specs.Prelude.{◌≡◌, ◌||◌, map, option_map, IfOk};
+ghost use Rattle.p4_tables.specs.Shapes.{has_ternary, has_action, params_in, takes, have_widths};
 ghost use Rattle.p4_tables.specs.View.{action_shape_of, shape_of};
 
 use bit_values::Bits;
@@ -15,18 +15,26 @@ pub enum KeyKind {
     Ternary,
 }
 
-/// A key of a table: how it is matched, and its width.
+/// What a key or a parameter holds: how many bits, and whether its type is `bool`. A truth value is
+/// one bit.
+#[derive(Clone, Copy, Debug, PartialEq, Eq)]
+pub struct ValueShape {
+    pub width: u8,
+    pub is_truth: bool,
+}
+
+/// A key of a table: how it is matched, and what it holds.
 #[derive(Clone, Copy, Debug, PartialEq, Eq)]
 pub struct KeyShape {
     pub kind: KeyKind,
-    pub width: u8,
+    pub value: ValueShape,
 }
 
-/// An action of a table's list, by its number, and the widths of its parameters.
+/// An action of a table's list: its number, and what its parameters hold, in their order.
 #[derive(Debug, Drop)]
 pub struct ActionShape {
     pub number: u32,
-    pub widths: Vec<u8>,
+    pub params: Vec<ValueShape>,
 }
 
 /// What a table takes: its keys, the actions of its list, and of the default that is written the
@@ -39,8 +47,25 @@ pub struct Shape {
     pub fixed: bool,
 }
 
+impl Shape {
+    /// Whether some key is matched under a mask.
+    pub fn has_ternary(&self) -> bool
+        ensures { result ≡ has_ternary (shape_of self.now).keys }
+    {
+        has_ternary(&self.keys)
+    }
+
+    /// What the parameters of the action of a number hold, where it is in the table's list.
+    pub fn params(&self, action: u32) -> Option<&[ValueShape]>
+        ensures { option_map (λ values. values.now) result
+            ≡ params_in (shape_of self.now).actions action }
+    {
+        params_in(&self.actions, action)
+    }
+}
+
 /// Whether some key is matched under a mask.
-pub(crate) fn has_ternary(keys: &[KeyShape]) -> bool
+fn has_ternary(keys: &[KeyShape]) -> bool
     ensures { result ≡ has_ternary keys.now }
 {
     for k in keys {
@@ -64,19 +89,32 @@ pub(crate) fn has_action(actions: &[ActionShape], number: u32) -> bool
     false
 }
 
-/// Whether words have these widths, one by one.
-fn have_widths(widths: &[u8], words: &[Bits]) -> bool
-    ensures { result ≡ have_widths widths.now words.now }
+/// What the parameters of the action of a number hold, where it is one of these.
+fn params_in(actions: &[ActionShape], number: u32) -> Option<&[ValueShape]>
+    ensures { option_map (λ values. values.now) result
+        ≡ params_in (map action_shape_of actions.now) number }
 {
-    for i in 0..widths.len() {
+    for a in actions {
+        if a.number == number {
+            return Some(&a.params);
+        }
+    }
+    None
+}
+
+/// Whether words have the widths of these values, one by one.
+fn have_widths(values: &[ValueShape], words: &[Bits]) -> bool
+    ensures { result ≡ have_widths values.now words.now }
+{
+    for i in 0..values.len() {
         if i >= words.len() {
             return false;
         }
-        if words[i].width() != widths[i] {
+        if words[i].width() != values[i].width {
             return false;
         }
     }
-    if widths.len() < words.len() {
+    if values.len() < words.len() {
         return false;
     }
     true
@@ -88,18 +126,18 @@ pub(crate) fn takes(actions: &[ActionShape], number: u32, args: &[Bits]) -> bool
 {
     for a in actions {
         if a.number == number {
-            return have_widths(&a.widths, args);
+            return have_widths(&a.params, args);
         }
     }
     false
 }
 
-fn copy_widths(alloc: Global, list: &[u8]) -> Result<Vec<u8>, AllocError>
+pub(crate) fn copy_values(alloc: Global, list: &[ValueShape]) -> Result<Vec<ValueShape>, AllocError>
     ensures { IfOk result (λ v. v.items ≡ list.now) }
 {
     let mut copies = Vec::new(alloc);
-    for w in list {
-        copies.push(*w)?;
+    for v in list {
+        copies.push(*v)?;
     }
     Ok(copies)
 }
@@ -117,10 +155,10 @@ fn copy_keys(alloc: Global, list: &[KeyShape]) -> Result<Vec<KeyShape>, AllocErr
 fn copy_action(alloc: Global, a: &ActionShape) -> Result<ActionShape, AllocError>
     ensures { IfOk result (λ b. action_shape_of b ≡ action_shape_of a.now) }
 {
-    let widths = copy_widths(alloc, &a.widths)?;
+    let params = copy_values(alloc, &a.params)?;
     Ok(ActionShape {
         number: a.number,
-        widths,
+        params,
     })
 }
 

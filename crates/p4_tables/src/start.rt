@@ -1,18 +1,17 @@
 //! What the tables of a program take, and what they hold before anything is loaded.
 
 ghost use Rattle.std.specs.Prelude.{◌≡◌, get_or, map, IfOk};
-ghost use Rattle.std.specs.Option.{option_map};
 ghost use Rattle.p4_tree.specs.View.{program_of};
-ghost use Rattle.p4_parts.specs.PartsIn.{action_in, chosen_in, key_in, param_in, table_in};
-ghost use Rattle.p4_tables.specs.Programs.{kind_of, key_shapes, action_place, param_widths, action_shape, numbered, table_shape, table_before, tables_before, state_before};
-ghost use Rattle.p4_tables.specs.View.{action_shape_of, shape_of, act_of, held_of, held_in, lists_in, widths_at};
+ghost use Rattle.p4_parts.specs.PartsIn.{action_in, chosen_in, key_in, table_in};
+ghost use Rattle.p4_tables.specs.Programs.{kind_of, no_value, values_at, key_shapes, action_place, action_shape, numbered, table_shape, table_before, tables_before, state_before};
+ghost use Rattle.p4_tables.specs.View.{action_shape_of, shape_of, act_of, held_of, held_in, lists_in};
 
 use crate::entry::{Act, copy_words};
 use crate::held::Held;
-use crate::shape::{ActionShape, KeyKind, KeyShape, Shape};
-use crate::widths::widths_of;
+use crate::shape::{ActionShape, KeyKind, KeyShape, Shape, ValueShape, copy_values};
+use crate::values::{Holder, values_of};
 use lex_text::Name;
-use p4_parts::{Action, Chosen, Key, Table, Taken, action_named, params_of, parts_of};
+use p4_parts::{Action, Chosen, Key, Table, parts_of};
 use p4_tree::Program;
 use std::alloc::{AllocError, Global};
 
@@ -29,26 +28,33 @@ fn kind_of(name: &Name) -> KeyKind
     }
 }
 
-/// The bits of the key of a number, or 0.
-fn width_at(widths: &[u8], i: usize) -> u8
-    ensures { result ≡ get_or widths.now i 0 }
+/// What the key of a number holds.
+fn value_at(values: &[ValueShape], i: usize) -> ValueShape
+    ensures { result ≡ get_or values.now i no_value }
 {
-    match widths.get(i) {
-        Some(width) => *width,
-        None => 0,
+    match values.get(i) {
+        Some(value) => *value,
+        None => ValueShape {
+            width: 0,
+            is_truth: false,
+        },
     }
 }
 
-/// Keys with their bits.
+/// Keys with what they hold.
 #[tactic(auto, using(crate::proofs::Steps::keys_step))]
-fn key_shapes(alloc: Global, keys: &[Key], widths: &[u8]) -> Result<Vec<KeyShape>, AllocError>
-    ensures { IfOk result (λ v. v.items ≡ key_shapes (map key_in keys.now) widths.now) }
+fn key_shapes(
+    alloc: Global,
+    keys: &[Key],
+    values: &[ValueShape],
+) -> Result<Vec<KeyShape>, AllocError>
+    ensures { IfOk result (λ v. v.items ≡ key_shapes (map key_in keys.now) values.now) }
 {
     let mut shapes = Vec::new(alloc);
     for i in 0..keys.len() {
         let kind = kind_of(&keys[i].kind);
-        let width = width_at(widths, i);
-        shapes.push(KeyShape { kind, width })?;
+        let value = value_at(values, i);
+        shapes.push(KeyShape { kind, value })?;
     }
     Ok(shapes)
 }
@@ -67,37 +73,43 @@ fn action_place(actions: &[Action], name: &Name) -> Result<u32, AllocError>
     Ok(place)
 }
 
-fn param_widths(alloc: Global, params: &[Taken]) -> Result<Vec<u8>, AllocError>
-    ensures { IfOk result (λ v. v.items ≡ param_widths (map param_in params.now)) }
+/// What the table or the action of a number holds.
+fn values_at(lists: &[Vec<ValueShape>], i: usize) -> &[ValueShape]
+    ensures { result.now ≡ values_at (lists_in lists.now) i }
 {
-    let mut widths = Vec::new(alloc);
-    for p in params {
-        widths.push(p.width)?;
+    match lists.get(i) {
+        Some(list) => list,
+        None => &[],
     }
-    Ok(widths)
 }
 
 /// The action of a full name in the list of a table.
-fn action_shape(alloc: Global, actions: &[Action], name: &Name) -> Result<ActionShape, AllocError>
+fn action_shape(
+    alloc: Global,
+    actions: &[Action],
+    params: &[Vec<ValueShape>],
+    name: &Name,
+) -> Result<ActionShape, AllocError>
     ensures { IfOk result (λ a. action_shape_of a
-        ≡ action_shape (map action_in actions.now) name.now) }
+        ≡ action_shape (map action_in actions.now) (lists_in params.now) name.now) }
 {
     let number = action_place(actions, name)?;
-    let widths = param_widths(alloc, params_of(action_named(actions, name.as_str())))?;
-    Ok(ActionShape { number, widths })
+    let params = copy_values(alloc, values_at(params, number as usize))?;
+    Ok(ActionShape { number, params })
 }
 
 fn action_shapes(
     alloc: Global,
     actions: &[Action],
+    params: &[Vec<ValueShape>],
     names: &[Name],
 ) -> Result<Vec<ActionShape>, AllocError>
     ensures { IfOk result (λ v. map action_shape_of v.items
-        ≡ map (action_shape (map action_in actions.now)) names.now) }
+        ≡ map (action_shape (map action_in actions.now) (lists_in params.now)) names.now) }
 {
     let mut shapes = Vec::new(alloc);
     for name in names {
-        shapes.push(action_shape(alloc, actions, name)?)?;
+        shapes.push(action_shape(alloc, actions, params, name)?)?;
     }
     Ok(shapes)
 }
@@ -111,18 +123,19 @@ fn numbered(alloc: Global, actions: &[Action], c: &Chosen) -> Result<Act, AllocE
     Ok(Act { action, args })
 }
 
-/// What a table with these actions and these bits of its keys takes.
+/// What a table takes, where its keys hold `keys`, and the parameters of the actions `params`.
 fn table_shape(
     alloc: Global,
     actions: &[Action],
+    params: &[Vec<ValueShape>],
     table: &Table,
-    widths: &[u8],
+    keys: &[ValueShape],
 ) -> Result<Shape, AllocError>
     ensures { IfOk result (λ s. shape_of s
-        ≡ table_shape (map action_in actions.now) (table_in table.now) widths.now) }
+        ≡ table_shape (map action_in actions.now) (lists_in params.now) (table_in table.now) keys.now) }
 {
-    let keys = key_shapes(alloc, &table.keys, widths)?;
-    let list = action_shapes(alloc, actions, &table.actions)?;
+    let keys = key_shapes(alloc, &table.keys, keys)?;
+    let list = action_shapes(alloc, actions, params, &table.actions)?;
     let written = action_place(actions, &table.default.action)?;
     Ok(Shape {
         keys,
@@ -136,13 +149,14 @@ fn table_shape(
 fn table_before(
     alloc: Global,
     actions: &[Action],
+    params: &[Vec<ValueShape>],
     table: &Table,
-    widths: &[u8],
+    keys: &[ValueShape],
 ) -> Result<Held, AllocError>
     ensures { IfOk result (λ h. held_of h
-        ≡ table_before (map action_in actions.now) (table_in table.now) widths.now) }
+        ≡ table_before (map action_in actions.now) (lists_in params.now) (table_in table.now) keys.now) }
 {
-    let shape = table_shape(alloc, actions, table, widths)?;
+    let shape = table_shape(alloc, actions, params, table, keys)?;
     let default = numbered(alloc, actions, &table.default)?;
     let listed = Vec::new(alloc);
     Ok(Held {
@@ -152,30 +166,22 @@ fn table_before(
     })
 }
 
-/// The bits of the keys of the table of a number.
-fn widths_at(widths: &[Vec<u8>], i: usize) -> &[u8]
-    ensures { result.now ≡ widths_at (lists_in widths.now) i }
-{
-    match widths.get(i) {
-        Some(list) => list,
-        None => &[],
-    }
-}
-
-/// Tables with the bits of their keys.
+/// Tables with what their keys hold.
 #[tactic(auto, using(crate::proofs::Steps::tables_step))]
 fn tables_before(
     alloc: Global,
     actions: &[Action],
+    params: &[Vec<ValueShape>],
     tables: &[Table],
-    widths: &[Vec<u8>],
+    keys: &[Vec<ValueShape>],
 ) -> Result<Vec<Held>, AllocError>
     ensures { IfOk result (λ v. held_in v.items
-        ≡ tables_before (map action_in actions.now) (map table_in tables.now) (lists_in widths.now)) }
+        ≡ tables_before (map action_in actions.now) (lists_in params.now)
+        (map table_in tables.now) (lists_in keys.now)) }
 {
     let mut held = Vec::new(alloc);
     for i in 0..tables.len() {
-        held.push(table_before(alloc, actions, &tables[i], widths_at(widths, i))?)?;
+        held.push(table_before(alloc, actions, params, &tables[i], values_at(keys, i))?)?;
     }
     Ok(held)
 }
@@ -185,6 +191,7 @@ pub(crate) fn state_before(alloc: Global, p: &Program) -> Result<Vec<Held>, Allo
     ensures { IfOk result (λ v. held_in v.items ≡ state_before (program_of p.now)) }
 {
     let parts = parts_of(alloc, p)?;
-    let widths = widths_of(alloc, &p.tops)?;
-    tables_before(alloc, &parts.actions, &parts.tables, &widths)
+    let params = values_of(alloc, Holder::Params, &p.tops)?;
+    let keys = values_of(alloc, Holder::Keys, &p.tops)?;
+    tables_before(alloc, &parts.actions, &params, &parts.tables, &keys)
 }

@@ -9,19 +9,19 @@ ghost use Rattle.p4_tables.specs.Faults.{entry_fault, default_fault, IsReplaceab
 ghost use Rattle.p4_tables.specs.Answers.{IsHit, IsMiss};
 ghost use Rattle.p4_tables.specs.Programs.{shapes, state_before};
 ghost use Rattle.p4_tables.specs.Laws.{ChoicesAreUnique, RunsListed};
-ghost use Rattle.p4_tables.specs.View.{entry_of, act_of, given_act, chosen_act, held_in};
+ghost use Rattle.p4_tables.specs.View.{entry_of, act_of, given_act, chosen_act, shape_of, held_in};
 
 use crate::choice::find;
 use crate::compare::{default_fault_in, fault_in};
 use crate::entry::{Act, Chosen, Entry};
-use crate::fault::EntryFault;
 use crate::held::{Held, copy_tables, put_all, put_default, put_entry};
-use crate::shape::has_ternary;
+use crate::shape::Shape;
 use crate::start::state_before;
 use bit_values::Bits;
 use p4_types::TypedProgram;
 use std::alloc::{AllocError, Global};
 use std::marker::Model;
+use table_faults::EntryFault;
 
 /// All tables of a switch. Contracts see what each of them takes and holds, by its number.
 #[derive(Debug, Drop)]
@@ -78,6 +78,14 @@ impl TableState {
         ensures { result ≡ nat_lt table (length self.now) }
     {
         (table as usize) < self.tables.len()
+    }
+
+    /// What the table of a number takes.
+    pub fn shape(&self, table: u32) -> &Shape
+        requires { table < length self.now }
+        ensures { shape_of result.now ≡ (held_at self.now table).shape }
+    {
+        &self.tables[table as usize].shape
     }
 
     /// Puts an entry behind those of the table of a number.
@@ -157,7 +165,7 @@ impl TableState {
             (IsMiss (held_at self.now table) keys.now (chosen_act result)) }
     {
         let held = &self.tables[table as usize];
-        match find(has_ternary(&held.shape.keys), &held.listed, keys) {
+        match find(held.shape.has_ternary(), &held.listed, keys) {
             Some(e) => Chosen {
                 action: e.action,
                 args: &e.args,

@@ -1,7 +1,7 @@
-use Rattle.std.proofs.Common.{◌++◌, ◌∷◌, [], map, refl}
+use Rattle.std.proofs.Common.{map, refl}
 use Rattle.p4_tables.specs.State.{Held}
-use Rattle.p4_tables.specs.View.{entry_of, act_of}
-use Rattle.p4_tables.proofs.Changed.{put_at, kept_at}
+use Rattle.p4_tables.specs.View.{entry_of}
+use Rattle.p4_tables.proofs.Changed.{put_at}
 use Rattle.p4_tables.proofs.held.put_listed.Goals as goal
 
 pub returns : goal.returns

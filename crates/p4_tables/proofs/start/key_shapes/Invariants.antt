@@ -4,4 +4,4 @@ use Rattle.p4_tables.specs.Programs.{key_shapes}
 use Rattle.p4_tables.proofs.start.key_shapes.Given as goal
 
 abbrev pub invariant-loop-i : goal.invariant-loop-i
-invariant-loop-i l = l.shapes.items ++ key_shapes (map key_in (drop l.i l.keys)) (drop l.i l.widths) ≡ key_shapes (map key_in l.keys) l.widths
+invariant-loop-i l = l.shapes.items ++ key_shapes (map key_in (drop l.i l.keys)) (drop l.i l.values) ≡ key_shapes (map key_in l.keys) l.values

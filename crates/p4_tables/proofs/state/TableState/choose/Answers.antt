@@ -18,7 +18,7 @@ returns-in-Some-clause-hit c =
     ∙ ap (λ st. held_at st c.args.table) c.self.view_is
     in
     let found : found_in (has_ternary c.index-held.result.now.shape.keys.items) (map entry_of c.index-held.result.now.listed.items) c.args.keys.now ≡ Some (entry_of c.in-Some.e.now) =
-    sym (ap₂ (λ t es. found_in t (map entry_of es) c.args.keys.now) (c.has_ternary.ensures ∙ ap has_ternary c.deref.ensures.value) c.deref-2.ensures.value)
+    sym (ap₂ (λ t es. found_in t (map entry_of es) c.args.keys.now) c.has_ternary.ensures c.deref.ensures.value)
     ∙ sym c.find.ensures
     ∙ ap (λ o. option_map entry_of (lent o)) c.in-Some.is
     in
@@ -33,7 +33,7 @@ returns-in-None-clause-miss c =
     ∙ ap (λ st. held_at st c.args.table) c.self.view_is
     in
     let found : found_in (has_ternary c.index-held.result.now.shape.keys.items) (map entry_of c.index-held.result.now.listed.items) c.args.keys.now ≡ None =
-    sym (ap₂ (λ t es. found_in t (map entry_of es) c.args.keys.now) (c.has_ternary.ensures ∙ ap has_ternary c.deref.ensures.value) c.deref-2.ensures.value)
+    sym (ap₂ (λ t es. found_in t (map entry_of es) c.args.keys.now) c.has_ternary.ensures c.deref.ensures.value)
     ∙ sym c.find.ensures
     ∙ ap (λ o. option_map entry_of (lent o)) c.in-None.is
     in

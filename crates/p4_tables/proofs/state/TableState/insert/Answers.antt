@@ -1,5 +1,5 @@
 use Rattle.std.proofs.Common.{◌≡◌, ◌<◌, None, [], ◌∷◌, ◌++◌, length, sym, ap, subst, ◌∙◌}
-use Rattle.p4_tables.specs.State.{Held, held_at}
+use Rattle.p4_tables.specs.State.{held_at}
 use Rattle.p4_tables.specs.Programs.{shapes}
 use Rattle.p4_tables.specs.Faults.{entry_fault}
 use Rattle.p4_tables.specs.View.{entry_of, held_in}

@@ -1,4 +1,4 @@
-use Rattle.std.proofs.Common.{◌≡◌, ◌≤◌, map, ap, subst, sym, ◌∙◌}
+use Rattle.std.proofs.Common.{◌≤◌, map, ap, subst, sym, ◌∙◌}
 use Rattle.std.specs.Option.{option_map}
 use Rattle.p4_tables.specs.State.{entries_in}
 use Rattle.p4_tables.specs.Programs.{shapes}

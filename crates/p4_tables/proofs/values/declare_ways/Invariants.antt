@@ -1,7 +1,7 @@
 use Rattle.std.proofs.Common.{◌≡◌, ◌≤◌, drop, take, length}
 use Rattle.p4_scopes.specs.View.{scope_of}
 use Rattle.p4_declaration_rules.specs.Parsers.{with_ways}
-use Rattle.p4_tables.proofs.widths.declare_ways.Given as goal
+use Rattle.p4_tables.proofs.values.declare_ways.Given as goal
 
 abbrev pub invariant-loop-p : goal.invariant-loop-p
 invariant-loop-p l = record {
