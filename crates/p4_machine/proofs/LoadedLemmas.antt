@@ -15,12 +15,12 @@ use Rattle.p4_meaning.specs.Parts.{Parts, parts_of}
 use Rattle.p4_parts.specs.PartsIn.{action_in}
 use Rattle.p4_parts.specs.declared.parts.Action as code_action
 use Rattle.p4_statements.specs.Outcomes.{Outcome, outcome_from, outcome_in, outcome_at}
-use Rattle.p4_scopes.specs.Scopes.{core}
 use Rattle.p4_tables.specs.Shapes.{Shape, has_ternary}
 use Rattle.p4_tables.specs.Entries.{Act, named}
 use Rattle.p4_tables.specs.State.{Held, held_at, no_table}
 use Rattle.p4_tables.specs.Answers.{IsHit, IsMiss}
-use Rattle.p4_tables.specs.Programs.{shapes, kind_of, key_shapes, table_before, tables_before, state_before, tops_widths}
+use Rattle.p4_tables.specs.Programs.{shapes, kind_of, key_shapes, table_before, tables_before, state_before, keys_hold, params_hold}
+use Rattle.p4_tables.specs.declared.shape.ValueShape.{ValueShape}
 use Rattle.p4_tables.specs.Named.{action_name, entries_named, tables_named, tables_in, table_place}
 use Rattle.p4_tables.proofs.Applied.{same_ternary, miss_chosen}
 use Rattle.p4_machine.specs.Loaded.{same_truth, are_for, fits_in}
@@ -58,14 +58,14 @@ as_test (t ∷ ts) (s ∷ ss) f = and_from (same_truth (has_ternary s.keys) (mea
 
 -- ---- the tables of a program
 
-before_for : (as' : List Action) (ts : List Table) (kss : List (List ℕ)) → AreFor ts (shapes (tables_before as' ts kss))
-before_for as' [] kss = tt
-before_for as' (t ∷ ts) [] = (same_ternary t.keys [], before_for as' ts [])
-before_for as' (t ∷ ts) (ks ∷ kss) = (same_ternary t.keys ks, before_for as' ts kss)
+before_for : (as' : List Action) (pss : List (List ValueShape)) (ts : List Table) (kss : List (List ValueShape)) → AreFor ts (shapes (tables_before as' pss ts kss))
+before_for as' pss [] kss = tt
+before_for as' pss (t ∷ ts) [] = (same_ternary t.keys [], before_for as' pss ts [])
+before_for as' pss (t ∷ ts) (ks ∷ kss) = (same_ternary t.keys ks, before_for as' pss ts kss)
 
 pub state_for : (p : Program) (st : List Held) → shapes st ≡ shapes (state_before p) → are_for (parts_of p).tables (shapes st) ≡ true
 unfolding state_before
-state_for p st e = ap (are_for (parts_of p).tables) e ∙ as_test (parts_of p).tables _ (before_for (parts_of p).actions (parts_of p).tables (tops_widths core p.tops))
+state_for p st e = ap (are_for (parts_of p).tables) e ∙ as_test (parts_of p).tables _ (before_for (parts_of p).actions (params_hold p) (parts_of p).tables (keys_hold p))
 
 -- ---- the table of a name
 

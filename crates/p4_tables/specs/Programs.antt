@@ -117,9 +117,16 @@ tables_before as' pss [] kss = []
 tables_before as' pss (t ∷ ts) [] = table_before as' pss t [] ∷ tables_before as' pss ts []
 tables_before as' pss (t ∷ ts) (ks ∷ kss) = table_before as' pss t ks ∷ tables_before as' pss ts kss
 
+-- what the keys of a program's tables hold, and what the parameters of its actions do
+abbrev pub keys_hold : Program → List (List ValueShape)
+keys_hold p = tops_values Keys core p.tops
+
+abbrev pub params_hold : Program → List (List ValueShape)
+params_hold p = tops_values Params core p.tops
+
 -- what the tables of a program hold before anything is loaded
 unfoldable pub state_before : Program → List Held
-state_before p = tables_before (parts_of p).actions (tops_values Params core p.tops) (parts_of p).tables (tops_values Keys core p.tops)
+state_before p = tables_before (parts_of p).actions (params_hold p) (parts_of p).tables (keys_hold p)
 
 -- what tables take
 abbrev pub shapes : List Held → List Shape
