@@ -3,8 +3,8 @@
 //! The layer above gets `TableState`, all tables of one switch, by their numbers in the text of a
 //! well-typed program (`new`). `insert` and `set_default` test what they are given; `replace` puts a
 //! list that was tested into the place of another; `choose` answers the action that a table runs for
-//! its keys; `shape` says what a table takes, for readers of entries. Contracts see a list of what
-//! each table takes and holds (`specs/State`).
+//! its keys; `shape` says what a table takes, for readers of entries, `listed` and `default` what it
+//! holds. Contracts see a list of what each table takes and holds (`specs/State`).
 //!
 //! `choose` takes no memory. What it answers is said by the relation `IsChosen` of `p4_meaning`, and
 //! no two entries that a table holds have that relation to the same keys (`choices_are_unique`).

@@ -88,6 +88,22 @@ impl TableState {
         &self.tables[table as usize].shape
     }
 
+    /// The entries of the table of a number, in the order in which they came.
+    pub fn listed(&self, table: u32) -> &[Entry]
+        requires { table < length self.now }
+        ensures { map entry_of result.now ≡ (held_at self.now table).listed }
+    {
+        &self.tables[table as usize].listed
+    }
+
+    /// What the table of a number runs where no entry fits.
+    pub fn default(&self, table: u32) -> &Act
+        requires { table < length self.now }
+        ensures { act_of result.now ≡ (held_at self.now table).default }
+    {
+        &self.tables[table as usize].default
+    }
+
     /// Puts an entry behind those of the table of a number.
     pub fn insert(&mut self, table: u32, e: Entry) -> Result<(), EntryFault>
         requires { table < length self.old }
