@@ -1,0 +1,12 @@
+-- Lemmas.
+mod Telling
+mod Lists
+mod Going
+mod Shown
+mod Entering
+mod Leaving
+mod Standing
+mod Departing
+mod Running
+mod Starting
+mod Ending

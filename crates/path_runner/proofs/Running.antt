@@ -1,0 +1,41 @@
+-- Events one behind the other.
+use Rattle.std.proofs.Common.{◌≡◌, ℕ, zero, suc, ◌+◌, List, [], ◌∷◌, ◌++◌, refl, ap, sym, ◌∙◌, subst, arith}
+use Rattle.p4_meaning.specs.Pass.{Kept, Queued}
+use Rattle.indus_tree.specs.State.{Contents}
+use Rattle.network_run.specs.Network.{Net}
+use Rattle.network_run.specs.Events.{Event, Enter, Leave, to_its_end}
+use Rattle.network_run.specs.NetworkRun.{run_of_halves}
+use Rattle.network_run.proofs.Ends.{run_append}
+use Rattle.network_file.specs.Wiring.{wiring_of}
+use Rattle.path_runner.specs.Programs.{Programs, machine_of}
+use Rattle.path_runner.specs.Nets.{State, Shows, RunsTo, AreKept, IsSame, run_in}
+
+pub kept_then : (s t u : State) → AreKept s t → AreKept t u → AreKept s u
+kept_then s t u a b = record { network = b.network ∙ a.network; programs = b.programs ∙ a.programs; tables = b.tables ∙ a.tables }
+
+pub same_then : (s t u : State) → IsSame s t → IsSame t u → IsSame s u
+same_then s t u a b = record { kept = kept_then s t u a.kept b.kept; limits = b.limits ∙ a.limits; packets = b.packets ∙ a.packets }
+
+-- a run in the same network, within the same limits
+run_same : (p : Programs) (s t : State) (w : Net Kept Queued Contents) (es : List (Event Contents)) → IsSame s t → run_in p t w es ≡ run_in p s w es
+run_same p s t w es same = rw (same.kept.network, same.limits) refl
+
+pub runs_then : (s t u : State) (es fs : List (Event Contents)) → IsSame s t → RunsTo s es t → RunsTo t fs u → RunsTo s (es ++ fs) u
+runs_then s t u es fs same one other p w h =
+    let behind : Shows p u (run_in p t (run_in p s w es) fs) = other p (run_in p s w es) (one p w h) in
+    subst (λ (v : Net Kept Queued Contents). Shows p u v)
+    (run_same p s t (run_in p s w es) fs same ∙ sym (run_append (machine_of p) (wiring_of s.network) s.limits es fs w)) behind
+
+-- one switch more on the way of a packet to its end
+ends_more : (i n : ℕ) → to_its_end {C = Contents} i (suc n) ≡ to_its_end i n ++ (Enter i ∷ Leave i ∷ [])
+ends_more i zero = refl
+ends_more i (suc n) = ap (λ (es : List (Event Contents)). Leave i ∷ Enter i ∷ es) (ends_more i n)
+
+pub end_more :
+    (s t u v : State) (i n : ℕ) → IsSame s t → RunsTo s (to_its_end i n) t → IsSame t u → RunsTo t (Enter i ∷ []) u → RunsTo u (Leave i ∷ []) v →
+    RunsTo s (to_its_end i (n + 1)) v
+end_more s t u v i n same runs same' enters leaves =
+    let both : RunsTo t (Enter i ∷ Leave i ∷ []) v = runs_then t u v (Enter i ∷ []) (Leave i ∷ []) same' enters leaves in
+    let all : RunsTo s (to_its_end i n ++ (Enter i ∷ Leave i ∷ [])) v = runs_then s t v (to_its_end i n) (Enter i ∷ Leave i ∷ []) same runs both in
+    let is : n + 1 ≡ suc n = omega arith in
+    subst (λ (es : List (Event Contents)). RunsTo s es v) (sym (ap (to_its_end i) is ∙ ends_more i n)) all

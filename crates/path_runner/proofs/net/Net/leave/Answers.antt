@@ -1,0 +1,116 @@
+use Rattle.std.proofs.Common.{◌≡◌, ℕ, ◌<◌, ◌≤◌, ◌+◌, length, map, set, get_or, Some, refl, ap, sym, ◌∙◌, arith}
+use Rattle.std.proofs.lemmas.List.{map-set, set-set, length-set, length-map}
+use Rattle.p4_machine.specs.Buffers.{place_of}
+use Rattle.network_run.specs.Network.{Over, Place}
+use Rattle.network_file.specs.Wiring.{wiring_of}
+use Rattle.p4_meaning.specs.Pass.{Queued}
+use Rattle.path_runner.specs.Nets.{Traffic}
+use Rattle.path_runner.specs.Places.{place_in, limits_of}
+use Rattle.path_runner.specs.Sound.{is_within}
+use Rattle.path_runner.specs.Switches.{exit_at}
+use Rattle.path_runner.specs.Views.{state_of, station_in, traffic_in}
+use Rattle.path_runner.proofs.Lists.{all_pass}
+use Rattle.path_runner.proofs.Standing.{read_item, view_there, views_same, waiting_known}
+use Rattle.path_runner.proofs.Departing.{left_within, left_counted, taken_going}
+use Rattle.path_runner.proofs.Leaving.{left_runs}
+use Rattle.path_runner.proofs.net.Net.leave.Goals as goal
+
+pub leave-requires-clause-counted : goal.leave-requires-clause-counted
+leave-requires-clause-counted g c =
+    let n = c.args.self.now in
+    let k = c.in-Some.parked in
+    let known = waiting_known (length n.network.names) (limits_of n.limits) (map place_in n.places.items) c.args.packet c.requires n.within k.switch k.port k.passed (place_of k.queued).waiting k.full c.in-Some.ensures.taken.1 in
+    omega (arith, known.going, n.counted)
+
+pub invariant_of-self-in-Break-1 : goal.invariant_of-self-in-Break-1
+invariant_of-self-in-Break-1 g c =
+    let n = c.args.self.now in
+    let k = c.in-Some.parked in
+    let ps = map place_in n.places.items in
+    let fewer_places : length c.take_parked.new.places.items ≡ length n.places.items = c.in-Some.ensures.length in
+    let fewer = taken_going ps c.args.packet k.switch k.port k.passed 0 (place_of k.queued).waiting c.requires k.full c.in-Some.ensures.taken.1 in
+    record {
+      switches = length-set n.stations.items k.switch c.leave.new.station ∙ n.switches;
+      wired = n.wired;
+      within = rw c.in-Some.ensures.taken.0 (all_pass (is_within (length n.network.names) (limits_of n.limits)) ps c.args.packet Over n.within refl);
+      few = omega (arith, fewer_places, n.few);
+      link = n.link;
+      counted = rw c.in-Some.ensures.taken.0 (omega (arith, fewer, c.leave.ensures.counted, n.counted));
+    }
+
+pub returns-in_err-next-clause-same : goal.returns-in_err-next-clause-same
+returns-in_err-next-clause-same g c =
+    let n = c.args.self.now in
+    let k = c.in-Some.parked in
+    let ps = map place_in n.places.items in
+    let known = waiting_known (length n.network.names) (limits_of n.limits) ps c.args.packet c.requires n.within k.switch k.port k.passed (place_of k.queued).waiting k.full c.in-Some.ensures.taken.1 in
+    let x = c.index_mut-station.result.now in
+    let unit = read_item n.stations.items (length n.stations.items) k.switch x refl (omega (arith, known.switch_there, n.switches)) c.index_mut-station.ensures.value in
+    record {
+      kept = record {
+        network = refl;
+        programs = views_same station_in (λ x. x.program) n.stations.items k.switch x c.leave.new.station unit c.leave.ensures.program;
+        tables = views_same station_in (λ x. x.tables) n.stations.items k.switch x c.leave.new.station unit c.leave.ensures.tables;
+      };
+      limits = refl;
+      packets = ap (λ (l : _). length l) c.in-Some.ensures.taken.0 ∙ length-set ps c.args.packet Over;
+    }
+
+pub invariant_of-self-2 : goal.invariant_of-self-2
+invariant_of-self-2 g c =
+    let n = c.args.self.now in
+    let k = c.in-Some.parked in
+    let ps = map place_in n.places.items in
+    let o = (place_of k.queued).waiting in
+    let x = exit_at (station_in c.index_mut-station.result.now) o in
+    let fewer_places : length c.take_parked.new.places.items ≡ length n.places.items = c.in-Some.ensures.length in
+    let is = ap place_in c.replace-over.ensures.after ∙ c.in_ok-next.ensures.place in
+    record {
+      switches = length-set n.stations.items k.switch c.leave.new.station ∙ n.switches;
+      wired = n.wired;
+      within = rw (map-set place_in c.take_parked.new.places.items c.args.packet c.replace-over.new.dest, c.in-Some.ensures.taken.0, set-set ps c.args.packet Over (place_in c.replace-over.new.dest), is)
+          (all_pass (is_within (length n.network.names) (limits_of n.limits)) ps c.args.packet _ n.within
+          (left_within (wiring_of n.network) (limits_of n.limits) (traffic_in n.traffic) c.args.packet k.switch k.passed x n.wired));
+      few = omega (arith, length-set c.take_parked.new.places.items c.args.packet c.replace-over.new.dest, fewer_places, n.few);
+      link = n.link;
+      counted = rw (map-set place_in c.take_parked.new.places.items c.args.packet c.replace-over.new.dest, c.in-Some.ensures.taken.0, set-set ps c.args.packet Over (place_in c.replace-over.new.dest))
+          (left_counted ps c.args.packet k.switch k.port k.passed 4294967295 o c.requires k.full c.in-Some.ensures.taken.1 (wiring_of n.network) (limits_of n.limits) (traffic_in n.traffic) (traffic_in c.leave.new.traffic) (place_in c.replace-over.new.dest) x is c.in_ok-next.ensures.traffic n.counted);
+    }
+
+pub returns-clause-same : goal.returns-clause-same
+returns-clause-same g c =
+    let n = c.args.self.now in
+    let k = c.in-Some.parked in
+    let ps = map place_in n.places.items in
+    let known = waiting_known (length n.network.names) (limits_of n.limits) ps c.args.packet c.requires n.within k.switch k.port k.passed (place_of k.queued).waiting k.full c.in-Some.ensures.taken.1 in
+    let x = c.index_mut-station.result.now in
+    let unit = read_item n.stations.items (length n.stations.items) k.switch x refl (omega (arith, known.switch_there, n.switches)) c.index_mut-station.ensures.value in
+    record {
+      kept = record {
+        network = refl;
+        programs = views_same station_in (λ x. x.program) n.stations.items k.switch x c.leave.new.station unit c.leave.ensures.program;
+        tables = views_same station_in (λ x. x.tables) n.stations.items k.switch x c.leave.new.station unit c.leave.ensures.tables;
+      };
+      limits = refl;
+      packets =
+          ap (λ (l : _). length l) (map-set place_in c.take_parked.new.places.items c.args.packet c.replace-over.new.dest)
+          ∙ length-set (map place_in c.take_parked.new.places.items) c.args.packet (place_in c.replace-over.new.dest)
+          ∙ ap (λ (l : _). length l) c.in-Some.ensures.taken.0 ∙ length-set ps c.args.packet Over;
+    }
+
+pub returns-clause-leave : goal.returns-clause-leave
+returns-clause-leave g c =
+    let n = c.args.self.now in
+    let k = c.in-Some.parked in
+    let ps = map place_in n.places.items in
+    let known = waiting_known (length n.network.names) (limits_of n.limits) ps c.args.packet c.requires n.within k.switch k.port k.passed (place_of k.queued).waiting k.full c.in-Some.ensures.taken.1 in
+    let x = c.index_mut-station.result.now in
+    let unit = read_item n.stations.items (length n.stations.items) k.switch x refl (omega (arith, known.switch_there, n.switches)) c.index_mut-station.ensures.value in
+    left_runs (state_of n) c.args.packet k.switch k.port k.passed (place_of k.queued).waiting (station_in x) (station_in c.leave.new.station) _ _ _ c.requires k.full c.in-Some.ensures.taken.1
+    (view_there station_in n.stations.items k.switch x unit) c.leave.ensures.program c.leave.ensures.tables c.in_ok-next.ensures.cells
+    (map-set station_in n.stations.items k.switch c.leave.new.station)
+    (map-set place_in c.take_parked.new.places.items c.args.packet c.replace-over.new.dest
+    ∙ ap (λ (l : _). set l c.args.packet (place_in c.replace-over.new.dest)) c.in-Some.ensures.taken.0
+    ∙ set-set ps c.args.packet Over (place_in c.replace-over.new.dest)
+    ∙ ap (set ps c.args.packet) (ap place_in c.replace-over.ensures.after ∙ c.in_ok-next.ensures.place))
+    c.in_ok-next.ensures.traffic

@@ -1,0 +1,12 @@
+-- What callers rest on, in reading order: the programs as the network's run takes them, what a net holds and stands for,
+-- what is asked of what is handed in, and of which values of the program these are the views.
+pub mod Programs
+pub mod Nets
+pub mod Conditions
+pub mod Packets
+pub mod Switches
+pub mod Views
+-- What serves the proofs: where packets are, what holds of their places, and what becomes of those that leave a switch.
+pub mod Places
+pub mod Sound
+pub mod Departures

@@ -1,0 +1,29 @@
+//! The run of a network of switches.
+//!
+//! The layers above get `Net`, which runs any switches that pass frames (`Pass`), event by event: `new`
+//! puts packets at edge ports, `step` is one event, and `finish` lets each packet go on to its end and
+//! hands back a `RunLog`. Contracts see a net as a `State` (`specs/Nets`): the switches' tables and
+//! registers, the packets' places, and what has happened so far. `Shows` says for which networks of the
+//! run's definition it stands, which has a log of halves and the contents of control variables besides;
+//! `RunsTo` says that an event of the program is the event of the definition, on each of them, whatever
+//! the property reads. `specs/Programs` is what the programs are there, `Conditions` what is asked of
+//! what is handed in.
+//!
+//! No table holds a control variable yet, so that new contents change no switch. After want of memory a
+//! net is given up. Speed is not promised.
+#![tactic(auto)]
+
+mod halves;
+mod handed;
+mod log;
+mod net;
+mod packet;
+mod parked;
+mod place;
+mod sending;
+mod station;
+mod traffic;
+
+pub use log::RunLog;
+pub use net::Net;
+pub use packet::{Packet, Sent, Told};

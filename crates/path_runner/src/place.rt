@@ -1,0 +1,43 @@
+//! Where a packet is.
+
+ghost use Rattle.std.specs.Prelude.{◌≡◌, true};
+ghost use Rattle.p4_machine.specs.Buffers.{is_some_packet, place_of};
+
+use p4_machine::Queued;
+
+/// A packet in flight to a port of a switch.
+#[derive(Drop)]
+pub(crate) struct Flight {
+    pub switch: u16,
+    pub port: u16,
+    pub frame: Vec<u8>,
+    /// How many switches it has passed.
+    pub passed: u8,
+}
+
+/// A packet that waits between the halves of its passage of a switch, to which it came by a port.
+#[derive(Drop)]
+pub(crate) struct Parked {
+    pub switch: u16,
+    pub port: u16,
+    pub queued: Queued,
+    /// How many switches it has passed.
+    pub passed: u8,
+    ghost full: { is_some_packet (place_of queued).waiting ≡ true },
+}
+
+/// Where a packet is.
+#[derive(Drop)]
+pub(crate) enum Place {
+    Flying(Flight),
+    Waiting(Parked),
+    /// It is at its end.
+    Over,
+}
+
+/// How many switches a packet may pass, and the greatest length of a frame on a link.
+#[derive(Clone, Copy, Drop)]
+pub(crate) struct Limits {
+    pub hops: u8,
+    pub link: u32,
+}

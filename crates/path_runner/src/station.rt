@@ -1,0 +1,68 @@
+//! A switch with its buffer.
+
+ghost use Rattle.std.specs.Prelude.{◌≡◌, ◌≤◌, true, length, IfOk, IfSome, OnOk};
+ghost use Rattle.std.specs.Option.{option_map, option_and_then};
+ghost use Rattle.p4_machine.specs.Buffers.{IsFor, is_some_packet, place_of};
+
+use p4_machine::{Entered, FrameBuf, Pass, Passed, Queued};
+use std::alloc::{AllocError, Global};
+
+/// A switch, and a buffer for its passages.
+#[derive(Drop)]
+pub(crate) struct Station<P: Pass + Drop> {
+    pub switch: P,
+    pub buf: FrameBuf,
+    ghost fits: { IsFor (P.program switch) buf },
+}
+
+impl<P: Pass + Drop> Station<P> {
+    ghost use Rattle.path_runner.specs.Switches.{entry_at, exit_at};
+    ghost use Rattle.path_runner.specs.Views.{station_in};
+
+    /// The entry half of a frame's passage: the packet that waits, or `None` where it is dropped. The
+    /// buffer has the digests.
+    pub fn enter(
+        &mut self,
+        alloc: Global,
+        port: u16,
+        frame: &[u8],
+    ) -> Result<Option<Queued>, AllocError>
+        requires { length frame.now ≤ 65791 }
+        ensures program { (station_in self.new).program ≡ (station_in self.old).program }
+        ensures tables { (station_in self.new).tables ≡ (station_in self.old).tables }
+        ensures cells { OnOk result ((station_in self.new).cells
+            ≡ (entry_at (station_in self.old) port frame.now).registers) }
+        ensures queued { IfOk result (λ q. option_and_then (λ x. (place_of x).waiting) q
+            ≡ (entry_at (station_in self.old) port frame.now).queued) }
+        ensures full { IfOk result (λ q. IfSome q (λ x. is_some_packet (place_of x).waiting ≡ true)) }
+        ensures digests { OnOk result (self.new.buf.digests
+            ≡ (entry_at (station_in self.old) port frame.now).digests) }
+    {
+        let mut queued = self.switch.room(alloc, frame.len() as u32)?;
+        match self
+            .switch
+            .enter(alloc, port, frame, &mut self.buf, &mut queued)?
+        {
+            Entered::Queued => Ok(Some(queued)),
+            Entered::Dropped => Ok(None),
+        }
+    }
+
+    /// The exit half of the passage of a packet that waits: the port by which the buffer's frame goes
+    /// out, or `None` where the packet is dropped. The buffer has the digests.
+    pub fn leave(&mut self, alloc: Global, queued: &mut Queued) -> Result<Option<u16>, AllocError>
+        ensures program { (station_in self.new).program ≡ (station_in self.old).program }
+        ensures tables { (station_in self.new).tables ≡ (station_in self.old).tables }
+        ensures cells { OnOk result ((station_in self.new).cells
+            ≡ (exit_at (station_in self.old) (place_of queued.old).waiting).registers) }
+        ensures out { IfOk result (λ port. option_map (λ p. (p, self.new.buf.frame)) port
+            ≡ (exit_at (station_in self.old) (place_of queued.old).waiting).out) }
+        ensures digests { OnOk result (self.new.buf.digests
+            ≡ (exit_at (station_in self.old) (place_of queued.old).waiting).digests) }
+    {
+        match self.switch.leave(alloc, queued, &mut self.buf)? {
+            Passed::Out { port } => Ok(Some(port)),
+            Passed::Dropped => Ok(None),
+        }
+    }
+}
