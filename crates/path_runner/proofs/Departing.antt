@@ -1,16 +1,16 @@
 -- Where a packet is that leaves a switch, and how many have ended then.
-use Rattle.std.proofs.Common.{◌≡◌, ℕ, ◌+◌, ◌<◌, ◌≤◌, List, length, get_or, set, Bool, true, false, ◌||◌, Option, Some, None, refl, ap, sym, ◌∙◌, subst, arith}
+use Rattle.std.proofs.Common.{◌≡◌, ℕ, ◌+◌, ◌<◌, ◌≤◌, List, length, get_or, set, Bool, true, false, ◌||◌, Option, Some, None, refl, ap, ◌∙◌, arith}
 use Rattle.std.specs.Prelude.{nat_lt, nat_le, if◌then◌else◌}
 use Rattle.std.proofs.lemmas.Bool.Decides.{nat_tests}
 use Rattle.p4_meaning.specs.Pass.{Queued}
 use Rattle.p4_machine.specs.Passages.{Passage}
 use Rattle.p4_machine.specs.Buffers.{is_some_packet}
-use Rattle.network_run.specs.Network.{Wiring, IsWiring, far_end, Place, Flying, Over, Sent}
+use Rattle.network_run.specs.Network.{Wiring, IsWiring, far_end, Place, Over, Sent}
 use Rattle.network_run.specs.NetworkRun.{Limits, longest_frame, queued_or_over}
 use Rattle.network_run.proofs.Links.{far_end_is}
 use Rattle.path_runner.specs.Nets.{Traffic}
 use Rattle.path_runner.specs.Sound.{is_within, going_one, going_on}
-use Rattle.path_runner.specs.Departures.{Departure, lost_in, sent_departure, out_departure, left_departure}
+use Rattle.path_runner.specs.Departures.{Departure, sent_departure, out_departure, left_departure}
 use Rattle.path_runner.proofs.Going.{going-set}
 
 -- one of two departures

@@ -1,5 +1,5 @@
 -- The closing phase.
-use Rattle.std.proofs.Common.{◌≡◌, ℕ, zero, suc, ◌+◌, ◌<◌, ◌≤◌, List, [], ◌∷◌, ◌++◌, length, get_or, true, false, Bool, refl, ap, sym, ◌∙◌, subst, arith, append_assoc, append-nil, inl, inr}
+use Rattle.std.proofs.Common.{◌≡◌, ℕ, zero, suc, ◌+◌, ◌<◌, ◌≤◌, List, [], ◌++◌, length, get_or, true, refl, ap, sym, ◌∙◌, subst, arith, append_assoc, append-nil, inl, inr}
 use Rattle.std.specs.List.{list_all}
 use Rattle.std.proofs.lemmas.List.{get_or_past}
 use Rattle.std.proofs.lemmas.Bool.Decides.{nat_tests, leb_tells}
@@ -15,7 +15,7 @@ use Rattle.path_runner.specs.Programs.{Programs, machine_of}
 use Rattle.path_runner.specs.Nets.{Switch, State, Traffic, Shows, RunsTo, IsSame, run_in}
 use Rattle.path_runner.specs.Sound.{is_within}
 use Rattle.path_runner.proofs.Lists.{passes_at}
-use Rattle.path_runner.proofs.Running.{runs_then, same_then}
+use Rattle.path_runner.proofs.Running.{runs_then}
 
 -- one packet more
 closing-suc : (hops i n : ℕ) → closing {C = Contents} hops i (suc n) ≡ closing hops i n ++ to_its_end (i + n) hops

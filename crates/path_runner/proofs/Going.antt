@@ -1,5 +1,5 @@
 -- How many packets are not at their ends, where one has moved.
-use Rattle.std.proofs.Common.{◌≡◌, ℕ, zero, suc, ◌+◌, ◌<◌, ◌≤◌, List, [], ◌∷◌, length, get_or, set, refl, arith}
+use Rattle.std.proofs.Common.{◌≡◌, ℕ, zero, suc, ◌+◌, ◌<◌, ◌≤◌, List, [], ◌∷◌, length, get_or, set, arith}
 use Rattle.p4_meaning.specs.Pass.{Queued}
 use Rattle.network_run.specs.Network.{Place, Over}
 use Rattle.path_runner.specs.Sound.{going_one, going_on}

@@ -4,7 +4,6 @@ use Rattle.p4_meaning.specs.Pass.{Kept, Queued}
 use Rattle.indus_tree.specs.State.{Contents}
 use Rattle.network_run.specs.Network.{Net}
 use Rattle.network_run.specs.Events.{Event, Enter, Leave, to_its_end}
-use Rattle.network_run.specs.NetworkRun.{run_of_halves}
 use Rattle.network_run.proofs.Ends.{run_append}
 use Rattle.network_file.specs.Wiring.{wiring_of}
 use Rattle.path_runner.specs.Programs.{Programs, machine_of}

@@ -1,25 +1,20 @@
 -- What a net shows after one half of a packet.
-use Rattle.std.proofs.Common.{◌≡◌, ◌≢◌, ℕ, ◌+◌, ◌<◌, List, [], ◌∷◌, ◌++◌, length, map, get_or, set, Bool, true, false, ◌||◌, Option, Some, None, refl, ap, sym, ◌∙◌, subst, arith}
+use Rattle.std.proofs.Common.{◌≡◌, ◌≢◌, ℕ, ◌+◌, ◌<◌, List, [], ◌∷◌, ◌++◌, length, set, Bool, true, false, ◌||◌, Option, Some, None, refl, ap, ◌∙◌}
 use Rattle.std.specs.Prelude.{slice_get, nat_lt, nat_le, if◌then◌else◌}
 use Rattle.std.proofs.lemmas.List.{map-append, length-append}
-use Rattle.p4_meaning.specs.Parts.{Parts, parts_of}
-use Rattle.p4_meaning.specs.Pass as pass
-use Rattle.p4_meaning.specs.Pass.{Kept, Queued, Registers, parts_enter, parts_leave}
-use Rattle.p4_meaning.specs.Store.{Store}
+use Rattle.p4_meaning.specs.Parts.{parts_of}
+use Rattle.p4_meaning.specs.Pass.{Kept, Queued, Registers}
 use Rattle.p4_tree.specs.Tree.{Program}
 use Rattle.p4_tables.specs.State.{Held}
 use Rattle.indus_tree.specs.State.{Contents}
-use Rattle.bit_values.specs.Bits.{Word}
-use Rattle.linked_halves.specs.Networks.{network_digest}
-use Rattle.network_run.specs.Machine.{Digest, Entered, Going, Leaving}
-use Rattle.network_run.specs.Network.{Wiring, far_end, Place, Flying, Waiting, Over, Sent, Told, Net}
-use Rattle.network_run.specs.Events.{Event, Enter, Leave}
-use Rattle.network_run.specs.NetworkRun.{Limits, longest_frame, put, told_by, queued_or_over, dropped_if_none, frame_of, dropped, lost_if, entered, sent, enters, leaves, exit_half}
+use Rattle.network_run.specs.Machine.{Going}
+use Rattle.network_run.specs.Network.{Place, Flying, Over, Sent, Net}
+use Rattle.network_run.specs.NetworkRun.{longest_frame, put, frame_of, dropped, lost_if, sent}
 use Rattle.network_run.proofs.Numbers.{put_cases, put_same}
 use Rattle.network_file.specs.Wiring.{wiring_of}
-use Rattle.path_runner.specs.Programs.{Programs, machine_of, entered_of, leaving_of, going_of}
-use Rattle.path_runner.specs.Nets.{Switch, kept_of, Traffic, State, AreSwitches, Shows, RunsTo}
-use Rattle.path_runner.specs.Switches.{entry_at, exit_at, with_cells}
+use Rattle.path_runner.specs.Programs.{Programs}
+use Rattle.path_runner.specs.Nets.{Switch, kept_of, Traffic, State, AreSwitches, Shows}
+use Rattle.path_runner.specs.Switches.{with_cells}
 use Rattle.path_runner.specs.Departures.{lost_in, sent_departure}
 use Rattle.path_runner.proofs.Lists.{at_set, put_item}
 

@@ -1,9 +1,9 @@
 -- What is known of the packet at a place.
-use Rattle.std.proofs.Common.{◌≡◌, ℕ, ◌<◌, ◌≤◌, List, ◌+◌, length, get_or, set, map, true, Option, Some, None, refl, ap, sym, ◌∙◌, subst, arith}
+use Rattle.std.proofs.Common.{◌≡◌, ℕ, ◌<◌, ◌≤◌, List, ◌+◌, length, get_or, set, map, true, Option, Some, None, refl, ap, ◌∙◌, subst, arith}
 use Rattle.std.specs.Prelude.{slice_get}
 use Rattle.std.specs.Option.{option_map}
 use Rattle.std.specs.List.{list_all}
-use Rattle.std.proofs.lemmas.List.{map-set, length-map}
+use Rattle.std.proofs.lemmas.List.{map-set, set-set, length-map}
 use Rattle.std.proofs.lemmas.Option.{slice_get_read, slice_get-map, get_or_from_slice_get}
 use Rattle.std.proofs.lemmas.Bool.Decides.{nat_tests}
 use Rattle.p4_meaning.specs.Pass.{Queued}
@@ -68,6 +68,10 @@ pub flight_known :
     (count : ℕ) (l : Limits) (items : List declared.Place) (i : ℕ) (r : declared.Place) (f : Flight) → i < length (map place_in items) → r ≡ get_or items i r → r ≡ code.Flying f →
     list_all (is_within count l) (map place_in items) ≡ true → IsUnderWay count l (map place_in items) f.switch f.passed (length f.frame.items)
 flight_known count l items i r f there at is all = flying_known count l (map place_in items) i there all f.switch f.port f.passed f.frame.items (flight_at items i r f there at is)
+
+-- a packet that was taken from its place is put into it again
+pub put_back : (now before : List declared.Place) (i : ℕ) (x : declared.Place) → map place_in now ≡ set (map place_in before) i Over → map place_in (set now i x) ≡ set (map place_in before) i (place_in x)
+put_back now before i x taken = map-set place_in now i x ∙ ap (λ (ps : List (Place Queued)). set ps i (place_in x)) taken ∙ set-set (map place_in before) i Over (place_in x)
 
 -- where the entry half puts a packet, it is within the bounds
 pub entered_within : (count : ℕ) (l : Limits) (s port n : ℕ) (o : Option Queued) → s < count → n < l.hops → is_within count l (queued_or_over s port n o) ≡ true

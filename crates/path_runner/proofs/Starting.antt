@@ -1,20 +1,18 @@
 -- What is handed in, item by item.
-use Rattle.std.proofs.Common.{◌≡◌, ◌⊎◌, inl, inr, ℕ, zero, suc, ◌<◌, ◌≤◌, ◌+◌, List, [], ◌∷◌, ◌++◌, length, map, get_or, true, Option, Some, None, refl, ap, sym, ◌∙◌, subst, arith, append_assoc, append-nil}
+use Rattle.std.proofs.Common.{◌≡◌, ◌⊎◌, inl, inr, ℕ, zero, suc, ◌≤◌, List, [], ◌∷◌, length, get_or, true, refl, subst, arith}
 use Rattle.std.specs.Prelude.{slice_get, All}
 use Rattle.std.specs.List.{list_all}
 use Rattle.std.proofs.lemmas.List.Elements.{All-head, All-tail}
 use Rattle.std.proofs.lemmas.Bool.Decides.{nat_tests}
 use Rattle.p4_machine.specs.Buffers.{Buffer, IsFor}
-use Rattle.p4_meaning.specs.Pass.{Kept, Queued}
-use Rattle.indus_tree.specs.State.{Contents}
-use Rattle.network_run.specs.Network.{Place, Flying, Over}
+use Rattle.p4_meaning.specs.Pass.{Queued}
+use Rattle.network_run.specs.Network.{Over}
 use Rattle.network_run.specs.NetworkRun.{Limits}
 use Rattle.network_run.specs.World.{Arrival, first_place}
 use Rattle.network_file.specs.Network.{Network}
-use Rattle.path_runner.specs.Programs.{Programs}
-use Rattle.path_runner.specs.Nets.{Switch, Shows, AreSwitches, Starts, state_before, net_before, in_flight}
+use Rattle.path_runner.specs.Nets.{Switch, Starts, state_before, in_flight}
 use Rattle.path_runner.specs.Conditions.{AreFor, IsAtEdge}
-use Rattle.path_runner.specs.Sound.{is_within, going_one, going_on}
+use Rattle.path_runner.specs.Sound.{is_within, going_on}
 
 -- the first switch has the first buffer
 pub first_for : (x : Switch) (xs : List Switch) (b : Buffer) (bs : List Buffer) (all : List Switch) (bufs : List Buffer) → all ≡ x ∷ xs → bufs ≡ b ∷ bs → AreFor all bufs → IsFor x.program b × AreFor xs bs

@@ -1,6 +1,6 @@
 -- What a net holds, and the networks of the definition that it stands for. Read `Programs` before it, and `Network` and
 -- `NetworkRun` of the network's run.
-use Rattle.std.specs.Prelude.{◌≡◌, ℕ, List, [], ◌∷◌, length, map, get_or, slice_get, Option, Some, None}
+use Rattle.std.specs.Prelude.{◌≡◌, ℕ, List, [], length, map, get_or, slice_get, Some}
 use Rattle.p4_tree.specs.Tree.{Program}
 use Rattle.p4_meaning.specs.Parts.{parts_of}
 use Rattle.p4_meaning.specs.Pass.{Registers, Kept, Queued}
@@ -8,7 +8,7 @@ use Rattle.p4_tables.specs.State.{Held}
 use Rattle.p4_tables.specs.Named.{tables_in}
 use Rattle.indus_tree.specs.State.{Contents}
 use Rattle.network_run.specs.Events.{Event}
-use Rattle.network_run.specs.Network.{Place, Flying, Over, Sent, Told, Net}
+use Rattle.network_run.specs.Network.{Place, Over, Sent, Told, Net}
 use Rattle.network_run.specs.NetworkRun.{Limits, run_of_halves}
 use Rattle.network_run.specs.World.{Arrival, first_place}
 use Rattle.network_file.specs.Network.{Network}

@@ -1,6 +1,6 @@
 -- The programs of a network's switches, as the network's run takes them. Read `Pass` of the trees' meaning and `Machine`
 -- of the network's run before it, and `Nets` after it.
-use Rattle.std.specs.Prelude.{ℕ, List, map, Option}
+use Rattle.std.specs.Prelude.{ℕ, List, map}
 use Rattle.std.specs.Option.{option_map}
 use Rattle.bit_values.specs.Bits.{Word}
 use Rattle.p4_meaning.specs.Store.{Store}

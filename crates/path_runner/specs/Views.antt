@@ -1,7 +1,7 @@
 -- What a net of the program holds.
 use Rattle.std.specs.Prelude.{List, [], map, Bool}
 use Rattle.p4_tree.specs.Tree.{Program}
-use Rattle.p4_meaning.specs.Pass.{Registers, Entered, Queued}
+use Rattle.p4_meaning.specs.Pass.{Registers}
 use Rattle.p4_tables.specs.State.{Held}
 use Rattle.p4_machine.specs.declared.pass.Pass.{Ghosts}
 use Rattle.network_run.specs.NetworkRun.{Limits}

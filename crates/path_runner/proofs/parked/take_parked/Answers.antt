@@ -1,4 +1,4 @@
-use Rattle.std.proofs.Common.{◌≡◌, length, map, set, get_or, Some, refl, ap, sym, ◌∙◌, subst}
+use Rattle.std.proofs.Common.{length, map, set, Some, refl, ap, sym, ◌∙◌, subst}
 use Rattle.std.proofs.lemmas.List.{map-set, set-set, length-set}
 use Rattle.network_run.specs.Network.{Over}
 use Rattle.path_runner.specs.Places.{place_in}

@@ -1,8 +1,5 @@
-use Rattle.std.proofs.Common.{rules, ◌≡◌, ℕ, ◌<◌, ◌≤◌, ◌+◌, length, map, set, get_or, Some, refl, ap, sym, ◌∙◌, arith}
-use Rattle.std.specs.Prelude.{slice_get}
+use Rattle.std.proofs.Common.{length, map, set, refl, ap, ◌∙◌, arith}
 use Rattle.std.proofs.lemmas.List.{map-set, length-set, length-map}
-use Rattle.network_run.specs.Network.{Flying, Over}
-use Rattle.network_run.specs.NetworkRun.{queued_or_over}
 use Rattle.path_runner.specs.Places.{place_in, limits_of}
 use Rattle.path_runner.specs.Nets.{Traffic}
 use Rattle.path_runner.specs.Sound.{is_within}

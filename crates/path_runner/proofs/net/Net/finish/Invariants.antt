@@ -1,4 +1,3 @@
-use Rattle.std.proofs.Common.{◌≡◌}
 use Rattle.network_run.specs.Events.{closing}
 use Rattle.path_runner.specs.Nets.{IsSame, RunsTo}
 use Rattle.path_runner.specs.Views.{state_of}

@@ -1,16 +1,16 @@
-use Rattle.std.proofs.Common.{◌≡◌, ℕ, ◌<◌, ◌≤◌, ◌+◌, length, map, set, get_or, Some, refl, ap, sym, ◌∙◌, arith}
-use Rattle.std.proofs.lemmas.List.{map-set, set-set, length-set, length-map}
+use Rattle.std.proofs.Common.{◌≡◌, List, length, map, set, refl, ap, ◌∙◌, arith}
+use Rattle.std.proofs.lemmas.List.{map-set, length-set}
 use Rattle.p4_machine.specs.Buffers.{place_of}
 use Rattle.network_run.specs.Network.{Over, Place}
 use Rattle.network_file.specs.Wiring.{wiring_of}
 use Rattle.p4_meaning.specs.Pass.{Queued}
-use Rattle.path_runner.specs.Nets.{Traffic}
 use Rattle.path_runner.specs.Places.{place_in, limits_of}
 use Rattle.path_runner.specs.Sound.{is_within}
 use Rattle.path_runner.specs.Switches.{exit_at}
+use Rattle.path_runner.specs.Departures.{left_departure}
 use Rattle.path_runner.specs.Views.{state_of, station_in, traffic_in}
 use Rattle.path_runner.proofs.Lists.{all_pass}
-use Rattle.path_runner.proofs.Standing.{read_item, view_there, views_same, waiting_known}
+use Rattle.path_runner.proofs.Standing.{read_item, view_there, views_same, waiting_known, put_back}
 use Rattle.path_runner.proofs.Departing.{left_within, left_counted, taken_going}
 use Rattle.path_runner.proofs.Leaving.{left_runs}
 use Rattle.path_runner.proofs.net.Net.leave.Goals as goal
@@ -53,7 +53,7 @@ returns-in_err-next-clause-same g c =
         tables = views_same station_in (λ x. x.tables) n.stations.items k.switch x c.leave.new.station unit c.leave.ensures.tables;
       };
       limits = refl;
-      packets = ap (λ (l : _). length l) c.in-Some.ensures.taken.0 ∙ length-set ps c.args.packet Over;
+      packets = ap (λ (l : List (Place Queued)). length l) c.in-Some.ensures.taken.0 ∙ length-set ps c.args.packet Over;
     }
 
 pub invariant_of-self-2 : goal.invariant_of-self-2
@@ -64,16 +64,17 @@ invariant_of-self-2 g c =
     let o = (place_of k.queued).waiting in
     let x = exit_at (station_in c.index_mut-station.result.now) o in
     let fewer_places : length c.take_parked.new.places.items ≡ length n.places.items = c.in-Some.ensures.length in
-    let is = ap place_in c.replace-over.ensures.after ∙ c.in_ok-next.ensures.place in
+    let is : place_in c.replace-over.new.dest ≡ (left_departure (wiring_of n.network) (limits_of n.limits) (traffic_in n.traffic) c.args.packet k.switch k.passed x).place = ap place_in c.replace-over.ensures.after ∙ c.in_ok-next.ensures.place in
+    let back = put_back c.take_parked.new.places.items n.places.items c.args.packet c.replace-over.new.dest c.in-Some.ensures.taken.0 in
     record {
       switches = length-set n.stations.items k.switch c.leave.new.station ∙ n.switches;
       wired = n.wired;
-      within = rw (map-set place_in c.take_parked.new.places.items c.args.packet c.replace-over.new.dest, c.in-Some.ensures.taken.0, set-set ps c.args.packet Over (place_in c.replace-over.new.dest), is)
+      within = rw (back, is)
           (all_pass (is_within (length n.network.names) (limits_of n.limits)) ps c.args.packet _ n.within
           (left_within (wiring_of n.network) (limits_of n.limits) (traffic_in n.traffic) c.args.packet k.switch k.passed x n.wired));
       few = omega (arith, length-set c.take_parked.new.places.items c.args.packet c.replace-over.new.dest, fewer_places, n.few);
       link = n.link;
-      counted = rw (map-set place_in c.take_parked.new.places.items c.args.packet c.replace-over.new.dest, c.in-Some.ensures.taken.0, set-set ps c.args.packet Over (place_in c.replace-over.new.dest))
+      counted = rw back
           (left_counted ps c.args.packet k.switch k.port k.passed 4294967295 o c.requires k.full c.in-Some.ensures.taken.1 (wiring_of n.network) (limits_of n.limits) (traffic_in n.traffic) (traffic_in c.leave.new.traffic) (place_in c.replace-over.new.dest) x is c.in_ok-next.ensures.traffic n.counted);
     }
 
@@ -93,9 +94,8 @@ returns-clause-same g c =
       };
       limits = refl;
       packets =
-          ap (λ (l : _). length l) (map-set place_in c.take_parked.new.places.items c.args.packet c.replace-over.new.dest)
-          ∙ length-set (map place_in c.take_parked.new.places.items) c.args.packet (place_in c.replace-over.new.dest)
-          ∙ ap (λ (l : _). length l) c.in-Some.ensures.taken.0 ∙ length-set ps c.args.packet Over;
+          ap (λ (l : List (Place Queued)). length l) (put_back c.take_parked.new.places.items n.places.items c.args.packet c.replace-over.new.dest c.in-Some.ensures.taken.0)
+          ∙ length-set ps c.args.packet (place_in c.replace-over.new.dest);
     }
 
 pub returns-clause-leave : goal.returns-clause-leave
@@ -109,8 +109,6 @@ returns-clause-leave g c =
     left_runs (state_of n) c.args.packet k.switch k.port k.passed (place_of k.queued).waiting (station_in x) (station_in c.leave.new.station) _ _ _ c.requires k.full c.in-Some.ensures.taken.1
     (view_there station_in n.stations.items k.switch x unit) c.leave.ensures.program c.leave.ensures.tables c.in_ok-next.ensures.cells
     (map-set station_in n.stations.items k.switch c.leave.new.station)
-    (map-set place_in c.take_parked.new.places.items c.args.packet c.replace-over.new.dest
-    ∙ ap (λ (l : _). set l c.args.packet (place_in c.replace-over.new.dest)) c.in-Some.ensures.taken.0
-    ∙ set-set ps c.args.packet Over (place_in c.replace-over.new.dest)
+    (put_back c.take_parked.new.places.items n.places.items c.args.packet c.replace-over.new.dest c.in-Some.ensures.taken.0
     ∙ ap (set ps c.args.packet) (ap place_in c.replace-over.ensures.after ∙ c.in_ok-next.ensures.place))
     c.in_ok-next.ensures.traffic

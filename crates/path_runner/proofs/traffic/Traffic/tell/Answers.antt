@@ -1,8 +1,6 @@
-use Rattle.std.proofs.Common.{rules, ◌≡◌, List, map, ap, ◌∙◌, ◌++◌, ◌∷◌, []}
+use Rattle.std.proofs.Common.{map, ap, ◌∙◌, ◌++◌, ◌∷◌, []}
 use Rattle.std.proofs.lemmas.List.{map-append}
-use Rattle.p4_statements.specs.Runs.{digest_of}
 use Rattle.linked_halves.specs.Networks.{network_digest}
-use Rattle.network_run.specs.Network.{Told}
 use Rattle.path_runner.specs.Packets.{told_of}
 use Rattle.path_runner.proofs.Telling.{told_next}
 use Rattle.path_runner.proofs.traffic.Traffic.tell.Goals as goal
