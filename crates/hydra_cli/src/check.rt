@@ -1,21 +1,20 @@
 //! `check`: the file of a well-typed property, and what is said of it.
 
-ghost use Rattle.std.specs.Prelude.{◌≡◌, ◌+◌, ◌/◌, ◌≤◌, length, IfOk, codes, string_bytes, ◌++◌};
+ghost use Rattle.std.specs.Prelude.{◌≡◌, ◌+◌, ◌/◌, ◌≤◌, length, IfOk};
 ghost use Rattle.indus_tree.specs.View.{property_of};
 ghost use Rattle.indus_reader.specs.Faults.{IsProperty};
 ghost use Rattle.indus_rules.specs.Rules.{IsWellTyped};
 ghost use Rattle.hydra_cli.specs.Command.{IsIllTyped, IsMisread, IsTyped, typed_property, whole_property};
 ghost use Rattle.job_course.specs.Output.{out_of};
 ghost use Rattle.hydra_cli.specs.Job.{typed_of};
-ghost use Rattle.hydra_cli.specs.Lines.{lex_place, lex_word, place_line, rule_word, type_line};
+ghost use Rattle.hydra_cli.specs.Lines.{rule_word};
 ghost use Rattle.hydra_cli.specs.Output.{IsCheckOutput, bytes_of};
 ghost use Rattle.job_course.specs.Steps.{Follows, Judged};
 
 use indus_reader::{PropertyFault, read_property};
 use indus_tree::Property;
 use indus_types::{Rule, TypeFault, TypedProperty, check_property};
-use job_course::{Area, Output, Refusal, Status, Stop, read_file};
-use lex_text::LexFault;
+use job_course::{Area, Output, Refusal, Status, Stop, lex_text, place_text, read_file, word_text};
 use outside::Store;
 use std::alloc::{AllocError, Global};
 
@@ -49,15 +48,15 @@ fn spelled(alloc: Global, name: &str, text: &Vec<u8>) -> Result<Property, Stop>
         Err(PropertyFault::NoMemory) => Err(Stop::Starved),
         Err(PropertyFault::Lex(fault)) => Err(Stop::Refused(Refusal {
             status: Status::BadProperty,
-            line: lex_text(alloc, name, fault)?,
+            line: lex_text(alloc, Area::Property, name, fault)?,
         })),
         Err(PropertyFault::Syntax { at }) => Err(Stop::Refused(Refusal {
             status: Status::BadProperty,
-            line: place_text(alloc, name, "Syntax", at)?,
+            line: place_text(alloc, Area::Property, name, "Syntax", at as u64)?,
         })),
         Err(PropertyFault::TooDeep { at }) => Err(Stop::Refused(Refusal {
             status: Status::BadProperty,
-            line: place_text(alloc, name, "TooDeep", at)?,
+            line: place_text(alloc, Area::Property, name, "TooDeep", at as u64)?,
         })),
     }
 }
@@ -72,58 +71,12 @@ fn typed(alloc: Global, name: &str, tree: Property) -> Result<TypedProperty, Sto
         Err(TypeFault::NoMemory) => Err(Stop::Starved),
         Err(TypeFault::Type_ { place, rule }) => Err(Stop::Refused(Refusal {
             status: Status::BadProperty,
-            line: type_text(alloc, name, place, rule)?,
+            line: word_text(alloc, Area::Property, name, "Type", place, rule_word(rule))?,
         })),
     }
 }
 
 // ---- lines
-
-fn place_text(alloc: Global, name: &str, cause: &str, at: u32) -> Result<String, AllocError>
-    ensures { IfOk result (λ s. string_bytes s ≡ place_line name.now cause.now at) }
-{
-    format!(in alloc; "hydra: property {name} {cause} {at}\n")
-}
-
-fn lex_text(alloc: Global, name: &str, fault: LexFault) -> Result<String, AllocError>
-    ensures { IfOk result (λ s. string_bytes s ≡ place_line name.now (codes "Lex " ++ lex_word fault) (lex_place fault)) }
-{
-    let (word, at) = (lex_word(fault), lex_place(fault));
-    format!(in alloc; "hydra: property {name} Lex {word} {at}\n")
-}
-
-fn lex_word(fault: LexFault) -> &'static str
-    ensures { result.now ≡ lex_word fault }
-{
-    match fault {
-        LexFault::NotUtf8 { .. } => "NotUtf8",
-        LexFault::BadChar { .. } => "BadChar",
-        LexFault::OpenComment { .. } => "OpenComment",
-        LexFault::NumberTooWide { .. } => "NumberTooWide",
-        LexFault::OpenText { .. } => "OpenText",
-        LexFault::NoMemory => "",
-    }
-}
-
-fn lex_place(fault: LexFault) -> u32
-    ensures { result ≡ lex_place fault }
-{
-    match fault {
-        LexFault::NotUtf8 { at }
-        | LexFault::BadChar { at }
-        | LexFault::OpenComment { at }
-        | LexFault::NumberTooWide { at }
-        | LexFault::OpenText { at } => at,
-        LexFault::NoMemory => 0,
-    }
-}
-
-fn type_text(alloc: Global, name: &str, at: u32, rule: Rule) -> Result<String, AllocError>
-    ensures { IfOk result (λ s. string_bytes s ≡ type_line name.now at rule) }
-{
-    let word = rule_word(rule);
-    format!(in alloc; "hydra: property {name} Type {at} {word}\n")
-}
 
 fn rule_word(rule: Rule) -> &'static str
     ensures { result.now ≡ rule_word rule }

@@ -8,7 +8,6 @@ ghost use Rattle.wire_machine.specs.Machine.{machine_of};
 ghost use Rattle.wire_network.specs.Fates.{fate_of, net_of, told_of};
 ghost use Rattle.wire_network.specs.Travel.{travel};
 ghost use Rattle.hydra_cli.specs.Job.{typed_of};
-ghost use Rattle.hydra_cli.specs.Lines.{not_built_line};
 ghost use Rattle.linkage.specs.Linkage.{report_receiver};
 ghost use Rattle.wire_linkage.specs.Ways.{wire_line_links};
 ghost use Rattle.job_course.specs.Output.{file_of, files_of, out_of};
@@ -24,7 +23,7 @@ use crate::check::load_typed;
 use crate::job::WireJob;
 use crate::small::is_small;
 use indus_types::TypedProperty;
-use job_course::{Area, Output, Refusal, Status, Stop, read_file};
+use job_course::{Area, Output, Refusal, Status, Stop, cause_text, read_file};
 use outside::Store;
 use p4_printer::print_program;
 use p4_tree::Program;
@@ -105,15 +104,9 @@ fn small(alloc: Global, name: &str, property: TypedProperty) -> Result<TypedProp
     } else {
         Err(Stop::Refused(Refusal {
             status: Status::BadProperty,
-            line: not_built_text(alloc, name)?,
+            line: cause_text(alloc, Area::Property, name, "NotBuilt")?,
         }))
     }
-}
-
-fn not_built_text(alloc: Global, name: &str) -> Result<String, AllocError>
-    ensures { IfOk result (λ s. string_bytes s ≡ not_built_line name.now) }
-{
-    format!(in alloc; "hydra: property {name} NotBuilt\n")
 }
 
 // ---- the run

@@ -8,8 +8,8 @@ use Rattle.job_course.specs.declared.status.Status.{Status}
 use Rattle.job_course.specs.declared.status.Status.TheVariants.{Done, BadWords, ReadFault, BadProperty, NotLinked, BadProgram, BadNetwork, BadCapture, WriteFault, NoMemory}
 use Rattle.job_course.specs.declared.status.Stop.{Stop}
 use Rattle.job_course.specs.declared.status.Stop.TheVariants.{Refused, Starved}
-use Rattle.job_course.specs.Course.{Course, and_then, decide, give}
-use Rattle.job_course.specs.Steps.{OnlyRead, Finds, Stops, Keeps, Follows, Judged, IsArea, IsRefusal}
+use Rattle.job_course.specs.Course.{Course, and_then, decide, give, IsFault}
+use Rattle.job_course.specs.Steps.{OnlyRead, Finds, Stops, Keeps, Follows, Judged, Settles, Rejects, IsArea, IsRefusal}
 
 pub reads_then : (s t u : StoreState) → OnlyRead s t → OnlyRead t u → OnlyRead s u
 reads_then s t u p q = record {
@@ -178,3 +178,20 @@ judged_keeps gives refuses view s (Err Starved) h = reads_none s
 pub judged_follows : {A J : Type 0} (gives : J → Type 0) (refuses : Status → List ℕ → Type 0) (view : A → J) (s : StoreState) (r : Result A Stop)
     → Judged gives refuses view r → Follows (decide gives refuses) view s s r
 judged_follows gives refuses view s r h = record { keeps = judged_keeps gives refuses view s r h }
+
+-- What a reader gives is what is meant, and its fault is the refusal that is meant.
+module _ {E J : Type 0} (status : Status) (line_of : E → List ℕ) (read : Result J E) where
+  pub reader_settles : (j : J) → read ≡ Ok j → Settles (λ k. read ≡ Ok k) (IsFault status line_of read) j
+  reader_settles j e = record {
+    given = e;
+    alone = λ other w. let same : Ok j ≡ Ok other = sym e ∙ w in cc;
+    free = λ s l refused. let other : Ok j ≡ Err refused.1.0 = sym e ∙ refused.1.1 in absurd cc;
+  }
+
+  pub reader_rejects : (f : E) (line : List ℕ) → IsArea status → read ≡ Err f → line ≡ line_of f → Rejects (λ k. read ≡ Ok k) (IsFault status line_of read) status line
+  reader_rejects f line kind e said = record {
+    kind = kind;
+    admitted = (refl, (f, e, said));
+    given = λ j w. let other : Ok j ≡ Err f = sym w ∙ e in absurd cc;
+    other = λ s l refused. refused.0;
+  }

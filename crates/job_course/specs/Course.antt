@@ -1,6 +1,6 @@
 -- A course: which files a command asks for, which first refusals the files admit, and what they give. Read `Ending`
 -- after it.
-use Rattle.std.specs.Prelude.{◌≡◌, ◌⊎◌, ℕ, ◌<◌, ◌≤◌, List, length, Some, None}
+use Rattle.std.specs.Prelude.{◌≡◌, ◌⊎◌, ℕ, ◌<◌, ◌≤◌, List, length, Some, None, Result, Ok, Err}
 use Rattle.outside.specs.Files.{Files}
 use Rattle.job_course.specs.declared.status.Status.{Status}
 use Rattle.job_course.specs.declared.status.Status.TheVariants.{ReadFault}
@@ -31,6 +31,13 @@ file name limit area = record {
 -- a decision on what was read
 abbrev pub decide : {J : Type 0} → (J → Type 0) → (Status → List ℕ → Type 0) → Course J
 decide gives refuses = record { asks = λ f n. ⊥; refuses = λ f s l. refuses s l; gives = λ f j. gives j; may = gives; says = refuses }
+
+-- what a reader gives, or its fault with a line
+abbrev pub IsFault : {E J : Type 0} → Status → (E → List ℕ) → Result J E → Status → (line : List ℕ) → Type 0
+IsFault {E} status line_of answer s l = (s ≡ status) × ((e : E) × (answer ≡ Err e) × (l ≡ line_of e))
+
+abbrev pub answer : {E J : Type 0} → Status → (E → List ℕ) → Result J E → Course J
+answer status line_of read = decide (λ j. read ≡ Ok j) (IsFault status line_of read)
 
 -- first one course, and where it gives something the next
 unfoldable pub and_then : {A B : Type 0} → Course A → (A → Course B) → Course B

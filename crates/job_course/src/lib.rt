@@ -11,9 +11,11 @@
 #![tactic(auto)]
 
 mod delivery;
+mod lines;
 mod reading;
 mod status;
 
 pub use delivery::{Output, deliver, refuse, say};
+pub use lines::{cause_text, lex_text, place_text, word_text};
 pub use reading::read_file;
 pub use status::{Area, Refusal, Status, Stop};

@@ -21,6 +21,8 @@ pub enum Status {
 #[derive(Clone, Copy, Debug, PartialEq, Eq)]
 pub enum Area {
     Property,
+    Program,
+    Network,
     Capture,
 }
 
@@ -34,6 +36,8 @@ impl Area {
     {
         match self {
             Area::Property => "property",
+            Area::Program => "program",
+            Area::Network => "network",
             Area::Capture => "capture",
         }
     }
@@ -44,6 +48,8 @@ impl Area {
     {
         match self {
             Area::Property => Status::BadProperty,
+            Area::Program => Status::BadProgram,
+            Area::Network => Status::BadNetwork,
             Area::Capture => Status::BadCapture,
         }
     }

@@ -170,7 +170,7 @@ RunAsks-one form file o p a b =
 abbrev pub Asks : List ℕ → Result (List Record) CaptureFault → Type 0
 Asks file o = ((f : CaptureFault) × (header_of file ≡ Err f) × (o ≡ Err f)) ⊎ ((form : Form) × (header_of file ≡ Ok form) × RunAsks form file o)
 
-Asks-one : (file : List ℕ) (o p : Result (List Record) CaptureFault) → Asks file o → Asks file p → o ≡ p
+pub Asks-one : (file : List ℕ) (o p : Result (List Record) CaptureFault) → Asks file o → Asks file p → o ≡ p
 Asks-one file o p (inl a) (inl b) =
     let same : a.0 ≡ b.0 = cc (a.1, b.1) in
     a.2 ∙ ap (λ (f : CaptureFault). Err f) same ∙ sym b.2

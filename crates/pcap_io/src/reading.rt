@@ -140,6 +140,9 @@ pub fn read_capture(alloc: Global, file: &[u8]) -> Result<Vec<Captured>, Capture
     ensures held { (rs : List Record) → Holds file.now rs
         → MatchResult result (λ list. records_of list.items ≡ rs) (λ fault. fault ≡ NoMemory) }
 
+    // Each answer is the one that the file has, or says that memory ran out.
+    ensures answer { IsAnswer file.now result }
+
     // What is answered can be written again.
     ensures short { IfOk result
         (λ list. All (λ captured. length captured.bytes.items ≤ 65535) list.items) }
