@@ -1,0 +1,5 @@
+-- What callers rest on, in reading order.
+pub mod Lines
+pub mod Places
+pub mod Files
+pub mod Views
