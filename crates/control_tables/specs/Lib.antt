@@ -1,0 +1,6 @@
+-- What callers rest on. To be read in this order.
+pub mod Names
+pub mod Tables
+pub mod Contents
+pub mod Laws
+pub mod Views

@@ -1,0 +1,7 @@
+//! Tests of the tables of control variables, from the texts of their declarations.
+#![tactic(auto)]
+
+#[cfg(test)]
+mod contents;
+#[cfg(test)]
+mod tables;
