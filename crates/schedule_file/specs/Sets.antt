@@ -1,0 +1,56 @@
+-- What a member of a schedule sets: `{"set": {"switch": name, "variable": name, "value": contents}}`. Read `Control` of
+-- control_file before it, and `Schedule` after it.
+use Rattle.std.specs.Prelude.{ℕ, List, [], ◌∷◌, codes, Option, Result, Ok, Err}
+use Rattle.std.specs.Option.{option_map_or}
+use Rattle.serde_json.specs.Data.{Data}
+use Rattle.indus_tree.specs.Tree.{Decl}
+use Rattle.indus_tree.specs.State.{Contents}
+use Rattle.table_faults.specs.declared.table.TableFault.{TableFault}
+use Rattle.table_faults.specs.declared.table.TableFault.TheVariants as fault
+use Rattle.json_parts.specs.Answers.{◌>>=◌, with_fault}
+use Rattle.json_parts.specs.Object.{Object, members_of, maybe_at, text_at, end_of}
+use Rattle.json_parts.specs.Paths.{below}
+use Rattle.json_values.specs.Words.{fault_of}
+use Rattle.network_file.specs.Network.{number_of}
+use Rattle.control_file.specs.Contents.{contents_at}
+use Rattle.control_file.specs.Control.{Variable, variable_of}
+
+-- where the object stands
+abbrev pub set_path : List ℕ
+set_path = codes "/set"
+
+pub record Setting : Type 0 where
+  pub switch : ℕ
+  pub variable : ℕ
+  pub contents : Contents
+
+abbrev pub switch_in : (names : List (List ℕ)) → Object → Result ℕ TableFault
+switch_in names o =
+    with_fault fault_of (text_at o (codes "switch"))
+    >>= λ name. option_map_or (λ s. Ok s) (number_of names name) (Err (fault.NoSuchSwitch (below set_path (codes "switch"))))
+
+abbrev pub value_in : Object → Result Data TableFault
+value_in o =
+    with_fault fault_of (maybe_at o (codes "value"))
+    >>= λ v. option_map_or (λ d. Ok d) v (Err (fault.Shape (codes "/set/value")))
+
+abbrev pub variable_in : List Decl → Object → Result Variable TableFault
+variable_in ds o =
+    with_fault fault_of (text_at o (codes "variable"))
+    >>= λ name. option_map_or (λ v. Ok v) (variable_of ds name) (Err (fault.NoSuchVariable (below set_path (codes "variable"))))
+
+-- the value is read behind the variable's name, since what it may be rests on the variable
+abbrev pub setting_in : List Decl → (names : List (List ℕ)) → Object → Result Setting TableFault
+setting_in ds names o = do
+  switch ← switch_in names o
+  value ← value_in o
+  variable ← variable_in ds o
+  contents ← contents_at (codes "/set/value") variable.decl.shape value
+  Ok (record { switch = switch; variable = variable.number; contents = contents })
+
+abbrev pub setting_of : List Decl → (names : List (List ℕ)) → Data → Result Setting TableFault
+setting_of ds names d = do
+  members ← with_fault fault_of (members_of set_path (codes "switch" ∷ codes "value" ∷ codes "variable" ∷ []) d)
+  setting ← setting_in ds names members
+  rest ← with_fault fault_of (end_of members)
+  Ok setting

@@ -1,0 +1,109 @@
+//! What a member of a schedule sets.
+
+ghost use Rattle.std.specs.Prelude.{◌≡◌, codes};
+ghost use Rattle.serde_json.specs.View.{view};
+ghost use Rattle.json_parts.specs.Views.{object_seen};
+ghost use Rattle.json_values.specs.Views.{Gives};
+ghost use Rattle.control_file.specs.Control as control;
+ghost use Rattle.control_file.specs.Views.{decls_of, variable_view};
+ghost use Rattle.indus_values.specs.View.{contents_of};
+ghost use Rattle.schedule_file.specs.Sets as sets;
+ghost use Rattle.schedule_file.specs.Views.{set_view};
+
+use control_file::{Variable, read_contents, variable_of};
+use indus_types::TypedProperty;
+use indus_values::ControlValue;
+use json_parts::{Members, member_path};
+use json_values::{in_table, shape_refused};
+use network_file::Network;
+use serde_json::Value;
+use std::alloc::Global;
+use table_faults::TableFault;
+
+/// The contents that a control variable gets at a switch.
+#[derive(Debug, Drop)]
+pub(crate) struct Setting {
+    pub switch: u16,
+    pub variable: u32,
+    pub contents: ControlValue,
+}
+
+/// The switch that the object names.
+fn switch(alloc: Global, members: &Members<'_, '_>, network: &Network) -> Result<u16, TableFault>
+    ensures { Gives (λ s. s) result (sets.switch_in network.now.names (object_seen members.now)) }
+{
+    let name = in_table(members.text(alloc, "switch"))?;
+    match network.number(name) {
+        Some(switch) => Ok(switch),
+        None => {
+            let path = member_path(alloc, "/set", "switch")?;
+            Err(TableFault::NoSuchSwitch { path })
+        }
+    }
+}
+
+/// The value that the object has.
+fn value<'a>(alloc: Global, members: &Members<'a, '_>) -> Result<&'a Value, TableFault>
+    ensures { Gives (λ v. view v.now) result (sets.value_in (object_seen members.now)) }
+{
+    match in_table(members.maybe(alloc, "value"))? {
+        Some(value) => Ok(value),
+        None => Err(shape_refused(alloc, "/set/value")),
+    }
+}
+
+/// The control variable that the object names.
+fn variable<'p>(
+    alloc: Global,
+    members: &Members<'_, '_>,
+    property: &'p TypedProperty,
+) -> Result<Variable<'p>, TableFault>
+    ensures { Gives variable_view result
+        (sets.variable_in (decls_of property.now) (object_seen members.now)) }
+{
+    let name = in_table(members.text(alloc, "variable"))?;
+    match variable_of(property, name) {
+        Some(variable) => Ok(variable),
+        None => {
+            let path = member_path(alloc, "/set", "variable")?;
+            Err(TableFault::NoSuchVariable { path })
+        }
+    }
+}
+
+/// What the object sets.
+fn setting_in(
+    alloc: Global,
+    members: &Members<'_, '_>,
+    property: &TypedProperty,
+    network: &Network,
+) -> Result<Setting, TableFault>
+    ensures { Gives set_view result
+        (sets.setting_in (decls_of property.now) network.now.names (object_seen members.now)) }
+{
+    let switch = switch(alloc, members, network)?;
+    let value = value(alloc, members)?;
+    let variable = variable(alloc, members, property)?;
+    let contents = read_contents(alloc, "/set/value", value, variable.decl)?;
+    Ok(Setting {
+        switch,
+        variable: variable.number,
+        contents,
+    })
+}
+
+/// What the value at `/set` of a member sets.
+pub(crate) fn read_set(
+    alloc: Global,
+    value: &Value,
+    property: &TypedProperty,
+    network: &Network,
+) -> Result<Setting, TableFault>
+    ensures { Gives set_view result
+        (sets.setting_of (decls_of property.now) network.now.names (view value.now)) }
+{
+    let members = in_table(Members::new(alloc, "/set", &["switch", "value", "variable"], value))?;
+    let setting = setting_in(alloc, &members, property, network)?;
+    in_table(members.end(alloc))?;
+    Ok(setting)
+}
