@@ -1,11 +1,11 @@
 -- What a member sets, part by part.
-use Rattle.std.proofs.Common.{◌≡◌, List, ℕ, [], ◌∷◌, Result, Ok, Err, refl, sym, ap, ◌∙◌}
+use Rattle.std.proofs.Common.{◌≡◌, List, ℕ, [], ◌∷◌, Result, Ok, Err, refl, ap, ◌∙◌}
 use Rattle.std.specs.Prelude.{codes}
 use Rattle.serde_json.specs.Data.{Data}
 use Rattle.indus_tree.specs.Tree.{Decl}
 use Rattle.table_faults.specs.declared.table.TableFault.{TableFault}
 use Rattle.table_faults.specs.declared.table.TableFault.TheVariants as table
-use Rattle.json_parts.specs.Answers.{◌>>=◌, with_fault, GivesUnless}
+use Rattle.json_parts.specs.Answers.{with_fault, GivesUnless}
 use Rattle.json_parts.specs.Object.{Object, members_of, end_of}
 use Rattle.json_parts.specs.declared.fault.ShapeFault.{ShapeFault}
 use Rattle.json_parts.specs.declared.fault.ShapeFault.TheVariants as shape

@@ -1,6 +1,6 @@
 -- What a member of a schedule sets: `{"set": {"switch": name, "variable": name, "value": contents}}`. Read `Control` of
 -- control_file before it, and `Schedule` after it.
-use Rattle.std.specs.Prelude.{ℕ, List, [], ◌∷◌, codes, Option, Result, Ok, Err}
+use Rattle.std.specs.Prelude.{ℕ, List, [], ◌∷◌, codes, Result, Ok, Err}
 use Rattle.std.specs.Option.{option_map_or}
 use Rattle.serde_json.specs.Data.{Data}
 use Rattle.indus_tree.specs.Tree.{Decl}

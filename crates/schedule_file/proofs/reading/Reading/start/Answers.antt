@@ -1,4 +1,4 @@
-use Rattle.std.proofs.Common.{◌≡◌, sym, ap, ◌∙◌}
+use Rattle.std.proofs.Common.{sym, ap, ◌∙◌}
 use Rattle.schedule_file.specs.Schedule.{count_of}
 use Rattle.schedule_file.proofs.WaitingLemmas.{none_wait}
 use Rattle.schedule_file.proofs.reading.Reading.start.Goals as goal
