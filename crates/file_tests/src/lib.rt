@@ -2,6 +2,12 @@
 #![tactic(auto)]
 
 #[cfg(test)]
+mod contents;
+#[cfg(test)]
 mod members;
 #[cfg(test)]
 mod networks;
+#[cfg(test)]
+mod schedules;
+#[cfg(test)]
+mod texts;
