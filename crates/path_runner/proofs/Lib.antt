@@ -7,6 +7,6 @@ mod Entering
 mod Leaving
 mod Standing
 mod Departing
-mod Running
-mod Starting
-mod Ending
+pub mod Running
+pub mod Starting
+pub mod Ending
