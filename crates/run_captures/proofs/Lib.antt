@@ -1,0 +1,3 @@
+pub mod ByPort
+pub mod Short
+pub mod Files
