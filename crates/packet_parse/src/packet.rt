@@ -1,0 +1,143 @@
+//! The parser and the deparser by themselves.
+
+ghost use Rattle.std.specs.Prelude.{◌≡◌, ◌≤◌, ◌*◌, length, drop, map, IfOk, OnOk};
+ghost use Rattle.std.specs.Option.{option_map};
+ghost use Rattle.bit_values.specs.Bytes.{bits_of};
+ghost use Rattle.p4_tree.specs.View.{control_of, parser_of, program_of};
+ghost use Rattle.p4_meaning.specs.Parts.{control_in, parser_in};
+ghost use Rattle.p4_packets.specs.Fields.{store_of};
+ghost use Rattle.p4_resolved.specs.Lent.{lent};
+ghost use Rattle.p4_resolved.specs.Scopes.{scope_of};
+ghost use Rattle.packet_parse.specs.Stores.{behind_parser, consumed, deparsed, deparser_scope, parser_end, parser_scope, shown_standard, shown_valid, shown_value, store_under};
+
+use crate::fields::Fields;
+use crate::stores::{show, store_under};
+use p4_packets::{Fields as Store, Rest, parse_from, write_frame};
+use p4_parts::parts_of;
+use p4_resolved::{Scope, control_named, in_control, in_parser, named_in, no_scope, parser_named};
+use p4_tree::{Control, Parser, Program};
+use p4_types::TypedProgram;
+use std::alloc::{AllocError, Global};
+
+/// What paths stand for in a parser.
+fn parser_scope(alloc: Global, parser: Option<&Parser>) -> Result<Scope, AllocError>
+    ensures { IfOk result (λ s. scope_of s ≡ parser_scope (option_map parser_of (lent parser.entry))) }
+{
+    let sc = no_scope(alloc)?;
+    match parser {
+        None => Ok(sc),
+        Some(parser) => in_parser(alloc, &sc, parser),
+    }
+}
+
+/// What paths stand for in a deparser.
+fn deparser_scope(alloc: Global, deparser: Option<&Control>) -> Result<Scope, AllocError>
+    ensures { IfOk result (λ s. scope_of s ≡ deparser_scope (option_map control_of (lent deparser.entry))) }
+{
+    let sc = no_scope(alloc)?;
+    match deparser {
+        None => Ok(sc),
+        Some(deparser) => in_control(alloc, 1, 9, 9, &sc, deparser),
+    }
+}
+
+/// The parser that `main` names.
+fn parser_in(p: &Program) -> Option<&Parser>
+    ensures { option_map parser_of (lent result) ≡ parser_in (program_of p.now) }
+{
+    parser_named(&p.tops, named_in(&p.main, 0))
+}
+
+/// The deparser that `main` names.
+fn deparser_in(p: &Program) -> Option<&Control>
+    ensures { option_map control_of (lent result) ≡ control_in (program_of p.now) 5 }
+{
+    control_named(&p.tops, named_in(&p.main, 5))
+}
+
+/// The parser on a frame, where this is in sight before it: how far it came, in bits.
+fn run_on(alloc: Global, p: &Program, s: &mut Fields, frame: &[u8]) -> Result<usize, AllocError>
+    requires { length frame.now ≤ 65791 }
+    ensures rest { IfOk result (λ at. drop at (bits_of frame.now)
+        ≡ (parser_end (program_of p.now) s.old frame.now).reading.rest) }
+    ensures within { IfOk result (λ at. at ≤ 8 * length frame.now) }
+    ensures valid { OnOk result (s.new.valid.items ≡ map (shown_valid (parser_scope (parser_in (program_of p.now)))
+        (behind_parser (program_of p.now) s.old frame.now)) s.old.valid.items) }
+    ensures values { OnOk result (s.new.values.items ≡ map (shown_value (parser_scope (parser_in (program_of p.now)))
+        (behind_parser (program_of p.now) s.old frame.now)) s.old.values.items) }
+    ensures name { s.new.std_name ≡ s.old.std_name }
+    ensures standard { OnOk result (s.new.std
+        ≡ shown_standard (behind_parser (program_of p.now) s.old frame.now)) }
+{
+    let sc = parser_scope(alloc, parser_in(p))?;
+    let parts = parts_of(alloc, p)?;
+    let mut store = store_under(alloc, &sc, s)?;
+    let at = parse_from(alloc, &parts, frame, &mut store)?;
+    show(alloc, &sc, &store, s)?;
+    Ok(at)
+}
+
+/// Runs the parser on a frame, where this is in sight before it, by the paths as the parser writes
+/// them; answers the bytes that it consumed. Then the fields show what stands behind it, and how it
+/// ended. After want of memory some of them may.
+pub fn run_parser(
+    alloc: Global,
+    p: &TypedProgram,
+    s: &mut Fields,
+    frame: &[u8],
+) -> Result<u32, AllocError>
+    requires { length frame.now ≤ 65791 }
+    ensures consumed { IfOk result (λ n. n ≡ consumed (program_of p.now) s.old frame.now) }
+    ensures valid { OnOk result (s.new.valid.items ≡ map (shown_valid (parser_scope (parser_in (program_of p.now)))
+        (behind_parser (program_of p.now) s.old frame.now)) s.old.valid.items) }
+    ensures values { OnOk result (s.new.values.items ≡ map (shown_value (parser_scope (parser_in (program_of p.now)))
+        (behind_parser (program_of p.now) s.old frame.now)) s.old.values.items) }
+    ensures name { s.new.std_name ≡ s.old.std_name }
+    ensures standard { OnOk result (s.new.std
+        ≡ shown_standard (behind_parser (program_of p.now) s.old frame.now)) }
+{
+    let at = run_on(alloc, p.program(), s, frame)?;
+    Ok((at / 8) as u32)
+}
+
+/// What the deparser has in sight, as a store.
+fn deparser_store(alloc: Global, p: &Program, s: &Fields) -> Result<Store, AllocError>
+    ensures { IfOk result (λ t. store_of t
+        ≡ store_under (deparser_scope (control_in (program_of p.now) 5)) s.now) }
+{
+    let sc = deparser_scope(alloc, deparser_in(p))?;
+    let store = store_under(alloc, &sc, s)?;
+    Ok(store)
+}
+
+fn copy_bytes(alloc: Global, bytes: &[u8]) -> Result<Vec<u8>, AllocError>
+    ensures { IfOk result (λ v. v.items ≡ bytes.now) }
+{
+    let copy = bytes.to_vec(alloc)?;
+    Ok(copy)
+}
+
+/// The frame that the deparser makes.
+fn deparse(alloc: Global, p: &Program, s: &Fields, rest: &[u8]) -> Result<Vec<u8>, AllocError>
+    ensures { IfOk result (λ v. v.items ≡ deparsed (program_of p.now) s.now rest.now) }
+{
+    let parts = parts_of(alloc, p)?;
+    let store = deparser_store(alloc, p, s)?;
+    let bytes = copy_bytes(alloc, rest)?;
+    let frame = write_frame(alloc, &parts, &store, &Rest { bytes, skip: 0 })?;
+    Ok(frame)
+}
+
+/// The frame that the deparser makes of the headers that are in sight, by the paths as it writes
+/// them, and of the bytes that the parser left.
+pub fn run_deparser(
+    alloc: Global,
+    p: &TypedProgram,
+    s: &Fields,
+    rest: &[u8],
+) -> Result<Vec<u8>, AllocError>
+    ensures { IfOk result (λ v. v.items ≡ deparsed (program_of p.now) s.now rest.now) }
+{
+    let frame = deparse(alloc, p.program(), s, rest)?;
+    Ok(frame)
+}
