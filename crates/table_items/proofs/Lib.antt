@@ -1,0 +1,3 @@
+mod RaiseLemmas
+mod SumLemmas
+mod LimitLemmas
