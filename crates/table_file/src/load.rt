@@ -21,14 +21,17 @@ use serde_json::{Map, Value};
 use std::alloc::{AllocError, Global};
 use table_faults::TableFault;
 
-/// The tables of each switch before the first entry.
-fn states_before(
+/// The tables of each switch of a network that run a program, in the order of the switches, before the
+/// first entry.
+pub fn states_before(
     alloc: Global,
     program: &TypedProgram,
     network: &Network,
 ) -> Result<Vec<TableState>, AllocError>
-    ensures { IfOk result (λ states. states.items
+    ensures states { IfOk result (λ states. states.items
         ≡ entries.states_before (program_of program.now) network.now.names) }
+    ensures kept { IfOk result (λ states.
+        AreOf (program_of program.now) network.now.names states.items) }
 {
     let first = TableState::new(alloc, program)?;
     let mut states = Vec::new(alloc);
