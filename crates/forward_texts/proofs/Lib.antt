@@ -1,0 +1,3 @@
+-- Lemmas.
+pub mod Named
+pub mod Rows
