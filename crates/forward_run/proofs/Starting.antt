@@ -1,0 +1,92 @@
+-- A net before the first event, and its events.
+use Rattle.std.proofs.Common.{◌≡◌, ℕ, zero, suc, List, [], ◌∷◌, ◌++◌, length, map, get_or, Some, All, refl, ap, sym, ◌∙◌, arith, append_assoc}
+use Rattle.std.specs.Prelude.{slice_get}
+use Rattle.std.proofs.lemmas.List.{length-map, map-append}
+use Rattle.std.proofs.lemmas.List.Elements.{All-head, All-tail}
+use Rattle.p4_tree.specs.Tree.{Program}
+use Rattle.p4_meaning.specs.Parts.{parts_of}
+use Rattle.p4_meaning.specs.Pass.{Queued, Registers, kept_before, start_cells}
+use Rattle.p4_machine.specs.Buffers.{Buffer, IsFor}
+use Rattle.p4_tables.specs.Named.{tables_in}
+use Rattle.p4_tables.specs.State.{Held}
+use Rattle.indus_tree.specs.State.{Contents}
+use Rattle.network_run.specs.Events.{Event, Enter, Leave, Set}
+use Rattle.network_run.specs.World.{first_place}
+use Rattle.path_runner.specs.Conditions.{AreFor, IsEvent}
+use Rattle.path_runner.specs.Nets.{Switch, kept_of, State, AreSwitches, IsSame, state_before}
+use Rattle.forward_run.specs.Job.{Job, IsEventAmong}
+use Rattle.forward_run.specs.Run.{programs_of}
+use Rattle.forward_run.specs.Switches.{switch_before}
+
+-- the state of a job before the first event
+abbrev pub start_of : Job → State
+start_of j = state_before j.network (record { hops = j.hops; link = 65535 }) (map (switch_before j.program) j.tables) j.packets
+
+-- ---- switches
+
+before_at : (p : Program) (ts : List (List Held)) (i : ℕ) (x : Switch) → slice_get (map (switch_before p) ts) i ≡ Some x → switch_before p (get_or ts i []) ≡ x
+before_at p [] i x e = absurd (cc)
+before_at p (t ∷ ts) zero x e = let is : switch_before p t ≡ x = (cc) in is
+before_at p (t ∷ ts) (suc i) x e = before_at p ts i x e
+
+-- what they keep is what the world's switches keep at the start
+pub before_are : (j : Job) → AreSwitches (programs_of j) (λ s. kept_before (parts_of j.program) (tables_in (parts_of j.program) (get_or j.tables s []))) (map (switch_before j.program) j.tables)
+before_are j =
+    record {
+      programs = λ i x at. ap (λ (y : Switch). parts_of y.program) (before_at j.program j.tables i x at);
+      kept = λ i x at. ap kept_of (before_at j.program j.tables i x at);
+    }
+
+-- a buffer for each
+pub before_for : (p : Program) (ts : List (List Held)) (bs : List Buffer) → length bs ≡ length ts → All (IsFor p) bs → AreFor (map (switch_before p) ts) bs
+before_for p [] [] e h = tt
+before_for p [] (b ∷ bs) e h = absurd (omega (arith, e))
+before_for p (t ∷ ts) [] e h = absurd (omega (arith, e))
+before_for p (t ∷ ts) (b ∷ bs) e h = (All-head (IsFor p) b bs h, before_for p ts bs (omega (arith, e)) (All-tail (IsFor p) b bs h))
+
+-- ---- events
+
+-- an event of so many packets and switches
+event_fits : (s : State) (packets switches : ℕ) → length s.places ≡ packets → length s.switches ≡ switches → (e : Event Contents) → IsEventAmong packets switches e → IsEvent s e
+event_fits s packets switches p q (Enter i) h = omega (arith, p, h)
+event_fits s packets switches p q (Leave i) h = omega (arith, p, h)
+event_fits s packets switches p q (Set switch v c) h = omega (arith, q, h)
+
+-- those of a job fit the start
+pub events_fit : (j : Job) (s : State) → s ≡ start_of j → length j.tables ≡ length j.network.names → All (IsEventAmong (length j.packets) (length j.network.names)) j.events → All (IsEvent s) j.events
+events_fit j s is same h = λ k d lt. event_fits s (length j.packets) (length j.network.names) places switches (get_or j.events k d) (h k d lt)
+  where
+    places : length s.places ≡ length j.packets
+    places = ap (λ (x : State). length x.places) is ∙ length-map j.packets (λ a. first_place {Q = Queued} (Some a))
+
+    switches : length s.switches ≡ length j.network.names
+    switches = ap (λ (x : State). length x.switches) is ∙ length-map j.tables (switch_before j.program) ∙ same
+
+-- an event of a state is one of a later state
+pub event_stays : (s t : State) (e : Event Contents) → IsSame s t → IsEvent s e → IsEvent t e
+event_stays s t (Enter i) same h = omega (arith, same.packets, h)
+event_stays s t (Leave i) same h = omega (arith, same.packets, h)
+event_stays s t (Set switch v c) same h =
+    let counts : length (map (λ (x : Switch). x.program) t.switches) ≡ length (map (λ (x : Switch). x.program) s.switches) = ap (λ (ps : List Program). length ps) same.kept.programs in
+    omega (arith, counts, length-map t.switches (λ (x : Switch). x.program), length-map s.switches (λ (x : Switch). x.program), h)
+
+-- ---- switches that are made one by one
+
+same_switch : (p q : Program) (t u : List Held) (c d : Registers) → p ≡ q → t ≡ u → c ≡ d → record { program = p; tables = t; cells = c } ≡ (let x : Switch = record { program = q; tables = u; cells = d } in x)
+same_switch p q t u c d a b e = rw (a, b, e) refl
+
+pub made_of : (p q r : Program) (t held : List Held) (c : Registers) → q ≡ p → r ≡ q → t ≡ held → c ≡ start_cells (parts_of q).registers → record { program = r; tables = t; cells = c } ≡ switch_before p held
+made_of p q r t held c same program tables cells =
+    same_switch r p t held c (start_cells (parts_of p).registers) (program ∙ same) tables (cells ∙ ap (λ (g : Program). start_cells (parts_of g).registers) same)
+
+pub one_made :
+    {X : Type 0} (view : X → Switch) (p : Program) (made now : List X) (x : X) (held : List Held) (left rest : List (List Held)) (all : List Switch) → left ≡ held ∷ rest → now ≡ made ++ x ∷ [] →
+    view x ≡ switch_before p held → map view made ++ map (switch_before p) left ≡ all → map view now ++ map (switch_before p) rest ≡ all
+one_made view p made now x held left rest all l n v h =
+    let others = map (switch_before p) rest in
+    ap (λ (xs : List _). map view xs ++ others) n
+    ∙ ap (λ (xs : List Switch). xs ++ others) (map-append view made (x ∷ []))
+    ∙ append_assoc (map view made) (view x ∷ []) others
+    ∙ ap (λ (y : Switch). map view made ++ y ∷ others) v
+    ∙ ap (λ (ts : List (List Held)). map view made ++ map (switch_before p) ts) (sym l)
+    ∙ h

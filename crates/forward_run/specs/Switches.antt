@@ -1,0 +1,38 @@
+-- The switches of a run, as path_runner has them, and its log. Read `Nets` of path_runner before it.
+use Rattle.std.specs.Prelude.{◌≡◌, ◌≤◌, List, length, All}
+use Rattle.p4_tree.specs.Tree.{Program}
+use Rattle.p4_tree.specs.View.{program_of}
+use Rattle.p4_meaning.specs.Parts.{parts_of}
+use Rattle.p4_meaning.specs.Pass.{start_cells}
+use Rattle.p4_statements.specs.Runs.{cells_in}
+use Rattle.p4_tables.specs.State.{Held}
+use Rattle.p4_machine.specs.declared.switch.Switch as code
+use Rattle.path_runner.specs.Conditions.{most_packets}
+use Rattle.path_runner.specs.Nets.{Switch, State, Shows}
+use Rattle.path_runner.specs.Views.{log_of}
+use Rattle.path_runner.specs.declared.log.RunLog.{RunLog}
+use Rattle.forward_texts.specs.Switches.{RunAll}
+use Rattle.forward_run.specs.Job.{Job}
+use Rattle.forward_run.specs.Run.{programs_of, run_of}
+
+-- a log, whose limits are of no matter
+abbrev pub log_view : RunLog code.Switch → State
+log_view x =
+    log_of (λ s. program_of s.program) (λ s. s.tables) (λ s. cells_in s.registers) (record { hops = 0; link = 0 }) x
+
+-- a switch before the first event: its tables hold this, and its registers are 0
+abbrev pub switch_before : Program → List Held → Switch
+switch_before p held = record { program = p; tables = held; cells = start_cells (parts_of p).registers }
+
+-- the end of a run of a program: there is a switch for each name, the switches run the program, captures hold the frames
+-- that left, and these are no more than packets may be
+pub record IsEnd (p : Program) (s : State) : Type 0 where
+  pub switches : length s.switches ≡ length s.network.names
+  pub programs : RunAll p s.switches
+  pub short : All (λ x. length x.frame ≤ 65535) s.traffic.edges
+  pub few : length s.traffic.edges ≤ most_packets
+
+-- the end of the run of a job
+pub record IsEndOf (j : Job) (s : State) : Type 0 where
+  pub shows : Shows (programs_of j) s (run_of j)
+  pub network : s.network ≡ j.network

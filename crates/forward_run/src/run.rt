@@ -1,0 +1,136 @@
+//! The run of a job.
+
+ghost use Rattle.std.specs.Prelude.{◌≡◌, ◌≤◌, length, map, All, IfOk, OnOk};
+ghost use Rattle.p4_tree.specs.View.{program_of};
+ghost use Rattle.p4_machine.specs.Buffers.{IsFor};
+ghost use Rattle.p4_tables.specs.Programs.{IsStateOf};
+ghost use Rattle.network_file.specs.Events.{event_of};
+ghost use Rattle.path_runner.specs.Conditions.{IsAtEdge, IsEvent};
+ghost use Rattle.path_runner.specs.Nets.{IsSame, RunsTo, Starts, state_before};
+ghost use Rattle.path_runner.specs.Packets.{arrival_of};
+ghost use Rattle.path_runner.specs.Views.{state_of};
+ghost use Rattle.job_course.specs.Output.{out_of};
+ghost use Rattle.forward_run.specs.Files.{IsForwardOutput};
+ghost use Rattle.forward_run.specs.Job.{IsReady};
+ghost use Rattle.forward_texts.specs.Switches.{switch_view};
+ghost use Rattle.forward_run.specs.Switches.{switch_before};
+ghost use Rattle.forward_run.specs.Views.{job_of};
+
+use crate::job::ForwardJob;
+use crate::output::output_of;
+use indus_tree::Decl;
+use job_course::Output;
+use network_file::{Event, Network};
+use p4_machine::{FrameBuf, Switch};
+use p4_tables::TableState;
+use p4_types::TypedProgram;
+use path_runner::{Net, Packet};
+use std::alloc::{AllocError, Global};
+
+/// The greatest length of a frame on a link, in bytes.
+const LINK: u32 = 65_535;
+
+/// Runs the program at every switch, from the first event of the schedule to the end of each packet: the
+/// files of the run in order, and its summary for the sink.
+///
+/// # Errors
+///
+/// `AllocError` where memory runs out.
+pub fn run_forward(alloc: Global, job: ForwardJob, out: &str) -> Result<Output, AllocError>
+    requires { IsReady (job_of job) }
+    ensures { IfOk result (λ o. IsForwardOutput (job_of job) out.now (out_of o)) }
+{
+    let ForwardJob {
+        program,
+        network,
+        hops,
+        tables,
+        packets,
+        times,
+        events,
+    } = job;
+    let count = packets.len() as u32;
+    let mut net = net_before(alloc, &program, network, hops, tables, packets)?;
+    happen(alloc, &mut net, &events)?;
+    let log = net.finish(alloc)?;
+    output_of(alloc, &program, &times, count, out, &log)
+}
+
+/// The network before the first event.
+fn net_before(
+    alloc: Global,
+    program: &TypedProgram,
+    network: Network,
+    hops: u8,
+    tables: Vec<TableState>,
+    packets: Vec<Packet>,
+) -> Result<Net<Switch>, AllocError>
+    requires hops { 1 ≤ hops }
+    requires switches { length tables.items ≡ length network.names }
+    requires tables { All (IsStateOf (program_of program.now)) tables.items }
+    requires few { length packets.items ≤ 100000 }
+    requires packets { All (IsAtEdge network 65535) (map arrival_of packets.items) }
+    ensures state { IfOk result (λ n. state_of n ≡ state_before network (record { hops = hops; link = 65535 })
+        (map (switch_before (program_of program.now)) tables.items) (map arrival_of packets.items)) }
+    ensures starts { IfOk result (λ n. Starts (map (switch_before (program_of program.now)) tables.items)
+        (map arrival_of packets.items) (state_of n)) }
+{
+    let count = tables.len();
+    let bufs = buffers(alloc, program, count)?;
+    let none = no_tables(alloc, count)?;
+    let switches = switches(alloc, program, tables)?;
+    Net::new(alloc, switches, bufs, network, packets, none, hops, LINK)
+}
+
+/// A switch for each list of tables, which runs the program.
+fn switches(
+    alloc: Global,
+    program: &TypedProgram,
+    tables: Vec<TableState>,
+) -> Result<Vec<Switch>, AllocError>
+    requires { All (IsStateOf (program_of program.now)) tables.items }
+    ensures { IfOk result (λ v. map switch_view v.items ≡ map (switch_before (program_of program.now)) tables.items) }
+{
+    let mut switches = Vec::new(alloc);
+    for held in tables {
+        let switch = Switch::new(alloc, program.copy(alloc)?, held)?;
+        switches.push(switch)?;
+    }
+    Ok(switches)
+}
+
+/// So many buffers for passages of the program.
+fn buffers(alloc: Global, program: &TypedProgram, count: usize) -> Result<Vec<FrameBuf>, AllocError>
+    ensures count { IfOk result (λ v. length v.items ≡ count) }
+    ensures made { IfOk result (λ v. All (IsFor (program_of program.now)) v.items) }
+{
+    let mut bufs = Vec::new(alloc);
+    for _ in 0..count {
+        bufs.push(FrameBuf::new(alloc, program)?)?;
+    }
+    Ok(bufs)
+}
+
+/// So many lists of tables that hold control variables, with none.
+fn no_tables(alloc: Global, count: usize) -> Result<Vec<Vec<(u32, u32, u32, Decl)>>, AllocError>
+    ensures count { IfOk result (λ v. length (map (λ l. length l.items) v.items) ≡ count) }
+    ensures none { IfOk result (λ v. All (λ n. n ≡ 0) (map (λ l. length l.items) v.items)) }
+{
+    let mut lists = Vec::new(alloc);
+    for _ in 0..count {
+        lists.push(Vec::new(alloc))?;
+    }
+    Ok(lists)
+}
+
+/// Events happen, one after the other.
+fn happen(alloc: Global, net: &mut Net<Switch>, events: &[Event]) -> Result<(), AllocError>
+    requires { All (IsEvent (state_of net.old)) (map event_of events.now) }
+    ensures same { IsSame (state_of net.old) (state_of net.new) }
+    ensures runs { OnOk result (RunsTo (state_of net.old) (map event_of events.now) (state_of net.new)) }
+{
+    for event in events {
+        net.step(alloc, event)?;
+    }
+    Ok(())
+}
