@@ -1,0 +1,92 @@
+-- A job that the files may give is ready to be run.
+use Rattle.std.proofs.Common.{◌≡◌, ℕ, ◌≤◌, List, [], length, map, Option, Some, None, Result, Ok, Err, IfOk, refl, sym, subst, arith}
+use Rattle.std.specs.List.{All}
+use Rattle.std.proofs.lemmas.List.Elements.{All-nil, All-from_get_or}
+use Rattle.indus_tree.specs.State.{Contents}
+use Rattle.network_run.specs.Events.{Event}
+use Rattle.network_run.specs.NetworkRun.{longest_frame}
+use Rattle.p4_tree.specs.Tree.{Program}
+use Rattle.p4_tables.specs.Programs.{IsStateOf}
+use Rattle.network_file.specs.Network.{Network, Port}
+use Rattle.path_runner.specs.Conditions.{IsAtEdge}
+use Rattle.case_file.specs.Case.{Case}
+use Rattle.table_file.specs.Entries.{States}
+use Rattle.table_file.specs.Laws.{AreOf}
+use Rattle.outside.specs.State.{StoreState}
+use Rattle.job_course.specs.declared.status.Stop.{Stop}
+use Rattle.job_course.specs.Course.{and_then}
+use Rattle.job_course.specs.Steps.{Follows}
+use Rattle.table_course.specs.Files.{events_course}
+use Rattle.forward_run.specs.Job.{Job, IsReady, IsEventAmong}
+use Rattle.forward_run.specs.Views.{job_of}
+use Rattle.forward_run.specs.declared.job.ForwardJob.{ForwardJob}
+use Rattle.forward_job.specs.Packets.{Packets}
+use Rattle.forward_job.specs.Course.{Ground, around, ground_course, packets_course, loaded_course, forward_course}
+use Rattle.forward_job.proofs.CaseLemmas.{hops_are_some}
+use Rattle.forward_job.proofs.PlaceLemmas.{IsPlace, are_places}
+use Rattle.forward_job.proofs.CaptureLemmas.{captures_are_short, captures_are_few, few_arrive, all_arrive}
+use Rattle.forward_job.proofs.EventLemmas.{events_are_here}
+
+-- captures enter the network by edge ports
+pub ground_is_placed : (name : List ℕ) (c : Case) (g : Ground) → (ground_course name c).may g → All (IsPlace g.network) g.places
+unfolding ground_course and_then
+ground_is_placed name c g (p, a, (n, b, (ps, places, is))) =
+    subst (λ (h : Ground). All (IsPlace h.network) h.places) (sym is) (are_places n c.captures ps places)
+
+module _ (name : List ℕ) (c : Case) (places : List Port) (ps : Packets) where
+  pub packets_are_few : (packets_course name c places).may ps → length ps.arrivals ≤ 100000
+  unfolding packets_course and_then
+  packets_are_few (cs, may, is) =
+      let few = captures_are_few name c.room c.hops (map (λ x. x.file) c.captures) cs may in
+      let less = few_arrive places cs in
+      subst (λ (q : Packets). length q.arrivals ≤ 100000) (sym is) (omega (arith, few, less))
+
+  pub packets_arrive : (n : Network) → All (IsPlace n) places → (packets_course name c places).may ps → All (IsAtEdge n longest_frame) ps.arrivals
+  unfolding packets_course and_then
+  packets_arrive n h (cs, may, is) =
+      subst (λ (q : Packets). All (IsAtEdge n longest_frame) q.arrivals) (sym is) (all_arrive n places cs h (captures_are_short name c.room c.hops (map (λ x. x.file) c.captures) cs may))
+
+pub schedule_speaks : (name : Option (List ℕ)) (g : Ground) (ps : Packets) (es : List (Event Contents)) → (events_course name (around g ps)).may es → All (IsEventAmong (length ps.arrivals) (length g.network.names)) es
+unfolding and_then
+schedule_speaks None g ps es is = subst (All (IsEventAmong (length ps.arrivals) (length g.network.names))) (sym is) (All-nil (IsEventAmong (length ps.arrivals) (length g.network.names)))
+schedule_speaks (Some x) g ps es (d, may, e) = events_are_here (length ps.arrivals) g.network.names d es e
+
+-- what is loaded on such ground
+record IsLoaded (c : Case) (g : Ground) (j : Job) : Type 0 where
+  hops : j.hops ≡ c.hops
+  few : length j.packets ≤ 100000
+  packets : All (IsAtEdge j.network longest_frame) j.packets
+  events : All (IsEventAmong (length j.packets) (length j.network.names)) j.events
+
+loaded : (name : List ℕ) (c : Case) (g : Ground) (j : Job) → All (IsPlace g.network) g.places → (loaded_course name c g).may j → IsLoaded c g j
+unfolding loaded_course and_then
+loaded name c g j h (ts, a, (ps, b, (es, d, is))) =
+    subst (IsLoaded c g) (sym is)
+    (record {
+      hops = refl;
+      few = packets_are_few name c g.places ps b;
+      packets = packets_arrive name c g.places ps g.network h b;
+      events = schedule_speaks c.schedule g ps es d;
+    })
+
+tables_all : (p : Program) (names : List (List ℕ)) (sts : States) → AreOf p names sts → All (IsStateOf p) sts
+tables_all p names sts h = All-from_get_or (IsStateOf p) sts [] (λ i lt. h.each i lt)
+
+pub is_ready : (name : List ℕ) (j : Job) → AreOf j.program j.network.names j.tables → (forward_course name).may j → IsReady j
+unfolding forward_course and_then
+is_ready name j are (d, a, (c, is, (g, b, may))) =
+    let l = loaded name c g j (ground_is_placed name c g b) may in
+    record {
+      hops = subst (λ (n : ℕ). 1 ≤ n) (sym l.hops) (hops_are_some d c is);
+      switches = are.count;
+      tables = tables_all j.program j.network.names j.tables are;
+      few = l.few;
+      packets = l.packets;
+      events = l.events;
+    }
+
+-- so is one that was read
+pub if_ready : (name : List ℕ) (s t : StoreState) (r : Result ForwardJob Stop) → Follows (forward_course name) job_of s t r
+    → IfOk r (λ j. AreOf (job_of j).program (job_of j).network.names (job_of j).tables) → IfOk r (λ j. IsReady (job_of j))
+if_ready name s t (Ok j) h are = is_ready name (job_of j) are h.keeps.may
+if_ready name s t (Err e) h are = tt
