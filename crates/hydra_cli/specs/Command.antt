@@ -13,6 +13,7 @@ use Rattle.job_course.specs.declared.status.Status.{Status}
 use Rattle.job_course.specs.declared.status.Status.TheVariants.{BadProperty}
 use Rattle.job_course.specs.declared.status.Area.TheVariants as area
 use Rattle.job_course.specs.Course.{Course, file, decide, and_then, give}
+use Rattle.forward_job.specs.Course.{forward_course}
 use Rattle.hydra_cli.specs.declared.command.Command as said
 use Rattle.hydra_cli.specs.declared.command.Command.TheVariants as variants
 use Rattle.hydra_cli.specs.Job as jobs
@@ -23,10 +24,13 @@ pub data Command : Type 0 where
   wire : (property frame out : List ℕ) → Command
   -- the name of the property's file
   check : (property : List ℕ) → Command
+  -- the name of the case's file, and the front of the names of what is written
+  forward : (case out : List ℕ) → Command
 
 -- the command that words are, where they are one
 abbrev pub command_of : List (List ℕ) → Option Command
 command_of (word ∷ p ∷ f ∷ o ∷ []) = if bytes_eq word (codes "wire") then Some (wire p f o) else None
+command_of (word ∷ c ∷ o ∷ []) = if bytes_eq word (codes "forward") then Some (forward c o) else None
 command_of (word ∷ p ∷ []) = if bytes_eq word (codes "check") then Some (check p) else None
 command_of _ = None
 
@@ -70,8 +74,10 @@ frame name = file name 65535 area.Capture
 abbrev pub course_of : Command → Course jobs.Job
 course_of (wire p f o) = and_then (small_property p) (λ tree. and_then (frame f) (λ bytes. give (jobs.wire tree bytes o)))
 course_of (check p) = and_then (typed_property p) (λ tree. give (jobs.check tree))
+course_of (forward c o) = and_then (forward_course c) (λ job. give (jobs.forward job o))
 
 -- the command that a value says
 abbrev pub said_by : said.Command → Command
 said_by (variants.Wire p f o) = wire p.now f.now o.now
 said_by (variants.Check p) = check p.now
+said_by (variants.Forward c o) = forward c.now o.now

@@ -6,7 +6,8 @@ use Rattle.indus_types.specs.Sums.{cut, cut_wide, property_bits, property_weight
 use Rattle.wire_linkage.specs.Linkage.{IsWireLinkage}
 use Rattle.hydra_cli.specs.Headline.{Headline}
 use Rattle.job_course.specs.Output.{Out}
-use Rattle.hydra_cli.specs.Job.{Job, wire, check}
+use Rattle.forward_run.specs.Files.{IsForwardOutput}
+use Rattle.hydra_cli.specs.Job.{Job, wire, check, forward}
 
 -- of `wire`: the headline, and all else that is said of linked programs
 pub record IsWireOutput (p : Property) (frame out : List ℕ) (given : Out) : Type 0 where
@@ -28,3 +29,4 @@ pub record IsCheckOutput (p : Property) (given : Out) : Type 0 where
 abbrev pub Outputs : Job → Out → Type 0
 Outputs (wire p f o) out = IsWireOutput p f o out
 Outputs (check p) out = IsCheckOutput p out
+Outputs (forward j o) out = IsForwardOutput j o out

@@ -9,6 +9,7 @@ ghost use Rattle.job_course.specs.Plan.{Plans};
 ghost use Rattle.job_course.specs.Steps.{Follows};
 
 use crate::check::{load_typed, sums};
+use crate::forward::{read_forward, run_forward};
 use crate::job::{Job, WireJob};
 use crate::wire::{load_frame, load_small, run_wire};
 use job_course::{Output, Stop};
@@ -22,6 +23,8 @@ pub enum Command<'a> {
     Wire(&'a str, &'a str, &'a str),
     /// `check PROPERTY`
     Check(&'a str),
+    /// `forward CASE OUT`
+    Forward(&'a str, &'a str),
 }
 
 /// The command that the words are, if they are one.
@@ -32,6 +35,13 @@ pub fn read_words<'a>(words: &'a [String]) -> Option<Command<'a>>
         [word, property, frame, out] => {
             if word.as_str() == "wire" {
                 Some(Command::Wire(property.as_str(), frame.as_str(), out.as_str()))
+            } else {
+                None
+            }
+        }
+        [word, case, out] => {
+            if word.as_str() == "forward" {
+                Some(Command::Forward(case.as_str(), out.as_str()))
             } else {
                 None
             }
@@ -62,6 +72,7 @@ fn read_job<S: Store>(alloc: Global, store: &mut S, command: Command<'_>) -> Res
     match command {
         Command::Wire(property, frame, out) => read_wire(alloc, store, property, frame, out),
         Command::Check(property) => read_check(alloc, store, property),
+        Command::Forward(case, out) => read_forward(alloc, store, case, out),
     }
 }
 
@@ -100,5 +111,6 @@ fn run(alloc: Global, job: Job) -> Result<Output, AllocError>
     match job {
         Job::Wire(job) => run_wire(alloc, job),
         Job::Check(property) => sums(alloc, &property),
+        Job::Forward(task) => run_forward(alloc, task),
     }
 }

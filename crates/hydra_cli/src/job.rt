@@ -2,6 +2,7 @@
 
 ghost use Rattle.std.specs.Prelude.{◌≤◌, length};
 
+use forward_run::ForwardJob;
 use indus_types::TypedProperty;
 
 /// What a command is to do.
@@ -10,6 +11,7 @@ pub enum Job {
     Wire(WireJob),
     /// A property that breaks no rule of types.
     Check(TypedProperty),
+    Forward(ForwardTask),
 }
 
 /// A property, a raw frame, and the front of the names of what is written.
@@ -19,4 +21,11 @@ pub struct WireJob {
     pub frame: Vec<u8>,
     pub out: String,
     ghost short: { length frame.items ≤ 65535 },
+}
+
+/// A job of `forward`, and the front of the names of what is written.
+#[derive(Drop)]
+pub struct ForwardTask {
+    pub job: ForwardJob,
+    pub out: String,
 }

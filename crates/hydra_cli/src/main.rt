@@ -3,8 +3,9 @@
 //! `hydra` does what the words of a command line say, over a store of files and a sink of bytes, and
 //! `main` calls it over the system's files and standard output. So far it does
 //! `wire PROPERTY FRAME OUT`, which links the property into the built-in wire program on three
-//! switches and carries one raw frame through them, and `check PROPERTY`, which reads a property of
-//! the whole language and says what it needs.
+//! switches and carries one raw frame through them; `check PROPERTY`, which reads a property of the
+//! whole language and says what it needs; and `forward CASE OUT`, which runs a program at every switch
+//! of a network over captures.
 //!
 //! Not promised: what the system's files and standard output hold.
 #![tactic(auto)]
@@ -17,6 +18,11 @@ mod check;
 #[cfg(test)]
 mod check_tests;
 mod command;
+#[cfg(test)]
+mod fabric_tests;
+mod forward;
+#[cfg(test)]
+mod forward_tests;
 mod job;
 #[cfg(test)]
 mod printed_tests;

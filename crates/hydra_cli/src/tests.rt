@@ -18,7 +18,7 @@ const ONE_REJECTED: &str = "Done packets 1/sent 0/dropped 0/rejected 1/lost 0/re
 /// No call fails.
 pub const NONE: (&[u64], &[u64]) = (&[], &[]);
 
-fn words_of(alloc: Global, line: &str) -> Result<Vec<String>, AllocError> {
+pub fn words_of(alloc: Global, line: &str) -> Result<Vec<String>, AllocError> {
     line.split(' ')
         .filter(|word| !word.is_empty())
         .map(|word| String::from_str(alloc, word))
@@ -43,7 +43,7 @@ pub fn answered(
 }
 
 /// Whether this is the status, and behind a space all that was put, with `/` for each line feed.
-fn is_answer(
+pub fn is_answer(
     alloc: Global,
     status: Status,
     taken: &[u8],
