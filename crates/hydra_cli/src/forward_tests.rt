@@ -303,9 +303,9 @@ fn halves_of_packets_elsewhere_change_nothing(rt: HostRuntime) -> Result<(), Fai
 }
 
 /// A capture of so many frames without bytes, and a schedule in which each of them enters.
-fn waiting(alloc: Global, count: usize, leaves: &str) -> Result<(Vec<u8>, String), AllocError> {
+fn waiting(alloc: Global, count: u16, leaves: &str) -> Result<(Vec<u8>, String), AllocError> {
     let mut capture = HEAD.to_vec(alloc)?;
-    capture.resize(24 + 16 * count, 0)?;
+    capture.resize(24 + 16 * count as usize, 0)?;
     let mut schedule = String::from_str(alloc, "[")?;
     for packet in 0..count {
         if packet > 0 {
