@@ -14,7 +14,7 @@ use Rattle.p4_types.specs.Numbers.{dotted, number_in}
 use Rattle.p4_tables.specs.Shapes.{Shape, params_in}
 use Rattle.p4_tables.specs.Entries.{Entry, Act}
 use Rattle.p4_tables.specs.declared.shape.KeyShape.{KeyShape}
-use Rattle.p4_tables.specs.declared.shape.ValueShape.{ValueShape}
+use Rattle.value_shapes.specs.declared.values.ValueShape.{ValueShape}
 use Rattle.json_values.specs.Words.{fault_of}
 use Rattle.entry_parts.specs.Written as written
 use Rattle.entry_parts.specs.Written.{Part, whole, front, masked, past, entry_at, default_at}

@@ -13,7 +13,7 @@ use Rattle.json_parts.specs.Turns.{all_of}
 use Rattle.json_values.specs.Words.{word_at}
 use Rattle.json_values.specs.declared.word.WordKind.{WordKind}
 use Rattle.json_values.specs.declared.word.WordKind.TheVariants.{Number, TruthOrBit}
-use Rattle.p4_tables.specs.declared.shape.ValueShape.{ValueShape}
+use Rattle.value_shapes.specs.declared.values.ValueShape.{ValueShape}
 use Rattle.entry_parts.specs.Written.{Part, whole, front, masked, past}
 
 -- a truth value may also be 1 or 0

@@ -20,7 +20,7 @@ use Rattle.p4_tables.specs.Entries.{Act, named}
 use Rattle.p4_tables.specs.State.{Held, held_at, no_table}
 use Rattle.p4_tables.specs.Answers.{IsHit, IsMiss}
 use Rattle.p4_tables.specs.Programs.{shapes, kind_of, key_shapes, table_before, tables_before, state_before, keys_hold, params_hold}
-use Rattle.p4_tables.specs.declared.shape.ValueShape.{ValueShape}
+use Rattle.value_shapes.specs.declared.values.ValueShape.{ValueShape}
 use Rattle.p4_tables.specs.Named.{action_name, entries_named, tables_named, tables_in, table_place}
 use Rattle.p4_tables.proofs.Applied.{same_ternary, miss_chosen}
 use Rattle.p4_machine.specs.Loaded.{same_truth, are_for, fits_in}

@@ -16,7 +16,7 @@ use Rattle.p4_tables.specs.Entries.{Entry, Act, named}
 use Rattle.p4_tables.specs.State.{Held, held_at, no_table}
 use Rattle.p4_tables.specs.Answers.{IsMiss}
 use Rattle.p4_tables.specs.Programs.{kind_of, key_shapes}
-use Rattle.p4_tables.specs.declared.shape.ValueShape.{ValueShape}
+use Rattle.value_shapes.specs.declared.values.ValueShape.{ValueShape}
 use Rattle.p4_tables.specs.Laws.{ChoicesAreUnique, RunsListed}
 use Rattle.p4_tables.specs.Kept.{IsSound, AreSound}
 use Rattle.p4_tables.specs.declared.shape.KeyKind.TheVariants.{Exact, Lpm, Ternary}

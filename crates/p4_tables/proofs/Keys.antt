@@ -4,9 +4,10 @@ use Rattle.bit_values.specs.Bits.{Word}
 use Rattle.p4_meaning.specs.Choice.{fits_keys}
 use Rattle.p4_tables.specs.declared.entry.Match as code_match
 use Rattle.p4_tables.specs.declared.shape.KeyShape.{KeyShape}
-use Rattle.p4_tables.specs.declared.shape.ValueShape.{ValueShape}
+use Rattle.value_shapes.specs.declared.values.ValueShape.{ValueShape}
 use Rattle.p4_tables.specs.Shapes.{are_for_keys, have_widths}
 use Rattle.p4_tables.specs.Entries.{same_keys}
+use Rattle.p4_tables.specs.Index.{wanted}
 use Rattle.p4_tables.specs.View.{match_of}
 
 -- matches are left, and no keys
@@ -26,6 +27,12 @@ pub no_words : (vs : List ValueShape) (i : ℕ) → i < length vs → have_width
 no_words [] i lt = absurd (omega arith)
 no_words (v ∷ vs) zero lt = refl
 no_words (v ∷ vs) (suc i) lt = no_words vs i (omega arith)
+
+-- keys of a table are left, and no words
+pub no_kinds : (ks : List KeyShape) (i : ℕ) → i < length ks → have_widths (map (λ (k : KeyShape). k.value) (drop i ks)) [] ≡ false
+no_kinds [] i lt = absurd (omega arith)
+no_kinds (k ∷ ks) zero lt = refl
+no_kinds (k ∷ ks) (suc i) lt = no_kinds ks i (omega arith)
 
 -- words are left, and no values
 pub no_values : (ws : List Word) (i : ℕ) → i < length ws → have_widths [] (drop i ws) ≡ false
@@ -55,3 +62,8 @@ pub more_right : (ms : List code_match.Match) (i : ℕ) → i < length ms → sa
 more_right [] i lt = absurd (omega arith)
 more_right (m ∷ ms) zero lt = refl
 more_right (m ∷ ms) (suc i) lt = more_right ms i (omega arith)
+
+-- nothing is wanted for no keys
+pub nothing_wanted : (ks : List KeyShape) (n : ℕ) → wanted ks n [] ≡ []
+nothing_wanted [] n = refl
+nothing_wanted (k ∷ ks) n = refl

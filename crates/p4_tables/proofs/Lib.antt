@@ -8,3 +8,9 @@ pub mod Steps
 pub mod Started
 pub mod Applied
 pub mod Rows
+pub mod Noted
+pub mod Listed
+pub mod Same
+pub mod Ranked
+pub mod Signed
+pub mod Fallen

@@ -22,9 +22,10 @@ use Rattle.p4_declaration_rules.specs.Controls.{after_local, after_top, locals_t
 use Rattle.p4_rules.specs.ProgramRules.{program_tests, IsWellTyped}
 use Rattle.p4_tables.specs.Shapes.{is_lpm, has_lpm, has_two_prefixes, has_action}
 use Rattle.p4_tables.specs.State.{entries_in}
-use Rattle.p4_tables.specs.Programs.{kind_of, key_shapes, action_place, action_shape, tops_values, tables_before, state_before}
-use Rattle.p4_tables.specs.declared.shape.ValueShape.{ValueShape}
-use Rattle.p4_tables.specs.declared.values.Holder.TheVariants.{Keys, Params}
+use Rattle.value_shapes.specs.Values.{tops_values}
+use Rattle.p4_tables.specs.Programs.{kind_of, key_shapes, action_place, action_shape, tables_before, state_before}
+use Rattle.value_shapes.specs.declared.values.ValueShape.{ValueShape}
+use Rattle.value_shapes.specs.declared.values.Holder.TheVariants.{Keys, Params}
 use Rattle.p4_tables.specs.Kept.{IsSound, AreSound}
 use Rattle.p4_tables.specs.declared.shape.KeyKind.TheVariants.{Exact, Lpm, Ternary}
 

@@ -3,7 +3,7 @@ use Rattle.std.proofs.Common.{◌≡◌, ℕ, zero, suc, ◌+◌, List, [], ◌�
 use Rattle.p4_meaning.specs.Actions.{Action}
 use Rattle.p4_meaning.specs.Tables.{Key, Table}
 use Rattle.p4_tables.specs.Programs.{kind_of, no_value, key_shapes, table_before, tables_before}
-use Rattle.p4_tables.specs.declared.shape.ValueShape.{ValueShape}
+use Rattle.value_shapes.specs.declared.values.ValueShape.{ValueShape}
 
 next_key : (k : Key) (ks : List Key) (ws : List ValueShape) (i : ℕ) → key_shapes (k ∷ ks) (drop i ws) ≡ record { kind = kind_of k.kind; value = get_or ws i no_value } ∷ key_shapes ks (drop (suc i) ws)
 next_key k ks [] zero = refl

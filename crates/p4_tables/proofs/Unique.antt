@@ -19,16 +19,16 @@ use Rattle.p4_tables.specs.declared.shape.KeyShape.{KeyShape}
 -- ---- what is asked of a key
 
 -- a key is matched in one way
-exact_or_lpm : (k : KeyKind) → is_exact k ≡ true → is_lpm k ≡ true → ⊥
+pub exact_or_lpm : (k : KeyKind) → is_exact k ≡ true → is_lpm k ≡ true → ⊥
 exact_or_lpm Exact e l = false≢true l
 exact_or_lpm Lpm e l = false≢true e
 exact_or_lpm Ternary e l = false≢true e
 
-no_mask : (b : Bool) → b ≡ true → b ≡ false → ⊥
+pub no_mask : (b : Bool) → b ≡ true → b ≡ false → ⊥
 no_mask b t f = false≢true (sym f ∙ t)
 
 -- without a key that is matched by its first bits no entry has a prefix
-no_prefix : (ks : List KeyShape) (ms : List Match) → has_lpm ks ≡ false → are_for_keys ks ms ≡ true → prefix_of ms ≡ 0
+pub no_prefix : (ks : List KeyShape) (ms : List Match) → has_lpm ks ≡ false → are_for_keys ks ms ≡ true → prefix_of ms ≡ 0
 no_prefix [] [] none fit = refl
 no_prefix [] (m ∷ ms) none fit = absurd (cc fit)
 no_prefix (k ∷ ks) [] none fit = absurd (cc fit)
@@ -127,13 +127,13 @@ same_asked (k ∷ ks) (lpm v m ∷ ms) (ternary u q ∷ ns) (w ∷ ws) t two am 
 -- ---- entries
 
 -- what holds of all entries holds of one of them
-of_one : (P : Entry → Type 0) (es : List Entry) (e : Entry) → Contains es e → AllByRecursion P es → P e
+pub of_one : (P : Entry → Type 0) (es : List Entry) (e : Entry) → Contains es e → AllByRecursion P es → P e
 of_one P [] e (k, lt, is) h = absurd (omega arith)
 of_one P (f ∷ fs) e (zero, lt, is) h = subst P is h.0
 of_one P (f ∷ fs) e (suc k, lt, is) h = of_one P fs e (k, omega arith, is) h.1
 
 -- two entries that clash either way are one
-one_of : (t : Bool) (es : List Entry) (e f : Entry) → AreApart t es → Contains es e → Contains es f → clash t e f ≡ true → clash t f e ≡ true → e ≡ f
+pub one_of : (t : Bool) (es : List Entry) (e f : Entry) → AreApart t es → Contains es e → Contains es f → clash t e f ≡ true → clash t f e ≡ true → e ≡ f
 one_of t [] e f apart (k, lt, is) g c d = absurd (omega arith)
 one_of t (x ∷ xs) e f apart (zero, lt, is) (zero, lt', is') c d = sym is ∙ is'
 one_of t (x ∷ xs) e f apart (zero, lt, is) (suc k, lt', is') c d =
@@ -145,7 +145,7 @@ one_of t (x ∷ xs) e f apart (suc k, lt, is) (zero, lt', is') c d =
 one_of t (x ∷ xs) e f apart (suc k, lt, is) (suc j, lt', is') c d = one_of t xs e f apart.1 (k, omega arith, is) (j, omega arith, is') c d
 
 -- two entries that fit and have one rank clash
-clash_of : (s : Shape) (t : Bool) (e f : Entry) (ws : List Word) → has_ternary s.keys ≡ t → has_two_prefixes s.keys ≡ false → takes_entry s e ≡ true → takes_entry s f ≡ true → have_widths (map (λ (k : KeyShape). k.value) s.keys) ws ≡ true → fits_keys e.keys ws ≡ true → fits_keys f.keys ws ≡ true → cond t e.priority (prefix_of e.keys) ≡ cond t f.priority (prefix_of f.keys) → clash t e f ≡ true
+pub clash_of : (s : Shape) (t : Bool) (e f : Entry) (ws : List Word) → has_ternary s.keys ≡ t → has_two_prefixes s.keys ≡ false → takes_entry s e ≡ true → takes_entry s f ≡ true → have_widths (map (λ (k : KeyShape). k.value) s.keys) ws ≡ true → fits_keys e.keys ws ≡ true → fits_keys f.keys ws ≡ true → cond t e.priority (prefix_of e.keys) ≡ cond t f.priority (prefix_of f.keys) → clash t e f ≡ true
 clash_of s true e f ws is two te tf hw fe ff same = eq-eqb e.priority f.priority same
 clash_of s false e f ws is two te tf hw fe ff same =
     let a = and_parts (are_for_keys s.keys e.keys) (takes s.actions e.action e.args) te in

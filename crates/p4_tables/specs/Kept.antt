@@ -5,7 +5,6 @@ use Rattle.p4_tables.specs.Shapes.{has_ternary, has_two_prefixes, has_action}
 use Rattle.p4_tables.specs.Entries.{Entry, same_keys}
 use Rattle.p4_tables.specs.State.{Held, entries_in}
 use Rattle.p4_tables.specs.Faults.{takes_entry}
-use Rattle.p4_tables.specs.View.{held_in}
 use Rattle.p4_tables.specs.declared.state.TableState.TheInside.{Inside}
 
 -- two entries do not stand in one table: they ask the same of all keys, or with a ternary key have one priority
@@ -31,5 +30,5 @@ pub record AreSound (st : List Held) : Type 0 where
 
 -- the number of entries is kept
 pub record IsKept (s : Inside) : Type 0 where
-  pub sound : AreSound (held_in s.tables.items)
-  pub count : s.count ≡ entries_in (held_in s.tables.items)
+  pub sound : AreSound s.tables.items
+  pub count : s.count ≡ entries_in s.tables.items

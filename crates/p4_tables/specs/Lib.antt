@@ -12,3 +12,4 @@ pub mod View
 -- What serves the proofs.
 pub mod Walk
 pub mod Kept
+pub mod Index

@@ -1,70 +1,21 @@
 -- The tables of a program: what each takes, and what it holds before anything is loaded. Read `State` before it, `Parts`
--- of the meaning, and `Controls` of the rules.
-use Rattle.std.specs.Prelude.{◌≡◌, ℕ, suc, codes, List, [], ◌∷◌, ◌++◌, map, get_or, Bool, true, false, if◌then◌else◌}
+-- of the meaning, and `Values` of `value_shapes`.
+use Rattle.std.specs.Prelude.{◌≡◌, ℕ, suc, codes, List, [], ◌∷◌, map, get_or, false, if◌then◌else◌}
 use Rattle.lex_text.specs.Names.{same_text}
-use Rattle.p4_tree.specs.Tree.{Expr, Local, local_action, local_table, Top, control, Program}
-use Rattle.p4_tree.specs.declared.statement.PTy.{PTy}
+use Rattle.p4_tree.specs.Tree.{Program}
 use Rattle.p4_meaning.specs.Actions.{Action}
 use Rattle.p4_meaning.specs.Tables.{Key, Table, Chosen}
 use Rattle.p4_meaning.specs.Parts.{parts_of}
-use Rattle.p4_scopes.specs.Kinds.{bits_in}
-use Rattle.p4_scopes.specs.Scopes.{Scope, own, kind_in, core}
-use Rattle.p4_scopes.specs.declared.kind.Kind.{Kind}
-use Rattle.p4_scopes.specs.declared.kind.Kind.TheVariants as kind
-use Rattle.p4_declaration_rules.specs.Parsers.{with_ways}
-use Rattle.p4_declaration_rules.specs.Controls.{after_local, after_top}
+use Rattle.p4_scopes.specs.Scopes.{core}
+use Rattle.value_shapes.specs.Values.{tops_values}
 use Rattle.p4_tables.specs.Shapes.{ActionShape, Shape}
 use Rattle.p4_tables.specs.Entries.{Act}
 use Rattle.p4_tables.specs.State.{Held}
 use Rattle.p4_tables.specs.declared.shape.KeyKind.{KeyKind}
 use Rattle.p4_tables.specs.declared.shape.KeyKind.TheVariants.{Exact, Lpm, Ternary}
 use Rattle.p4_tables.specs.declared.shape.KeyShape.{KeyShape}
-use Rattle.p4_tables.specs.declared.shape.ValueShape.{ValueShape}
-use Rattle.p4_tables.specs.declared.values.Holder.{Holder}
-use Rattle.p4_tables.specs.declared.values.Holder.TheVariants.{Keys, Params}
-
--- ---- what keys and parameters hold
-
--- a value of this kind is a truth value
-abbrev pub is_truth : Kind → Bool
-is_truth (kind.Number w) = false
-is_truth kind.Truth = true
-is_truth kind.Error = false
-is_truth kind.Unknown = false
-
--- what is of this kind
-abbrev pub value_of : Kind → ValueShape
-value_of k = record { width = bits_in k; is_truth = is_truth k }
-
--- keys by the rules, with this in sight
-abbrev pub key_values : Scope → List (Expr × List ℕ) → List ValueShape
-key_values s [] = []
-key_values s (k ∷ ks) = value_of (own s k.0) ∷ key_values s ks
-
--- parameters of these types
-abbrev pub param_values : Scope → List (PTy × List ℕ) → List ValueShape
-param_values s [] = []
-param_values s (p ∷ ps) = value_of (kind_in s p.0) ∷ param_values s ps
-
--- the keys of the table, or the parameters of the action, that a declaration of a control declares, if it does
-abbrev pub local_values : Holder → Scope → Local → List (List ValueShape)
-local_values Keys s (local_table p t) = key_values s t.keys ∷ []
-local_values Params s (local_action p a) = param_values s a.params ∷ []
-local_values h s _ = []
-
-abbrev pub locals_values : Holder → Scope → List Local → List (List ValueShape)
-locals_values h s [] = []
-locals_values h s (l ∷ ls) = local_values h s l ++ locals_values h (after_local s l) ls
-
--- those of the tables, or of the actions, of a control
-abbrev pub top_values : Holder → Scope → Top → List (List ValueShape)
-top_values h s (control p c) = locals_values h (with_ways s c.params) c.locals
-top_values h s _ = []
-
--- those of all tables, or of all actions, in the order of the text
-abbrev pub tops_values : Holder → Scope → List Top → List (List ValueShape)
-tops_values h s [] = []
-tops_values h s (t ∷ ts) = top_values h s t ++ tops_values h (after_top s t) ts
+use Rattle.value_shapes.specs.declared.values.ValueShape.{ValueShape}
+use Rattle.value_shapes.specs.declared.values.Holder.TheVariants.{Keys, Params}
 
 -- ---- keys
 

@@ -5,7 +5,7 @@ use Rattle.p4_meaning.specs.Choice.{Match, exact, lpm, ternary}
 use Rattle.p4_tables.specs.declared.shape.KeyKind.{KeyKind}
 use Rattle.p4_tables.specs.declared.shape.KeyKind.TheVariants.{Exact, Lpm, Ternary}
 use Rattle.p4_tables.specs.declared.shape.KeyShape.{KeyShape}
-use Rattle.p4_tables.specs.declared.shape.ValueShape.{ValueShape}
+use Rattle.value_shapes.specs.declared.values.ValueShape.{ValueShape}
 
 -- an action of a table's list: its number, and what its parameters hold
 pub record ActionShape : Type 0 where

@@ -1,11 +1,10 @@
 -- What the values of the program stand for.
-use Rattle.std.specs.Prelude.{ℕ, List, map}
+use Rattle.std.specs.Prelude.{ℕ, map}
 use Rattle.std.specs.Global.{Vec}
 use Rattle.bit_values.specs.Bits.{Word}
 use Rattle.p4_meaning.specs.Choice.{Match, exact, lpm, ternary}
 use Rattle.p4_tables.specs.Shapes.{ActionShape, Shape}
 use Rattle.p4_tables.specs.Entries.{Entry, Act}
-use Rattle.p4_tables.specs.State.{Held}
 use Rattle.p4_tables.specs.declared.entry.Match as code_match
 use Rattle.p4_tables.specs.declared.entry.Match.TheVariants as match
 use Rattle.p4_tables.specs.declared.entry.Entry as code_entry
@@ -13,8 +12,6 @@ use Rattle.p4_tables.specs.declared.entry.Act as code_act
 use Rattle.p4_tables.specs.declared.entry.Chosen as code_chosen
 use Rattle.p4_tables.specs.declared.shape.ActionShape as code_action
 use Rattle.p4_tables.specs.declared.shape.Shape as code_shape
-use Rattle.p4_tables.specs.declared.shape.ValueShape.{ValueShape}
-use Rattle.p4_tables.specs.declared.held.Held as code_held
 
 -- what an entry asks of a key
 abbrev pub match_of : code_match.Match → Match
@@ -43,15 +40,3 @@ action_shape_of a = record { number = a.number; params = a.params.items }
 
 abbrev pub shape_of : code_shape.Shape → Shape
 shape_of s = record { keys = s.keys.items; actions = map action_shape_of s.actions.items; written = s.written; fixed = s.fixed }
-
--- a table
-abbrev pub held_of : code_held.Held → Held
-held_of h = record { shape = shape_of h.shape; listed = map entry_of h.listed.items; default = act_of h.default }
-
--- lists of values
-abbrev pub lists_in : List (Vec ValueShape) → List (List ValueShape)
-lists_in vs = map (λ v. v.items) vs
-
--- all tables
-abbrev pub held_in : List code_held.Held → List Held
-held_in = map held_of

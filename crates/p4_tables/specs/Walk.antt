@@ -1,9 +1,13 @@
 -- One walk over a table's entries. Read `Entries` before it.
-use Rattle.std.specs.Prelude.{ℕ, List, [], ◌∷◌, Bool, Option, Some, None, if◌then◌else◌, nat_lt}
+use Rattle.std.specs.Prelude.{ℕ, List, [], ◌∷◌, Bool, Option, Some, None, if◌then◌else◌, ◌&&◌, nat_lt}
 use Rattle.std.proofs.Common.{Bor}
 use Rattle.bit_values.specs.Bits.{Word}
 use Rattle.p4_meaning.specs.Choice.{prefix_of, fits_keys}
-use Rattle.p4_tables.specs.Entries.{Entry}
+use Rattle.p4_tables.specs.Shapes.{has_ternary}
+use Rattle.p4_tables.specs.Entries.{Entry, has_same, has_priority}
+use Rattle.p4_tables.specs.State.{Held}
+use Rattle.table_faults.specs.declared.entry.EntryFault.{EntryFault}
+use Rattle.table_faults.specs.declared.entry.EntryFault.TheVariants.{SameEntry, SamePriority}
 
 -- what is lent
 abbrev pub lent : {A : Type 0} → Option (Bor A) → Option A
@@ -23,3 +27,9 @@ higher_in t e (Some f) = if nat_lt (rank_in t e) (rank_in t f) then f else e
 abbrev pub found_in : (has_ternary : Bool) → List Entry → List Word → Option Entry
 found_in t [] keys = None
 found_in t (e ∷ es) keys = if fits_keys e.keys keys then Some (higher_in t e (found_in t es keys)) else found_in t es keys
+
+-- the first reason for which an entry clashes with those that a table holds
+abbrev pub clash_in : Held → Entry → Option EntryFault
+clash_in h e =
+    if has_same (has_ternary h.shape.keys) h.listed e then Some SameEntry else
+    if has_ternary h.shape.keys && has_priority h.listed e.priority then Some SamePriority else None

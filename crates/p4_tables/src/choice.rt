@@ -24,7 +24,7 @@ fn fits_key(m: &Match, key: Bits) -> bool
 }
 
 /// Whether all keys are, one by one.
-fn fits_keys(list: &[Match], keys: &[Bits]) -> bool
+pub(crate) fn fits_keys(list: &[Match], keys: &[Bits]) -> bool
     ensures { result ≡ fits_keys (map match_of list.now) keys.now }
 {
     for i in 0..list.len() {

@@ -2,12 +2,11 @@
 
 ghost use Rattle.std.specs.Prelude.{◌≡◌, ◌-◌, ◌/◌, ◌^◌, map};
 ghost use Rattle.p4_tables.specs.Shapes.{is_for_key, are_for_keys};
-ghost use Rattle.p4_tables.specs.Entries.{same_match, same_keys, same_entry, has_same, has_priority};
-ghost use Rattle.p4_tables.specs.Faults.{takes_entry, fault_in, default_fault_in};
-ghost use Rattle.p4_tables.specs.View.{match_of, entry_of, act_of, shape_of, held_of};
+ghost use Rattle.p4_tables.specs.Entries.{same_match, same_keys};
+ghost use Rattle.p4_tables.specs.Faults.{takes_entry, default_fault_in};
+ghost use Rattle.p4_tables.specs.View.{match_of, entry_of, act_of, shape_of};
 
 use crate::entry::{Act, Entry, Match};
-use crate::held::Held;
 use crate::shape::{KeyKind, KeyShape, Shape, has_action, takes};
 use bit_values::Bits;
 use table_faults::EntryFault;
@@ -51,14 +50,14 @@ fn are_for_keys(keys: &[KeyShape], list: &[Match]) -> bool
 }
 
 /// Whether a table of this shape takes an entry.
-fn takes_entry(shape: &Shape, e: &Entry) -> bool
+pub(crate) fn takes_entry(shape: &Shape, e: &Entry) -> bool
     ensures { result ≡ takes_entry (shape_of shape.now) (entry_of e.now) }
 {
     are_for_keys(&shape.keys, &e.keys) && takes(&shape.actions, e.action, &e.args)
 }
 
 /// A number without the bits behind so many.
-fn first_bits(v: Bits, count: u8) -> u128
+pub(crate) fn first_bits(v: Bits, count: u8) -> u128
     ensures { result ≡ v.value / 2 ^ (v.width - count) }
 {
     v.shr(v.width().saturating_sub(count) as u128).value
@@ -85,7 +84,7 @@ fn same_match(a: &Match, b: &Match) -> bool
 }
 
 /// Whether the same is asked of all keys.
-fn same_keys(a: &[Match], b: &[Match]) -> bool
+pub(crate) fn same_keys(a: &[Match], b: &[Match]) -> bool
     ensures { result ≡ same_keys (map match_of a.now) (map match_of b.now) }
 {
     for i in 0..a.len() {
@@ -100,57 +99,6 @@ fn same_keys(a: &[Match], b: &[Match]) -> bool
         return false;
     }
     true
-}
-
-/// Whether two entries are the same.
-fn same_entry(has_ternary: bool, a: &Entry, b: &Entry) -> bool
-    ensures { result ≡ same_entry has_ternary (entry_of a.now) (entry_of b.now) }
-{
-    same_keys(&a.keys, &b.keys) && (!has_ternary || a.priority == b.priority)
-}
-
-/// Whether some entry is the same as this one.
-fn has_same(has_ternary: bool, list: &[Entry], e: &Entry) -> bool
-    ensures { result ≡ has_same has_ternary (map entry_of list.now) (entry_of e.now) }
-{
-    for f in list {
-        if same_entry(has_ternary, f, e) {
-            return true;
-        }
-    }
-    false
-}
-
-/// Whether some entry has this priority.
-fn has_priority(list: &[Entry], priority: u32) -> bool
-    ensures { result ≡ has_priority (map entry_of list.now) priority }
-{
-    for f in list {
-        if f.priority == priority {
-            return true;
-        }
-    }
-    false
-}
-
-/// The first reason for which a table refuses an entry, where all tables hold so many.
-pub(crate) fn fault_in(held: &Held, count: u32, e: &Entry) -> Option<EntryFault>
-    ensures { result ≡ fault_in (held_of held.now) count (entry_of e.now) }
-{
-    let has_ternary = held.shape.has_ternary();
-    if !has_action(&held.shape.actions, e.action) {
-        Some(EntryFault::NoSuchAction)
-    } else if !takes_entry(&held.shape, e) {
-        Some(EntryFault::WidthDiffers)
-    } else if has_same(has_ternary, &held.listed, e) {
-        Some(EntryFault::SameEntry)
-    } else if has_ternary && has_priority(&held.listed, e.priority) {
-        Some(EntryFault::SamePriority)
-    } else if count >= 65_536 {
-        Some(EntryFault::TableLimit)
-    } else {
-        None
-    }
 }
 
 /// The first reason for which a table refuses a default.

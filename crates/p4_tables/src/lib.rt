@@ -14,19 +14,23 @@
 //!
 //! Follows: P4_16 Language Specification and v1model, this project's subset.
 //!
-//! Speed is not promised: each entry is compared with all that its table holds, and a choice is one
-//! walk over them.
+//! Speed: an index tells where the entries of a table stand that ask the same, or that have a
+//! priority. So an entry is compared with one other at most. A choice of exact keys takes one look, one
+//! of prefixes a look for each length from the longest on, and one under masks goes from the highest
+//! priority on. Where keys are more than 16 numbers, or have other widths than the table's, a choice is
+//! one walk over all entries.
 #![tactic(auto)]
 
 mod choice;
 mod compare;
 mod entry;
 mod held;
+mod index;
 mod shape;
 mod start;
 mod state;
-mod values;
 
 pub use entry::{Act, Chosen, Entry, Match};
-pub use shape::{ActionShape, KeyKind, KeyShape, Shape, ValueShape};
+pub use shape::{ActionShape, KeyKind, KeyShape, Shape};
 pub use state::{TableState, actions_are_listed, choices_are_unique};
+pub use value_shapes::ValueShape;

@@ -6,6 +6,7 @@ ghost use Rattle.p4_tables.specs.View.{action_shape_of, shape_of};
 
 use bit_values::Bits;
 use std::alloc::{AllocError, Global};
+use value_shapes::ValueShape;
 
 /// How a key is matched.
 #[derive(Clone, Copy, Debug, PartialEq, Eq)]
@@ -13,14 +14,6 @@ pub enum KeyKind {
     Exact,
     Lpm,
     Ternary,
-}
-
-/// What a key or a parameter holds: how many bits, and whether its type is `bool`. A truth value is
-/// one bit.
-#[derive(Clone, Copy, Debug, PartialEq, Eq)]
-pub struct ValueShape {
-    pub width: u8,
-    pub is_truth: bool,
 }
 
 /// A key of a table: how it is matched, and what it holds.

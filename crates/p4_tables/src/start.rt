@@ -4,16 +4,17 @@ ghost use Rattle.std.specs.Prelude.{◌≡◌, get_or, map, IfOk};
 ghost use Rattle.p4_tree.specs.View.{program_of};
 ghost use Rattle.p4_parts.specs.PartsIn.{action_in, chosen_in, key_in, table_in};
 ghost use Rattle.p4_tables.specs.Programs.{kind_of, no_value, values_at, key_shapes, action_place, action_shape, numbered, table_shape, table_before, tables_before, state_before};
-ghost use Rattle.p4_tables.specs.View.{action_shape_of, shape_of, act_of, held_of, held_in, lists_in};
+ghost use Rattle.p4_tables.specs.View.{action_shape_of, shape_of, act_of};
+ghost use Rattle.value_shapes.specs.Values.{lists_in};
 
 use crate::entry::{Act, copy_words};
 use crate::held::Held;
-use crate::shape::{ActionShape, KeyKind, KeyShape, Shape, ValueShape, copy_values};
-use crate::values::{Holder, values_of};
+use crate::shape::{ActionShape, KeyKind, KeyShape, Shape, copy_values};
 use lex_text::Name;
 use p4_parts::{Action, Chosen, Key, Table, parts_of};
 use p4_tree::Program;
 use std::alloc::{AllocError, Global};
+use value_shapes::{Holder, ValueShape, values_of};
 
 /// How a key is matched, by the name of that.
 fn kind_of(name: &Name) -> KeyKind
@@ -153,17 +154,12 @@ fn table_before(
     table: &Table,
     keys: &[ValueShape],
 ) -> Result<Held, AllocError>
-    ensures { IfOk result (λ h. held_of h
+    ensures { IfOk result (λ h. h
         ≡ table_before (map action_in actions.now) (lists_in params.now) (table_in table.now) keys.now) }
 {
     let shape = table_shape(alloc, actions, params, table, keys)?;
     let default = numbered(alloc, actions, &table.default)?;
-    let listed = Vec::new(alloc);
-    Ok(Held {
-        shape,
-        listed,
-        default,
-    })
+    Ok(Held::new(alloc, shape, default))
 }
 
 /// Tables with what their keys hold.
@@ -175,7 +171,7 @@ fn tables_before(
     tables: &[Table],
     keys: &[Vec<ValueShape>],
 ) -> Result<Vec<Held>, AllocError>
-    ensures { IfOk result (λ v. held_in v.items
+    ensures { IfOk result (λ v. v.items
         ≡ tables_before (map action_in actions.now) (lists_in params.now)
         (map table_in tables.now) (lists_in keys.now)) }
 {
@@ -188,7 +184,7 @@ fn tables_before(
 
 /// What the tables of a program hold before anything is loaded.
 pub(crate) fn state_before(alloc: Global, p: &Program) -> Result<Vec<Held>, AllocError>
-    ensures { IfOk result (λ v. held_in v.items ≡ state_before (program_of p.now)) }
+    ensures { IfOk result (λ v. v.items ≡ state_before (program_of p.now)) }
 {
     let parts = parts_of(alloc, p)?;
     let params = values_of(alloc, Holder::Params, &p.tops)?;

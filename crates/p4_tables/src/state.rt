@@ -9,10 +9,9 @@ ghost use Rattle.p4_tables.specs.Faults.{entry_fault, default_fault, IsReplaceab
 ghost use Rattle.p4_tables.specs.Answers.{IsHit, IsMiss};
 ghost use Rattle.p4_tables.specs.Programs.{shapes, state_before};
 ghost use Rattle.p4_tables.specs.Laws.{ChoicesAreUnique, RunsListed};
-ghost use Rattle.p4_tables.specs.View.{entry_of, act_of, given_act, chosen_act, shape_of, held_in};
+ghost use Rattle.p4_tables.specs.View.{entry_of, act_of, given_act, chosen_act, shape_of};
 
-use crate::choice::find;
-use crate::compare::{default_fault_in, fault_in};
+use crate::compare::default_fault_in;
 use crate::entry::{Act, Chosen, Entry};
 use crate::held::{Held, copy_tables, put_all, put_default, put_entry};
 use crate::shape::Shape;
@@ -37,22 +36,21 @@ impl Model for TableState {
 
     ghost Value = { List Held };
 
-    ghost use Rattle.p4_tables.specs.View.{held_in};
     ghost use Rattle.p4_tables.specs.Kept.{IsKept};
 
-    ghost view = { λ s. held_in s.tables.items };
+    ghost view = { λ s. s.tables.items };
 
     ghost invariant = { IsKept };
 }
 
 /// The number of entries of all tables.
 fn count_in(tables: &[Held]) -> u32
-    requires { entries_in (held_in tables.now) ≤ 65536 }
-    ensures { result ≡ entries_in (held_in tables.now) }
+    requires { entries_in tables.now ≤ 65536 }
+    ensures { result ≡ entries_in tables.now }
 {
     let mut count: u32 = 0;
     for held in tables {
-        count += held.listed.len() as u32;
+        count += held.listed().len() as u32;
     }
     count
 }
@@ -85,7 +83,7 @@ impl TableState {
         requires { table < length self.now }
         ensures { shape_of result.now ≡ (held_at self.now table).shape }
     {
-        &self.tables[table as usize].shape
+        self.tables[table as usize].shape()
     }
 
     /// The entries of the table of a number, in the order in which they came.
@@ -93,7 +91,7 @@ impl TableState {
         requires { table < length self.now }
         ensures { map entry_of result.now ≡ (held_at self.now table).listed }
     {
-        &self.tables[table as usize].listed
+        self.tables[table as usize].listed()
     }
 
     /// What the table of a number runs where no entry fits.
@@ -101,7 +99,7 @@ impl TableState {
         requires { table < length self.now }
         ensures { act_of result.now ≡ (held_at self.now table).default }
     {
-        &self.tables[table as usize].default
+        self.tables[table as usize].default()
     }
 
     /// Puts an entry behind those of the table of a number.
@@ -114,7 +112,7 @@ impl TableState {
         ensures kept { OnErr result (self.new ≡ self.old) }
         ensures shapes { shapes self.new ≡ shapes self.old }
     {
-        match fault_in(&self.tables[table as usize], self.count, &e) {
+        match self.tables[table as usize].fault_in(self.count, &e)? {
             Some(fault) => Err(fault),
             None => {
                 put_entry(&mut self.tables, table as usize, e)?;
@@ -142,7 +140,7 @@ impl TableState {
         ensures shapes { shapes self.new ≡ shapes self.old }
     {
         let default = Act { action, args };
-        match default_fault_in(&self.tables[table as usize].shape, &default) {
+        match default_fault_in(self.tables[table as usize].shape(), &default) {
             Some(fault) => Err(fault),
             None => {
                 put_default(&mut self.tables, table as usize, default);
@@ -167,7 +165,7 @@ impl TableState {
         ensures kept { OnErr result (self.new ≡ self.old) }
         ensures shapes { shapes self.new ≡ shapes self.old }
     {
-        put_all(&mut self.tables, table as usize, list, default);
+        put_all(&mut self.tables, table as usize, list, default)?;
         self.count = count_in(&self.tables);
         Ok(())
     }
@@ -181,17 +179,20 @@ impl TableState {
             (IsMiss (held_at self.now table) keys.now (chosen_act result)) }
     {
         let held = &self.tables[table as usize];
-        match find(held.shape.has_ternary(), &held.listed, keys) {
+        match held.find(keys) {
             Some(e) => Chosen {
                 action: e.action,
                 args: &e.args,
                 hit: true,
             },
-            None => Chosen {
-                action: held.default.action,
-                args: &held.default.args,
-                hit: false,
-            },
+            None => {
+                let default = held.default();
+                Chosen {
+                    action: default.action,
+                    args: &default.args,
+                    hit: false,
+                }
+            }
         }
     }
 

@@ -11,7 +11,7 @@ use Rattle.p4_meaning.specs.Parts.{parts_of}
 use Rattle.p4_types.specs.Numbers.{tables, names, locals_names, tops_names, number_from, number_in}
 use Rattle.p4_tables.specs.State.{Held}
 use Rattle.p4_tables.specs.Programs.{keys_hold, params_hold, tables_before, state_before, shapes}
-use Rattle.p4_tables.specs.declared.shape.ValueShape.{ValueShape}
+use Rattle.value_shapes.specs.declared.values.ValueShape.{ValueShape}
 
 -- a name's number is below the number of names
 below : (m : ℕ) (xs : List (List ℕ)) (x : List ℕ) (n : ℕ) → Some n ≡ number_from m xs x → n < m + length xs

@@ -7,8 +7,8 @@ use Rattle.p4_tables.proofs.held.put_entry.Goals as goal
 
 pub returns-clause-ok : goal.returns-clause-ok
 returns-clause-ok c =
-    on_ok_weaker c.push_entry.result (put_at c.args.tables.now.items c.args.table c.index_mut.result.now c.push_entry.new.h (λ (h : Held). record h { listed = h.listed ++ entry_of c.args.e ∷ [] }) c.requires c.index_mut.ensures.value) c.push_entry.ensures.ok
+    on_ok_weaker c.push.result (put_at c.args.tables.now.items c.args.table c.index_mut.result.now c.push.new.self (λ (h : Held). record h { listed = h.listed ++ entry_of c.args.e ∷ [] }) c.requires c.index_mut.ensures.value) c.push.ensures.ok
 
 pub returns-clause-err : goal.returns-clause-err
 returns-clause-err c =
-    on_err_weaker c.push_entry.result (kept_at c.args.tables.now.items c.args.table c.index_mut.result.now c.push_entry.new.h c.requires c.index_mut.ensures.value) c.push_entry.ensures.err
+    on_err_weaker c.push.result (kept_at c.args.tables.now.items c.args.table c.index_mut.result.now c.push.new.self c.requires c.index_mut.ensures.value) c.push.ensures.err

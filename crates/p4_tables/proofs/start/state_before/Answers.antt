@@ -4,9 +4,10 @@ use Rattle.p4_tree.specs.View.{program_of, top_of}
 use Rattle.p4_meaning.specs.Parts.{Parts, parts_of}
 use Rattle.p4_scopes.specs.Scopes.{core}
 use Rattle.p4_parts.specs.PartsIn.{action_in, table_in}
-use Rattle.p4_tables.specs.Programs.{tops_values, tables_before, state_before}
-use Rattle.p4_tables.specs.View.{lists_in}
-use Rattle.p4_tables.specs.declared.values.Holder.TheVariants.{Keys, Params}
+use Rattle.value_shapes.specs.Values.{tops_values}
+use Rattle.p4_tables.specs.Programs.{tables_before, state_before}
+use Rattle.value_shapes.specs.Values.{lists_in}
+use Rattle.value_shapes.specs.declared.values.Holder.TheVariants.{Keys, Params}
 use Rattle.p4_tables.proofs.start.state_before.Goals as goal
 
 pub returns : goal.returns

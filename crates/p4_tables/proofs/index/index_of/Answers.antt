@@ -1,0 +1,10 @@
+use Rattle.std.proofs.Common.{map, take, subst}
+use Rattle.p4_tables.specs.Index.{IsIndex}
+use Rattle.p4_tables.specs.View.{entry_of}
+use Rattle.p4_tables.proofs.Listed.{next_listed, many_listed}
+use Rattle.p4_tables.proofs.index.index_of.Goals as goal
+
+pub loop-i-preserved : goal.loop-i-preserved
+loop-i-preserved c =
+    let i = c.loop-i.i in let list = c.args.list.now in
+    subst (λ es. IsIndex c.args.has_ternary es c.note.new.self) (next_listed list i c.index-list-i.result c.loop-i-test.true c.index-list-i.is) (c.in_ok-note.ensures.ok c.args.has_ternary (map entry_of (take i list)) c.loop-i.invariant (many_listed list i c.loop-i-test.true))

@@ -1,7 +1,0 @@
-use Rattle.std.proofs.Common.{◌≡◌, ◌++◌, drop}
-use Rattle.p4_scopes.specs.View.{scope_of}
-use Rattle.p4_tables.specs.Programs.{param_values}
-use Rattle.p4_tables.proofs.values.param_values.Given as goal
-
-abbrev pub invariant-loop-p : goal.invariant-loop-p
-invariant-loop-p l = l.values.items ++ param_values (scope_of l.scope) (drop l.p-index l.params) ≡ param_values (scope_of l.scope) l.params
