@@ -4,6 +4,8 @@
 #[cfg(test)]
 mod contents;
 #[cfg(test)]
+mod items;
+#[cfg(test)]
 mod members;
 #[cfg(test)]
 mod networks;

@@ -15,6 +15,11 @@ use table_faults::TableFault;
 /// The property with these declarations and empty blocks.
 pub fn property(alloc: Global, declarations: &str) -> Result<TypedProperty, Fail> {
     let text = format!(in alloc; "{declarations} {{}} {{}} {{}}")?;
+    whole_property(alloc, text.as_str())
+}
+
+/// The property of a text.
+pub fn whole_property(alloc: Global, text: &str) -> Result<TypedProperty, Fail> {
     if text.len() > 65536 {
         return Err(Fail::new("a property is too long"));
     }

@@ -1,7 +1,7 @@
 //! Forwarding by the longest prefix. The frames that leave were worked by hand: a hop less, and the
 //! header's checksum by RFC 1071.
 
-use crate::support::answer;
+use crate::bench::answer;
 use sample_programs::BASIC;
 use std::test::Fail;
 

@@ -4,14 +4,15 @@
 //! frame, which comes by port 1; and then what leaves: the port and the frame, or `dropped`, and the
 //! digests, each with its receiver and its values.
 
-use crate::support::answer;
+use crate::bench::{answer, answer_by_halves};
 use std::alloc::{AllocError, Global};
 use std::process::Abort;
 use std::test::Fail;
 
 const TYPES: &str = "typedef bit<9> port_t; header e_t { bit<8> x; bit<16> y; } \
 header w_t { bit<48> a; } header n_t { port_t p; bit<7> f; } \
-struct headers_t { e_t e; w_t w; n_t n; } struct meta_t { bit<8> b; bit<16> s; } \
+header o_t { bit<3> a; bit<13> b; bit<4> c; bit<4> d; } \
+struct headers_t { e_t e; w_t w; n_t n; o_t o; } struct meta_t { bit<8> b; bit<16> s; } \
 parser Prs(packet_in p, out headers_t h, inout meta_t m, inout standard_metadata_t std) { ";
 
 const VERIFY: &str = " } control Ver(inout headers_t h, inout meta_t m) { apply { ";
@@ -25,7 +26,7 @@ const EGRESS: &str =
 const COMPUTE: &str = " } } control Com(inout headers_t h, inout meta_t m) { apply { ";
 
 const DEPARSER: &str = " } } control Dep(packet_out p, in headers_t h) { \
-apply { p.emit(h.e); p.emit(h.w); p.emit(h.n); } } ";
+apply { p.emit(h.e); p.emit(h.w); p.emit(h.n); p.emit(h.o); } } ";
 
 const MAIN: &str = " V1Switch(Prs(), Ver(), Ing(), Egr(), Com(), Dep()) main;";
 
@@ -40,7 +41,7 @@ fn piece<'a>(row: &'a str, word: &str, other: &'a str) -> &'a str {
 }
 
 /// The program of a row.
-fn text_of(alloc: Global, row: &str) -> Result<String, AllocError> {
+pub fn text_of(alloc: Global, row: &str) -> Result<String, AllocError> {
     let parser = "state start { p.extract(h.e); transition accept; }";
     let parts = [
         piece(row, "top ", ""),
@@ -69,11 +70,14 @@ fn text_of(alloc: Global, row: &str) -> Result<String, AllocError> {
     Ok(text)
 }
 
-/// The row's frame is answered as it says.
+/// The row's frame is answered as it says, at once and by halves.
 fn right(rt: &impl Abort, alloc: Global, row: &str, frame: &str, wanted: &str) -> Result<(), Fail> {
     let text = text_of(alloc, row)?;
-    let out = answer(rt, alloc, &text, piece(row, "load ", ""), frame)?;
+    let loaded = piece(row, "load ", "");
+    let out = answer(rt, alloc, &text, loaded, frame)?;
     assert_eq!(rt; out.as_str(), wanted, "{row}");
+    let out = answer_by_halves(rt, alloc, &text, loaded, frame)?;
+    assert_eq!(rt; out.as_str(), wanted, "by halves: {row}");
     Ok(())
 }
 
@@ -179,7 +183,19 @@ fn parsers(rt: HostRuntime) -> Result<(), Fail> {
         "\
 @parser state start { p.extract(h.e); p.extract(h.w); transition accept; } @ingress if (std.parser_error == error.PacketTooShort) { h.e.x = 0xee; } => 010203aabb => 2 ee0203aabb
 @ingress => 01 => 2 01
+@ingress => empty => 2 empty
+@ingress if (std.parser_error == error.PacketTooShort) { h.e.setValid(); h.e.y = (bit<16>) std.packet_length; } => empty => 2 000000
+@ingress if (std.parser_error == error.PacketTooShort) { h.e.setValid(); h.e.y = (bit<16>) std.packet_length; } => 07 => 2 00000107
+@parser state start { transition accept; } @ingress if (h.e.isValid()) { std.egress_spec = 3; } => 010203 => 2 010203
+@parser state start { transition accept; } @ingress if (std.parser_error != error.NoError) { std.egress_spec = 3; } => empty => 2 empty
+@parser state start { p.extract(h.o); transition accept; } @ingress h.o.a = h.o.a + 1; => b55a3cff => 2 d55a3cff
+@parser state start { p.extract(h.o); transition accept; } @ingress h.o.a = h.o.a + 3; => b55a3c => 2 155a3c
+@parser state start { p.extract(h.o); transition accept; } @ingress h.o.b = h.o.b + 0x10a6; => b55a3c => 2 a6003c
+@parser state start { p.extract(h.o); transition accept; } @ingress h.o.c = h.o.d; h.o.d = 1; => b55a3c => 2 b55ac1
+@parser state start { p.extract(h.n); p.extract(h.o); transition accept; } @ingress h.n.p = (bit<9>) h.o.b; h.n.f = h.o.a ++ h.o.c; => 0000b55a3c => 2 ad53b55a3c
 @parser state start { p.extract(h.e); transition select(h.e.x) { 5: accept; } } @ingress if (std.parser_error == error.NoMatch) { h.e.x = 0xee; } => 010203 => 2 ee0203
+@parser state start { p.extract(h.e); transition select(h.e.x) { 5: accept; } } @egress if (std.parser_error == error.NoMatch) { h.e.x = 0xee; } => 01020344 => 2 ee020344
+@parser state start { p.extract(h.e); transition select(h.e.x) { 5: accept; } } @egress if (std.parser_error == error.NoMatch) { h.e.x = 0xee; } => 05020344 => 2 05020344
 @parser state start { p.extract(h.e); transition reject; } @ingress if (std.parser_error == error.NoError) { h.e.x = 0xee; } => 010203 => 2 ee0203
 @parser state start { p.extract(h.e); } @ingress if (std.parser_error == error.NoError) { h.e.x = 0xee; } => 010203 => 2 ee0203
 @parser state start { p.extract(h.e); transition select(h.e.x) { 0x10 &&& 0xf0: more; default: accept; } } state more { m.b = 1; transition accept; } @ingress h.e.y = (bit<16>) m.b; => 1f0203 => 2 1f0001
@@ -231,6 +247,7 @@ fn tables(rt: HostRuntime) -> Result<(), Fail> {
 @in action go(bit<8> v) { h.e.x = v; } table t { key = { h.e.x: ternary; } actions = { go; } } @ingress t.apply(); @load Ing.t: 8:0&8:0 -> Ing.go 8:7 #1; 8:3&8:f -> Ing.go 8:8 #2 => 030203 => 2 080203
 @in action go(bit<8> v) { h.e.x = v; } table t { key = { h.e.x: ternary; } actions = { go; } } @ingress t.apply(); @load Ing.t: 8:0&8:0 -> Ing.go 8:7 #2; 8:3&8:f -> Ing.go 8:8 #1 => 030203 => 2 070203
 @in action go(bit<8> v) { h.e.x = v; } table t { key = { h.e.x: ternary; } actions = { go; } } @ingress t.apply(); @load Ing.t: 8:0&8:0 -> Ing.go 8:7 #1; 8:3&8:f -> Ing.go 8:8 #2 => 040203 => 2 070203
+@in action go(bit<8> v) { h.e.x = v; } table t { key = { h.e.x: ternary; } actions = { go; } } @ingress t.apply(); @load Ing.t: 8:1&8:3 -> Ing.go 8:7 #1; 8:2&8:3 -> Ing.go 8:8 #2 => 020203 => 2 080203
 @in action go(bit<8> v) { h.e.x = v; } table t { key = { h.e.x: exact; h.e.y: lpm; } actions = { go; } } @ingress t.apply(); @load Ing.t: 8:1 16:200/8 -> Ing.go 8:5; 8:2 16:200/8 -> Ing.go 8:6 => 020203 => 2 060203
 @in action go(bit<8> v) { h.e.x = v; } table t { key = { h.e.x: exact; } actions = { go; } default_action = go(9); } @ingress t.apply(); @load Ing.t: default Ing.go 8:4 => 010203 => 2 040203
 @top const bit<8> A = 6; @in action go(bit<8> v) { h.e.x = v; } table t { actions = { go; } default_action = go(A + 1); } @ingress t.apply(); => 010203 => 2 070203

@@ -2,11 +2,12 @@
 
 ghost use Rattle.std.specs.Prelude.{◌≡◌, IfOk};
 ghost use Rattle.p4_tree.specs.View.{program_of};
-ghost use Rattle.p4_tables.specs.Programs.{shapes};
+ghost use Rattle.p4_tables.specs.Programs.{shapes, IsStateOf};
 
 use bit_values::{Bits, sound_width};
+use carried_tables::carried;
 use p4_decls::read_program;
-use p4_machine::{FrameBuf, Pass, Passed, Switch};
+use p4_machine::{FrameBuf, Passed};
 use p4_statements::Digest;
 use p4_tables::{Entry, Match, TableState};
 use p4_types::{TypedProgram, check_program};
@@ -17,25 +18,27 @@ use std::test::Fail;
 /// The program of a text.
 pub fn program(rt: &impl Abort, alloc: Global, text: &str) -> Result<TypedProgram, Fail> {
     assert!(rt; text.len() <= 65536);
-    let program = match read_program(alloc, text.as_bytes()) {
-        Ok(program) => program,
-        Err(fault) => return Err(Fail::new(&format!(in alloc; "{fault:?} in {text}")?)),
+    let Ok(program) = read_program(alloc, text.as_bytes()) else {
+        return Err(Fail::new(text));
     };
-    match check_program(alloc, program) {
-        Ok(program) => Ok(program),
-        Err(fault) => Err(Fail::new(&format!(in alloc; "{fault:?} in {text}")?)),
-    }
+    let Ok(program) = check_program(alloc, program) else {
+        return Err(Fail::new(text));
+    };
+    Ok(program)
 }
 
-/// The bytes of hexadecimal digits.
-fn bytes(alloc: Global, digits: &str) -> Result<Vec<u8>, Fail> {
+/// The bytes of hexadecimal digits; `empty` has none.
+pub fn bytes(alloc: Global, digits: &str) -> Result<Vec<u8>, Fail> {
+    if digits == "empty" {
+        return Ok(Vec::new(alloc));
+    }
     match hex::decode(alloc, digits) {
         Ok(bytes) => Ok(bytes),
         Err(_) => Err(Fail::new("no hexadecimal digits")),
     }
 }
 
-/// A digest, as `[receiver value ..]`.
+/// A digest, as ` [receiver value ..]`.
 fn show_digest(alloc: Global, out: &mut String, digest: &Digest) -> Result<(), Fail> {
     out.push_str(&format!(in alloc; " [{}", digest.receiver)?)?;
     for value in &digest.values {
@@ -109,15 +112,15 @@ fn entry(alloc: Global, p: &TypedProgram, keys: &str, text: &str) -> Result<Entr
     })
 }
 
-/// Loads one entry into a table.
-fn put_entry(
+/// Offers one entry to a table: the name of its fault, or `taken`.
+fn offer_entry(
     alloc: Global,
     p: &TypedProgram,
     state: &mut TableState,
     table: u32,
     keys: &str,
     action: &str,
-) -> Result<(), Fail>
+) -> Result<String, Fail>
     ensures { shapes state.new ≡ shapes state.old }
 {
     let entry = entry(alloc, p, keys, action)?;
@@ -125,19 +128,19 @@ fn put_entry(
         return Err(Fail::new("no such table"));
     }
     match state.insert(table, entry) {
-        Ok(()) => Ok(()),
-        Err(_) => Err(Fail::new("an entry is refused")),
+        Ok(()) => Ok(String::from_str(alloc, "taken")?),
+        Err(fault) => Ok(format!(in alloc; "{fault:?}")?),
     }
 }
 
-/// Gives a table a default.
-fn put_default(
+/// Offers a default to a table, likewise.
+fn offer_default(
     alloc: Global,
     p: &TypedProgram,
     state: &mut TableState,
     table: u32,
     text: &str,
-) -> Result<(), Fail>
+) -> Result<String, Fail>
     ensures { shapes state.new ≡ shapes state.old }
 {
     let (action, args) = chosen(alloc, p, text)?;
@@ -145,12 +148,31 @@ fn put_default(
         return Err(Fail::new("no such table"));
     }
     match state.set_default(table, action, args) {
-        Ok(()) => Ok(()),
-        Err(_) => Err(Fail::new("a default is refused")),
+        Ok(()) => Ok(String::from_str(alloc, "taken")?),
+        Err(fault) => Ok(format!(in alloc; "{fault:?}")?),
     }
 }
 
-/// Loads one item into a table: an entry, or `default action word ..`, or nothing.
+/// Offers one item to a table: an entry, or `default action word ..`.
+pub fn offer(
+    alloc: Global,
+    p: &TypedProgram,
+    state: &mut TableState,
+    table: u32,
+    item: &str,
+) -> Result<String, Fail>
+    ensures { shapes state.new ≡ shapes state.old }
+{
+    match item.split_once(" -> ") {
+        Some((keys, action)) => offer_entry(alloc, p, state, table, keys, action),
+        None => match item.strip_prefix("default ") {
+            Some(text) => offer_default(alloc, p, state, table, text),
+            None => Err(Fail::new("no item")),
+        },
+    }
+}
+
+/// Loads one item into a table, which takes it.
 fn put(
     alloc: Global,
     p: &TypedProgram,
@@ -160,12 +182,11 @@ fn put(
 ) -> Result<(), Fail>
     ensures { shapes state.new ≡ shapes state.old }
 {
-    match item.split_once(" -> ") {
-        Some((keys, action)) => put_entry(alloc, p, state, table, keys, action),
-        None => match item.strip_prefix("default ") {
-            Some(text) => put_default(alloc, p, state, table, text),
-            None => Ok(()),
-        },
+    let answer = offer(alloc, p, state, table, item)?;
+    if answer.as_str() == "taken" {
+        Ok(())
+    } else {
+        Err(Fail::new("an item is refused"))
     }
 }
 
@@ -179,51 +200,63 @@ fn load(alloc: Global, p: &TypedProgram, state: &mut TableState, text: &str) -> 
     let Some(table) = p.table_number(name) else {
         return Err(Fail::new("no such table"));
     };
-    let (first, second) = match rest.split_once("; ") {
-        Some((first, second)) => (first, second),
-        None => (rest, ""),
-    };
-    put(alloc, p, state, table, first)?;
-    put(alloc, p, state, table, second)?;
+    match rest.split_once("; ") {
+        Some((first, second)) => {
+            put(alloc, p, state, table, first)?;
+            put(alloc, p, state, table, second)
+        }
+        None => put(alloc, p, state, table, rest),
+    }
+}
+
+/// The digests of a buffer, as a text.
+pub fn show_digests(alloc: Global, out: &mut String, buf: &FrameBuf) -> Result<(), Fail> {
+    for digest in buf.digests() {
+        show_digest(alloc, out, digest)?;
+    }
     Ok(())
 }
 
-/// What leaves, as a text.
-fn show(alloc: Global, passed: Passed, buf: &FrameBuf) -> Result<String, Fail> {
-    let mut out = match passed {
-        Passed::Dropped => String::from_str(alloc, "dropped")?,
-        Passed::Out { port } => {
-            format!(in alloc; "{port} {}", hex::encode(alloc, buf.frame())?)?
-        }
-    };
-    for digest in buf.digests() {
-        show_digest(alloc, &mut out, digest)?;
+/// The hexadecimal digits of bytes; `empty` where there are none.
+fn digits(alloc: Global, bytes: &[u8]) -> Result<String, Fail> {
+    if bytes.is_empty() {
+        return Ok(String::from_str(alloc, "empty")?);
     }
-    Ok(out)
+    Ok(hex::encode(alloc, bytes)?)
 }
 
-/// A switch that runs a program, where this is loaded.
-fn switch_of(alloc: Global, p: TypedProgram, loaded: &str) -> Result<Switch, Fail>
-    ensures { IfOk result (λ s. program_of s.program ≡ program_of p) }
+/// The port and the frame that leave, which may be empty; or `dropped`.
+pub fn show(alloc: Global, passed: Passed, buf: &FrameBuf) -> Result<String, Fail> {
+    match passed {
+        Passed::Dropped => Ok(String::from_str(alloc, "dropped")?),
+        Passed::Out { port } => {
+            let frame = digits(alloc, buf.frame())?;
+            Ok(format!(in alloc; "{port} {frame}")?)
+        }
+    }
+}
+
+/// A program's tables, where this is loaded.
+pub fn loaded(alloc: Global, p: &TypedProgram, text: &str) -> Result<TableState, Fail>
+    ensures { IfOk result (λ s. IsStateOf (program_of p.now) s) }
 {
-    let mut state = TableState::new(alloc, &p)?;
-    load(alloc, &p, &mut state, loaded)?;
-    Ok(Switch::new(alloc, p, state)?)
+    let mut state = TableState::new(alloc, p)?;
+    load(alloc, p, &mut state, text)?;
+    Ok(state)
 }
 
-/// What leaves where a frame comes by port 1: the port and the frame, or `dropped`, and the digests.
-pub fn answer(
+/// The tables of the program `to`, which hold what those of the text's program hold, where this is
+/// loaded.
+pub fn carried_over(
     rt: &impl Abort,
     alloc: Global,
+    from: &str,
+    to: &TypedProgram,
     text: &str,
-    loaded: &str,
-    frame: &str,
-) -> Result<String, Fail> {
-    let program = program(rt, alloc, text)?;
-    let mut buf = FrameBuf::new(alloc, &program)?;
-    let mut switch = switch_of(alloc, program, loaded)?;
-    let frame = bytes(alloc, frame)?;
-    assert!(rt; frame.len() <= 2000);
-    let passed = switch.pass(alloc, 1, &frame, &mut buf)?;
-    show(alloc, passed, &buf)
+) -> Result<TableState, Fail>
+    ensures { IfOk result (λ s. IsStateOf (program_of to.now) s) }
+{
+    let from = program(rt, alloc, from)?;
+    let state = loaded(alloc, &from, text)?;
+    Ok(carried(alloc, &state, &from, to)?)
 }

@@ -1,0 +1,111 @@
+//! Which entries and defaults tables take, and why they refuse others.
+
+use crate::support::{offer, program};
+use p4_tables::TableState;
+use p4_types::TypedProgram;
+use std::alloc::Global;
+use std::process::Abort;
+use std::test::Fail;
+
+const BEFORE: &str = "header e_t { bit<8> x; bit<16> y; bit<32> k; } struct headers_t { e_t e; } \
+struct meta_t { } parser Prs(packet_in p, out headers_t h, inout meta_t m, \
+inout standard_metadata_t std) { state start { p.extract(h.e); transition accept; } } \
+control Ver(inout headers_t h, inout meta_t m) { apply { } } control Ing(inout headers_t h, \
+inout meta_t m, inout standard_metadata_t std) { action go(bit<8> v) { h.e.x = v; } \
+action other() { } ";
+
+const BEHIND: &str = "apply { } } control Egr(inout headers_t h, inout meta_t m, \
+inout standard_metadata_t std) { apply { } } control Com(inout headers_t h, inout meta_t m) \
+{ apply { } } control Dep(packet_out p, in headers_t h) { apply { p.emit(h.e); } } \
+V1Switch(Prs(), Ver(), Ing(), Egr(), Com(), Dep()) main;";
+
+const TABLES: &str = "table t { key = { h.e.x: exact; } actions = { go; NoAction; } } \
+table u { key = { h.e.x: exact; h.e.y: lpm; } actions = { go; } \
+const default_action = go(1); } \
+table w { key = { h.e.x: ternary; } actions = { go; } } ";
+
+/// A table; items, of which it takes all but perhaps the last one; and what is answered for that.
+const OFFERS: &str = "\
+Ing.t: 8:1 -> Ing.go 8:7 => taken
+Ing.t: 8:1 -> NoAction => taken
+Ing.t: 8:1 -> Ing.other => NoSuchAction
+Ing.t: 16:1 -> Ing.other => NoSuchAction
+Ing.u: 8:1 16:200/8 -> NoAction => NoSuchAction
+Ing.t: 16:1 -> Ing.go 8:7 => WidthDiffers
+Ing.t: 8:1 8:2 -> Ing.go 8:7 => WidthDiffers
+Ing.t: 8:1/8 -> Ing.go 8:7 => WidthDiffers
+Ing.t: 8:1&8:ff -> Ing.go 8:7 => WidthDiffers
+Ing.t: 8:1 -> Ing.go => WidthDiffers
+Ing.t: 8:1 -> Ing.go 8:7 8:8 => WidthDiffers
+Ing.t: 8:1 -> Ing.go 9:7 => WidthDiffers
+Ing.t: 8:1 -> NoAction 8:1 => WidthDiffers
+Ing.u: 8:1 -> Ing.go 8:7 => WidthDiffers
+Ing.u: 8:1 16:200 -> Ing.go 8:7 => WidthDiffers
+Ing.u: 8:1 16:200/17 -> Ing.go 8:7 => WidthDiffers
+Ing.u: 8:1 16:200/16 -> Ing.go 8:7 => taken
+Ing.u: 8:1 16:200/0 -> Ing.go 8:7 => taken
+Ing.w: 8:1&9:ff -> Ing.go 8:7 => WidthDiffers
+Ing.t: 8:1 -> Ing.go 8:7; 8:1 -> NoAction => SameEntry
+Ing.t: 8:1 -> Ing.go 8:7; 8:1 -> Ing.go 9:7 => WidthDiffers
+Ing.t: 8:1 -> Ing.go 8:7 #1; 8:1 -> Ing.go 8:7 #2 => SameEntry
+Ing.t: 8:1 -> Ing.go 8:7 #1; 8:2 -> Ing.go 8:7 #1 => taken
+Ing.u: 8:1 16:2ff/8 -> Ing.go 8:7; 8:1 16:200/8 -> Ing.go 8:8 => SameEntry
+Ing.u: 8:1 16:200/0 -> Ing.go 8:7; 8:1 16:ff00/0 -> Ing.go 8:8 => SameEntry
+Ing.u: 8:1 16:200/8 -> Ing.go 8:7; 8:1 16:200/9 -> Ing.go 8:8 => taken
+Ing.u: 8:1 16:200/8 -> Ing.go 8:7; 8:2 16:200/8 -> Ing.go 8:8 => taken
+Ing.w: 8:1&8:3 -> Ing.go 8:7 #1; 8:2&8:3 -> Ing.go 8:8 #1 => SamePriority
+Ing.w: 8:1&8:3 -> Ing.go 8:7 #1; 8:1&8:7 -> Ing.go 8:8 #1 => SamePriority
+Ing.w: 8:1&8:3 -> Ing.go 8:7 #1; 8:5&8:3 -> Ing.go 8:8 #1 => SameEntry
+Ing.w: 8:1&8:3 -> Ing.go 8:7 #1; 8:2&8:3 -> Ing.go 8:8 #2 => taken
+Ing.w: 8:1&8:3 -> Ing.go 8:7 #1; 8:1&8:3 -> Ing.go 8:8 #2 => taken
+Ing.t: default Ing.go 8:7 => taken
+Ing.t: default Ing.other => NoSuchAction
+Ing.t: default Ing.go => WidthDiffers
+Ing.u: default NoAction => NoSuchAction
+Ing.u: default Ing.go 9:7 => WidthDiffers
+Ing.u: default Ing.go 8:7 => ConstDefault";
+
+/// The program with these tables.
+pub fn program_with(rt: &impl Abort, alloc: Global, tables: &str) -> Result<TypedProgram, Fail> {
+    let mut text = String::from_str(alloc, BEFORE)?;
+    text.push_str(tables)?;
+    text.push_str(BEHIND)?;
+    program(rt, alloc, &text)
+}
+
+/// What is answered for the last of some items, where the table takes those before it.
+fn last_answer(
+    rt: &impl Abort,
+    alloc: Global,
+    p: &TypedProgram,
+    name: &str,
+    items: &str,
+) -> Result<String, Fail> {
+    let Some(table) = p.table_number(name) else {
+        return Err(Fail::new("no such table"));
+    };
+    let mut state = TableState::new(alloc, p)?;
+    let mut last = String::from_str(alloc, "taken")?;
+    for item in items.split("; ") {
+        assert_eq!(rt; last.as_str(), "taken", "{items}");
+        last = offer(alloc, p, &mut state, table, item)?;
+    }
+    Ok(last)
+}
+
+#[test]
+fn offers(rt: HostRuntime) -> Result<(), Fail> {
+    let alloc = rt.alloc();
+    let program = program_with(&rt, alloc, TABLES)?;
+    for line in OFFERS.lines() {
+        let Some((name, rest)) = line.split_once(": ") else {
+            return Err(Fail::new("a row has no table"));
+        };
+        let Some((items, wanted)) = rest.split_once(" => ") else {
+            return Err(Fail::new("a row has no answer"));
+        };
+        let answer = last_answer(&rt, alloc, &program, name, items)?;
+        assert_eq!(rt; answer.as_str(), wanted, "{line}");
+    }
+    Ok(())
+}
