@@ -1,0 +1,13 @@
+pub mod Values
+pub mod Guards
+pub mod Runs
+pub mod Left
+pub mod Agreed
+pub mod Weaker
+pub mod Acted
+pub mod Called
+pub mod Controlled
+pub mod Sent
+pub mod Bounds
+pub mod Sizes
+pub mod Rows
