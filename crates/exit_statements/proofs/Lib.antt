@@ -8,6 +8,7 @@ pub mod Acted
 pub mod Called
 pub mod Controlled
 pub mod Sent
+pub mod Written
 pub mod Bounds
 pub mod Sizes
 pub mod Rows

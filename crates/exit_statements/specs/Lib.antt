@@ -6,4 +6,5 @@ pub mod Alike
 pub mod Laws
 pub mod Actions
 pub mod Controls
+pub mod Written
 pub mod Bounds

@@ -4,6 +4,7 @@ ghost use Rattle.exit_statements.specs.Actions.{CallsAgree};
 ghost use Rattle.exit_statements.specs.Bounds.{BoundsAgree, HeightsBounded, SizesBounded};
 ghost use Rattle.exit_statements.specs.Controls.{EntersAgree, LeavesAgree};
 ghost use Rattle.exit_statements.specs.Laws.{ListsAgree, NoneIsLeft, StaySame};
+ghost use Rattle.exit_statements.specs.Written.{NamesAgree};
 
 /// Where two runs agree and no flag is set, they agree behind the given statements and those without
 /// exits, and the flags say how the given ones ended.
@@ -50,4 +51,10 @@ pub fn sizes_bounded()
 /// Statements without exits are at most three times as high, and one.
 pub fn heights_bounded()
     ensures { HeightsBounded }
+{}
+
+/// Written statements without exits are, where names stand for what they name, those of this kind
+/// without exits.
+pub fn names_agree()
+    ensures { NamesAgree }
 {}

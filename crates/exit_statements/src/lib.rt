@@ -15,5 +15,5 @@ mod laws;
 
 pub use laws::{
     bounds_agree, calls_agree, enters_agree, heights_bounded, leaves_agree, lists_agree,
-    none_is_left, sizes_bounded, stay_same,
+    names_agree, none_is_left, sizes_bounded, stay_same,
 };
