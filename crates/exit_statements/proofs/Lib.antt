@@ -9,6 +9,7 @@ pub mod Called
 pub mod Controlled
 pub mod Sent
 pub mod Written
+pub mod Declared
 pub mod Bounds
 pub mod Sizes
 pub mod Rows

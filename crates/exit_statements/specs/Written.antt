@@ -2,7 +2,7 @@
 use Rattle.std.specs.Prelude.{codes, ◌≡◌, ℕ, List, [], ◌∷◌, Bool, ◌||◌, None}
 use Rattle.lex_text.specs.Names.{same_text}
 use Rattle.p4_tree.specs.Tree.{Stmts}
-use Rattle.p4_meaning.specs.Scope.{Scope, full_name, first_name, constant_at}
+use Rattle.p4_meaning.specs.Scope.{Scope, full_name, first_name, constant_at, names_in}
 use Rattle.p4_meaning.specs.Under.{stmts_under}
 use Rattle.exit_statements.specs.Without.{Body, Flags, Exits, stmts_without}
 
@@ -28,3 +28,7 @@ pub record ShowsFlags (sc : Scope) (n : Flags) : Type 0 where
 abbrev pub NamesAgree : Type 0
 NamesAgree = (sc : Scope) (n : Flags) (m : Exits) (body : Body) (left : Bool) (ss : Stmts) → ShowsFlags sc n
     → stmts_under sc (stmts_without n (exits_written sc m) body left ss) ≡ stmts_without (flags_under sc n) m body left (stmts_under sc ss)
+
+-- they declare the variables of the given ones, in order
+abbrev pub DeclareSame : Type 0
+DeclareSame = (n : Flags) (m : Exits) (body : Body) (left : Bool) (ss : Stmts) → names_in (stmts_without n m body left ss) ≡ names_in ss

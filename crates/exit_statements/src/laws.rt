@@ -4,7 +4,7 @@ ghost use Rattle.exit_statements.specs.Actions.{CallsAgree};
 ghost use Rattle.exit_statements.specs.Bounds.{BoundsAgree, HeightsBounded, SizesBounded};
 ghost use Rattle.exit_statements.specs.Controls.{EntersAgree, LeavesAgree};
 ghost use Rattle.exit_statements.specs.Laws.{ListsAgree, NoneIsLeft, StaySame};
-ghost use Rattle.exit_statements.specs.Written.{NamesAgree};
+ghost use Rattle.exit_statements.specs.Written.{DeclareSame, NamesAgree};
 
 /// Where two runs agree and no flag is set, they agree behind the given statements and those without
 /// exits, and the flags say how the given ones ended.
@@ -57,4 +57,9 @@ pub fn heights_bounded()
 /// without exits.
 pub fn names_agree()
     ensures { NamesAgree }
+{}
+
+/// Statements without exits declare the variables of the given ones.
+pub fn declare_same()
+    ensures { DeclareSame }
 {}
