@@ -10,6 +10,7 @@ pub mod Controlled
 pub mod Sent
 pub mod Written
 pub mod Declared
+pub mod WrittenActions
 pub mod Bounds
 pub mod Sizes
 pub mod Rows

@@ -127,7 +127,7 @@ module _ (sc : Scope) (n : Flags) (m : Exits) (shown : ShowsFlags sc n) where
     others_leave without = refl
     others_leave (otherwise s) = leaves s
 
-    leave : (ss : Stmts) → stmts_leave m (stmts_under sc ss) ≡ stmts_leave w ss
+    pub leave : (ss : Stmts) → stmts_leave m (stmts_under sc ss) ≡ stmts_leave w ss
     leave done = refl
     leave (next s ss) = ap₂ (λ a b. a || b) (leaves s) (leave ss)
 

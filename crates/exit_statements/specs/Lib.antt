@@ -7,4 +7,5 @@ pub mod Laws
 pub mod Actions
 pub mod Controls
 pub mod Written
+pub mod WrittenActions
 pub mod Bounds

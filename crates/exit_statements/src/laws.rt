@@ -5,6 +5,7 @@ ghost use Rattle.exit_statements.specs.Bounds.{BoundsAgree, HeightsBounded, Size
 ghost use Rattle.exit_statements.specs.Controls.{EntersAgree, LeavesAgree};
 ghost use Rattle.exit_statements.specs.Laws.{ListsAgree, NoneIsLeft, StaySame};
 ghost use Rattle.exit_statements.specs.Written.{DeclareSame, NamesAgree};
+ghost use Rattle.exit_statements.specs.WrittenActions.{ActionsAgree};
 
 /// Where two runs agree and no flag is set, they agree behind the given statements and those without
 /// exits, and the flags say how the given ones ended.
@@ -62,4 +63,10 @@ pub fn names_agree()
 /// Statements without exits declare the variables of the given ones.
 pub fn declare_same()
     ensures { DeclareSame }
+{}
+
+/// A written action without exits that uses no flag is, where names stand for what they name, that
+/// action without exits.
+pub fn actions_agree()
+    ensures { ActionsAgree }
 {}

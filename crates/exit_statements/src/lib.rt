@@ -14,6 +14,6 @@
 mod laws;
 
 pub use laws::{
-    bounds_agree, calls_agree, declare_same, enters_agree, heights_bounded, leaves_agree,
-    lists_agree, names_agree, none_is_left, sizes_bounded, stay_same,
+    actions_agree, bounds_agree, calls_agree, declare_same, enters_agree, heights_bounded,
+    leaves_agree, lists_agree, names_agree, none_is_left, sizes_bounded, stay_same,
 };
