@@ -4,7 +4,8 @@
 //! of controls whose names stand for what they name (`specs/Actions`, `specs/Controls`), and the laws
 //! of it, for all tables, registers and stores. Two flags say what has been left; what stands behind a
 //! statement that may leave runs where its flag is not set. Guards are flat, so that what cannot leave
-//! stays as it is.
+//! stays as it is. `specs/Written` and `specs/WrittenActions` say it of what is written, where names
+//! do not stand for what they name yet, and `specs/Bounds` what grows, and by how much at most.
 //!
 //! Not here: code that rewrites a program, and that the program stays well typed.
 //!
