@@ -1,5 +1,5 @@
 -- Where paths read the same words, and the same headers are valid, an expression has the same value.
-use Rattle.std.proofs.Common.{◌≡◌, ℕ, List, Bool, true, false, cond, Option, Some, None, refl, sym, ap, ap₂, ◌∙◌}
+use Rattle.std.proofs.Common.{◌≡◌, ℕ, List, Bool, false, cond, Option, Some, None, refl, ap, ap₂, ◌∙◌}
 use Rattle.std.specs.Prelude.{not}
 use Rattle.bit_values.specs.Bits.{Word}
 use Rattle.bit_values.specs.Widths.{bit, holds, either_width, sound_width, cast_word}

@@ -5,20 +5,20 @@ use Rattle.std.proofs.lemmas.Slice.Eq.{bytes_eq-Decides}
 use Rattle.indexmap.specs.IndexMap.{insert_entry}
 use Rattle.bit_values.specs.Bits.{Word, word}
 use Rattle.bit_values.specs.Widths.{sound_width, cast_word}
-use Rattle.lex_text.specs.Names.{same_text, parent}
+use Rattle.lex_text.specs.Names.{same_text}
 use Rattle.p4_tree.specs.Tree.{Expr, Top}
 use Rattle.p4_tree.specs.View.{top_of}
 use Rattle.p4_tree.specs.declared.program.Top as code
 use Rattle.p4_tree.specs.declared.statement.PTy.{PTy}
 use Rattle.p4_tree.specs.declared.statement.PTy.TheVariants as type
-use Rattle.p4_meaning.specs.Store.{Store, blank, read}
+use Rattle.p4_meaning.specs.Store.{blank, read}
 use Rattle.p4_meaning.specs.Value.{value_of, width_of}
-use Rattle.p4_meaning.specs.Scope.{Scope, constant_named, constant_at, constant_or, is_inner, Inner, type_under, type_named, seen}
+use Rattle.p4_meaning.specs.Scope.{Scope, constant_named, constant_or, is_inner, Inner, type_under, type_named, seen}
 use Rattle.p4_meaning.specs.Under.{expr_under, with_constant, with_type, no_scope, behind_top, behind_tops}
 use Rattle.p4_meaning.specs.Laws.{AreWords}
 use Rattle.p4_meaning.proofs.Seen.{value_seen}
 use Rattle.p4_types.specs.Kept.{at_name}
-use Rattle.p4_types.specs.Words.{word_at, constants_store, or_none, width_in, IsBehind}
+use Rattle.p4_types.specs.Words.{constants_store, or_none, width_in, IsBehind}
 use Rattle.p4_types.specs.declared.constants.Known.{Known}
 use Rattle.p4_types.proofs.Alike.{value_alike}
 use Rattle.p4_types.proofs.Numbered.{flip, map_more}

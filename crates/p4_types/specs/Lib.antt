@@ -1,7 +1,8 @@
--- What callers rest on: why a program is refused, numbers, and constants. To be read in this order.
+-- What callers rest on: why a program is refused, numbers, constants, and counts. To be read in this order.
 pub mod Faults
 pub mod Numbers
 pub mod Constants
+pub mod Counts
 -- What serves the proofs.
 pub mod Kept
 pub mod Words

@@ -6,6 +6,7 @@ ghost use Rattle.p4_rules.specs.Limits.{header_bytes, most_of_program, cells};
 ghost use Rattle.p4_rules.specs.ProgramRules.{program_scope, IsWellTyped};
 ghost use Rattle.p4_types.specs.Faults.{HasCause};
 ghost use Rattle.p4_types.specs.Constants.{constant_of};
+ghost use Rattle.p4_types.specs.Counts.{AreCounts};
 ghost use Rattle.p4_types.specs.Numbers.{tables, registers, actions, names, number_in};
 
 use crate::constants::{Constants, constants_of};
@@ -46,6 +47,15 @@ impl Model for TypedProgram {
     ghost invariant = { IsTyped };
 }
 
+/// What is counted of a program: the bytes of all headers in the struct of headers, the most digests
+/// that a passage gives, and the cells of all registers.
+#[derive(Clone, Copy, Debug, Drop)]
+pub struct Counts {
+    pub header_bytes: u32,
+    pub digest_bound: u32,
+    pub cells: u64,
+}
+
 /// The program itself, exactly where it breaks no rule.
 pub fn check_program(alloc: Global, program: Program) -> Result<TypedProgram, ProgramTypeFault>
     ensures ok { IfOk result (λ t. program_of t ≡ program_of program) }
@@ -56,25 +66,44 @@ pub fn check_program(alloc: Global, program: Program) -> Result<TypedProgram, Pr
     match checked.first {
         Some((at, rule)) => Err(ProgramTypeFault::Type_ { at, rule }),
         None => {
-            let tables = numbering_of(alloc, Sort::Tables, &program)?;
-            let registers = numbering_of(alloc, Sort::Registers, &program)?;
-            let actions = numbering_of(alloc, Sort::Actions, &program)?;
-            let constants = constants_of(alloc, &program)?;
-            Ok(TypedProgram {
-                program,
-                tables,
-                registers,
-                actions,
-                constants,
+            let counts = Counts {
                 header_bytes: checked.header_bytes,
                 digest_bound: checked.digest_bound,
                 cells: checked.cells,
-            })
+            };
+            Ok(TypedProgram::known(alloc, program, counts)?)
         }
     }
 }
 
 impl TypedProgram {
+    /// A program of which it is known that it breaks no rule, and what is counted of it. Nothing is
+    /// tested.
+    pub fn known(
+        alloc: Global,
+        program: Program,
+        counts: Counts,
+    ) -> Result<TypedProgram, AllocError>
+        requires typed { IsWellTyped (program_of program) }
+        requires counted { AreCounts (program_of program) counts }
+        ensures { IfOk result (λ t. program_of t ≡ program_of program) }
+    {
+        let tables = numbering_of(alloc, Sort::Tables, &program)?;
+        let registers = numbering_of(alloc, Sort::Registers, &program)?;
+        let actions = numbering_of(alloc, Sort::Actions, &program)?;
+        let constants = constants_of(alloc, &program)?;
+        Ok(TypedProgram {
+            program,
+            tables,
+            registers,
+            actions,
+            constants,
+            header_bytes: counts.header_bytes,
+            digest_bound: counts.digest_bound,
+            cells: counts.cells,
+        })
+    }
+
     /// The program.
     pub fn program(&self) -> &Program
         ensures same { result.now ≡ self.now }
@@ -133,24 +162,22 @@ impl TypedProgram {
         self.cells
     }
 
+    /// What is counted of the program.
+    pub fn counts(&self) -> Counts
+        ensures { AreCounts (program_of self.now) result }
+    {
+        Counts {
+            header_bytes: self.header_bytes,
+            digest_bound: self.digest_bound,
+            cells: self.cells,
+        }
+    }
+
     /// An equal program with the same places.
     pub fn copy(&self, alloc: Global) -> Result<TypedProgram, AllocError>
         ensures { IfOk result (λ t. program_of t ≡ program_of self.now) }
     {
         let program = self.program.copy(alloc)?;
-        let tables = numbering_of(alloc, Sort::Tables, &program)?;
-        let registers = numbering_of(alloc, Sort::Registers, &program)?;
-        let actions = numbering_of(alloc, Sort::Actions, &program)?;
-        let constants = constants_of(alloc, &program)?;
-        Ok(TypedProgram {
-            program,
-            tables,
-            registers,
-            actions,
-            constants,
-            header_bytes: self.header_bytes,
-            digest_bound: self.digest_bound,
-            cells: self.cells,
-        })
+        TypedProgram::known(alloc, program, self.counts())
     }
 }
