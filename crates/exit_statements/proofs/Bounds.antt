@@ -9,6 +9,7 @@ use Rattle.p4_meaning.specs.DigestBound.{most_of_test, most_of_stmt, most_of_els
 use Rattle.p4_meaning.specs.Statements.{application}
 use Rattle.exit_statements.specs.Without.{Body, in_action, in_control, Flags, exit_in, Exits, no_exits, test_leaves, stmt_leaves, stmts_leave, is_var, in_list, in_branch, stmt_without, else_without, stmts_without}
 use Rattle.exit_statements.specs.Actions.{lowered, flags_in, action_without, exits_of}
+use Rattle.exit_statements.specs.Controls.{with_flag}
 use Rattle.exit_statements.specs.Bounds.{BoundsAgree}
 use Rattle.exit_statements.proofs.Called.{same_action}
 
@@ -71,11 +72,11 @@ behind f g done ss ts h = h
 behind f g (next s first) ss ts h = ap (λ k. most_of_stmt f g s + k) (behind f g first ss ts h)
 
 pub bounds_agree : BoundsAgree
-bounds_agree n returned as' ts b =
-    ap₂ (λ (f g : List ℕ → ℕ). most_of f g (next (lowered n.left) (and_then b.locals (stmts_without n (exits_of as' ts) in_control false b.body))))
+bounds_agree flagged n returned as' ts b =
+    ap₂ (λ (f g : List ℕ → ℕ). most_of f g (and_then (with_flag flagged n.left b.locals) (stmts_without n (exits_of as' ts) in_control false b.body)))
     (λ i x. same_named n.left returned as' x i)
     (λ i x. same_table n.left returned as' (table_named ts x) i)
-    ∙ (zero_first (most_of f g (and_then b.locals (stmts_without n (exits_of as' ts) in_control false b.body)))
+    ∙ (flag_counts flagged
     ∙ behind f g b.locals (stmts_without n (exits_of as' ts) in_control false b.body) b.body (same_bounds f g n (exits_of as' ts) in_control false b.body))
   where
     f : List ℕ → ℕ
@@ -86,3 +87,7 @@ bounds_agree n returned as' ts b =
 
     zero_first : (k : ℕ) → 0 + k ≡ k
     zero_first k = omega arith
+
+    flag_counts : (l : Bool) → most_of f g (and_then (with_flag l n.left b.locals) (stmts_without n (exits_of as' ts) in_control false b.body)) ≡ most_of f g (and_then b.locals (stmts_without n (exits_of as' ts) in_control false b.body))
+    flag_counts true = zero_first (most_of f g (and_then b.locals (stmts_without n (exits_of as' ts) in_control false b.body)))
+    flag_counts false = refl

@@ -110,7 +110,7 @@ act_goes (Some a) ws r h = stmts_end_so a.body _ h
 -- ---- what is chosen
 
 -- what holds of all entries holds of the one that is chosen
-chosen_holds : (P : Entry → Type 0) (t : Bool) (es : List Entry) (ks : List Word) (e : Entry) → AllByRecursion P es → choice_of t es ks ≡ Some e → P e
+pub chosen_holds : (P : Entry → Type 0) (t : Bool) (es : List Entry) (ks : List Word) (e : Entry) → AllByRecursion P es → choice_of t es ks ≡ Some e → P e
 chosen_holds P t [] ks e h is = absurd (cc is)
 chosen_holds P t (x ∷ xs) ks e h is = go (λ f at. chosen_holds P t xs ks f h.1 at) (fits_keys x.keys ks) (choice_of t xs ks) refl is
   where

@@ -21,7 +21,7 @@ use Rattle.exit_statements.specs.Free.{Hides, HidesFlags, shows, hides_behind, A
 use Rattle.exit_statements.specs.Alike.{Alike, Tell, hidden_by}
 use Rattle.exit_statements.specs.Laws.{Keeps, is_other}
 use Rattle.exit_statements.specs.Actions.{action_without, exits_of, all_but, RunListed}
-use Rattle.exit_statements.specs.Controls.{var_names, AreVars, nothing_seen, IsFreeControl, is_long, AreLong, run_of, run_without, EntersAgree}
+use Rattle.exit_statements.specs.Controls.{var_names, AreVars, nothing_seen, IsFreeControl, is_long, AreLong, run_of, run_without, Begins, EntersAgree}
 use Rattle.exit_statements.proofs.Values.{path_decides, text_decides, not_both, start_alike}
 use Rattle.exit_statements.proofs.Guards.{flag_alike, set_there, tell_stays, weaker}
 use Rattle.exit_statements.proofs.Runs.{shown_less, shown_flags, list_ends}
@@ -128,24 +128,34 @@ module _ (n : Flags) (returned : List ℕ → List ℕ) (own : List ℕ → Bool
       all_of Return q u = u
       all_of Exit q u = u
 
-  pub control_alike : (r : Run) → r.store.headers [] ≡ None → Alike hides (run_of as' ts held b r) (run_without n returned as' ts held b r)
-  control_alike r plain =
-      declares n own (calls_in as' ts held) (calls_in (map (action_without n.left returned) as') ts held) b.locals b.body (stmts_without n (exits_of as' ts) in_control false b.body) nothing_seen hides r low free.vars free.free start (λ x y. Alike hides x.0 y.0) (λ h x y o k less. body_alike h x y o k less)
+  pub control_alike : (flagged : Bool) (r : Run) → Begins flagged n r.store → Alike hides (run_of as' ts held b r) (run_without flagged n returned as' ts held b r)
+  control_alike flagged r begins = go flagged begins
     where
-      low : Run
-      low = in_store r (set_value r.store (n.left ∷ []) (bit false))
+      from : (first : Run) → Declared n own nothing_seen hides r first
+          → Alike hides (run_of as' ts held b r) (meaning_of (calls_in (map (action_without n.left returned) as') ts held) (and_then b.locals (stmts_without n (exits_of as' ts) in_control false b.body)) first).0
+      from first start =
+          declares n own (calls_in as' ts held) (calls_in (map (action_without n.left returned) as') ts held) b.locals b.body (stmts_without n (exits_of as' ts) in_control false b.body) nothing_seen hides r first free.vars free.free start (λ x y. Alike hides x.0 y.0) (λ h x y o k less. body_alike h x y o k less)
 
-      same : Alike hides r r
-      same = record { values = λ q u. refl; headers = refl; plain = plain; cells = refl; digests = refl }
+      same : r.store.headers [] ≡ None → Alike hides r r
+      same plain = record { values = λ q u. refl; headers = refl; plain = plain; cells = refl; digests = refl }
 
-      start : Declared n own nothing_seen hides r (in_store r (set_value r.store (n.left ∷ []) (bit false)))
-      start =
-          record {
-            alike = flag_alike hides r r n.left (bit false) refl same;
+      go : (flagged : Bool) → Begins flagged n r.store → Alike hides (run_of as' ts held b r) (run_without flagged n returned as' ts held b r)
+      go true begins =
+          from (in_store r (set_value r.store (n.left ∷ []) (bit false)))
+          (record {
+            alike = flag_alike hides r r n.left (bit false) refl (same begins.plain);
             tell = record { guard = set_there n.left (bit false) r; left = set_there n.left (bit false) r };
             flags = record { left = refl; returned = refl; long = λ x y rest. refl; empty = refl };
             keeps = record { own_hidden = λ x u. refl; seen_shown = λ x u. absurd (cc u) };
-          }
+          })
+      go false begins =
+          from r
+          (record {
+            alike = same begins.plain;
+            tell = record { guard = begins.unset refl; left = begins.unset refl };
+            flags = record { left = refl; returned = refl; long = λ x y rest. refl; empty = refl };
+            keeps = record { own_hidden = λ x u. refl; seen_shown = λ x u. absurd (cc u) };
+          })
 
 -- ---- the halves
 
@@ -201,4 +211,4 @@ same_entered p before rest a b l h =
     λ i. record { registers = h.cells i; digests = h.digests i; entry_state = before; queued = unless_dropped (drop i) (record { store = store i; rest = rest }) }
 
 pub enters_agree : EntersAgree
-enters_agree n returned own p b held free listed l before rest r plain = same_entered p before rest _ _ l (control_alike n returned own p.actions p.tables b held free listed r plain)
+enters_agree flagged n returned own p b held free listed l before rest r begins = same_entered p before rest _ _ l (control_alike n returned own p.actions p.tables b held free listed flagged r begins)

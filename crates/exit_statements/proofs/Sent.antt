@@ -119,8 +119,8 @@ sent_by true g = refl
 sent_by false g = refl
 
 pub leaves_agree : LeavesAgree
-leaves_agree n returned own p b held free listed l computes rest r plain =
-    let h = control_alike n returned own p.actions p.tables b held free listed r plain in
+leaves_agree flagged n returned own p b held free listed l computes rest r begins =
+    let h = control_alike n returned own p.actions p.tables b held free listed flagged r begins in
     alike_leave h
   where
     alike_leave : {x y : Run} → Alike (all_but nothing_seen) x y → LeaveAlike p rest x y

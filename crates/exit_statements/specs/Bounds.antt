@@ -18,8 +18,8 @@ most_of_control as' ts b = most_of (most_named as') (most_applied as' ts) (whole
 
 -- a control without exits gives at most as many
 abbrev pub BoundsAgree : Type 0
-BoundsAgree = (n : Flags) (returned : List ℕ → List ℕ) (as' : List Action) (ts : List Table) (b : parts.Body)
-    → most_of_control (map (action_without n.left returned) as') ts (body_without n as' ts b) ≡ most_of_control as' ts b
+BoundsAgree = (flagged : Bool) (n : Flags) (returned : List ℕ → List ℕ) (as' : List Action) (ts : List Table) (b : parts.Body)
+    → most_of_control (map (action_without n.left returned) as') ts (body_without flagged n as' ts b) ≡ most_of_control as' ts b
 
 abbrev mutual
   -- how many statements a statement is, with those inside it

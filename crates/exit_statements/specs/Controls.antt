@@ -3,6 +3,7 @@
 use Rattle.std.specs.Prelude.{◌≡◌, ℕ, List, [], ◌∷◌, map, Bool, true, false, Option, None}
 use Rattle.std.specs.List.{AllByRecursion}
 use Rattle.std.specs.Option.{option_map}
+use Rattle.bit_values.specs.Widths.{bit}
 use Rattle.lex_text.specs.Names.{same_text}
 use Rattle.p4_tree.specs.Tree.{Stmts, var, done, next}
 use Rattle.p4_meaning.specs.Parsing.{Header}
@@ -31,9 +32,14 @@ AreVars done = Unit {0}
 AreVars (next (var p ty x e) ss) = AreVars ss
 AreVars (next _ ss) = ⊥
 
--- a control whose flag is declared before its variables, and whose body is without exits
-abbrev pub body_without : Flags → List Action → List Table → parts.Body → parts.Body
-body_without n as' ts b = record { locals = next (lowered n.left) b.locals; body = stmts_without n (exits_of as' ts) in_control false b.body }
+-- a flag is declared before other variables, where it has to be
+abbrev pub with_flag : Bool → List ℕ → Stmts → Stmts
+with_flag true x ss = next (lowered x) ss
+with_flag false x ss = ss
+
+-- a control whose body is without exits, with its flag or without
+abbrev pub body_without : (flagged : Bool) → Flags → List Action → List Table → parts.Body → parts.Body
+body_without flagged n as' ts b = record { locals = with_flag flagged n.left b.locals; body = stmts_without n (exits_of as' ts) in_control false b.body }
 
 -- of variables none is in sight
 abbrev pub nothing_seen : List ℕ → Bool
@@ -60,15 +66,20 @@ AreLong hs = AllByRecursion (λ h. is_long h.path ≡ true) hs
 abbrev pub run_of : List Action → List Table → Tables → parts.Body → Run → Run
 run_of as' ts held b r = (meaning_of (calls_in as' ts held) (whole b) r).0
 
-abbrev pub run_without : Flags → (returned : List ℕ → List ℕ) → List Action → List Table → Tables → parts.Body → Run → Run
-run_without n returned as' ts held b r = (meaning_of (calls_in (map (action_without n.left returned) as') ts held) (whole (body_without n as' ts b)) r).0
+abbrev pub run_without : (flagged : Bool) → Flags → (returned : List ℕ → List ℕ) → List Action → List Table → Tables → parts.Body → Run → Run
+run_without flagged n returned as' ts held b r = (meaning_of (calls_in (map (action_without n.left returned) as') ts held) (whole (body_without flagged n as' ts b)) r).0
+
+-- no header has the empty path; and where the flag is not declared, it is not set
+pub record Begins (flagged : Bool) (n : Flags) (s : Store) : Type 0 where
+  pub plain : s.headers [] ≡ None
+  pub unset : flagged ≡ false → s.values (n.left ∷ []) ≡ bit false
 
 -- the entry half gives the same, whatever tables hold
 abbrev pub EntersAgree : Type 0
-EntersAgree = (n : Flags) (returned : List ℕ → List ℕ) (own : List ℕ → Bool) (p : Parts) (b : parts.Body) (held : Tables)
+EntersAgree = (flagged : Bool) (n : Flags) (returned : List ℕ → List ℕ) (own : List ℕ → Bool) (p : Parts) (b : parts.Body) (held : Tables)
     → IsFreeControl n returned own p.actions p.tables b → RunListed p.actions p.tables held → AreLong p.headers
-    → (before : Store) (rest : List ℕ) (r : Run) → r.store.headers [] ≡ None
-    → entered p before rest (run_without n returned p.actions p.tables held b r) ≡ entered p before rest (run_of p.actions p.tables held b r)
+    → (before : Store) (rest : List ℕ) (r : Run) → Begins flagged n r.store
+    → entered p before rest (run_without flagged n returned p.actions p.tables held b r) ≡ entered p before rest (run_of p.actions p.tables held b r)
 
 -- compute checksum uses no variable but its own, and cannot leave
 pub record IsPlain (n : Flags) (own : List ℕ → Bool) (ss : Stmts) : Type 0 where
@@ -91,7 +102,7 @@ pub record LeaveAlike (p : Parts) (rest : List ℕ) (a b : Run) : Type 0 where
 
 -- the exit half gives the same but for variables at its end, whatever tables hold
 abbrev pub LeavesAgree : Type 0
-LeavesAgree = (n : Flags) (returned : List ℕ → List ℕ) (own : List ℕ → Bool) (p : Parts) (b : parts.Body) (held : Tables)
+LeavesAgree = (flagged : Bool) (n : Flags) (returned : List ℕ → List ℕ) (own : List ℕ → Bool) (p : Parts) (b : parts.Body) (held : Tables)
     → IsFreeControl n returned own p.actions p.tables b → RunListed p.actions p.tables held → AreLong p.headers → IsPlain n own p.compute
-    → (rest : List ℕ) (r : Run) → r.store.headers [] ≡ None
-    → LeaveAlike p rest (run_of p.actions p.tables held b r) (run_without n returned p.actions p.tables held b r)
+    → (rest : List ℕ) (r : Run) → Begins flagged n r.store
+    → LeaveAlike p rest (run_of p.actions p.tables held b r) (run_without flagged n returned p.actions p.tables held b r)

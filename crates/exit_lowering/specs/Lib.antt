@@ -1,0 +1,2 @@
+-- What a program without exits has of the given one.
+pub mod Lowered

@@ -1,0 +1,2 @@
+-- What the controls of a well-typed program use.
+pub mod Laws

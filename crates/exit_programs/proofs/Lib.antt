@@ -1,0 +1,9 @@
+pub mod Given
+pub mod Controls
+pub mod Apart
+pub mod Parts
+pub mod Sized
+pub mod Left
+pub mod Stand
+pub mod Agreed
+pub mod Rows
