@@ -6,12 +6,13 @@ ghost use Rattle.p4_tree.specs.View.{program_of};
 ghost use Rattle.p4_printer.specs.CanSpell.{CanSpell};
 
 use crate::samples::{
-    ACROSS, ACROSS_WORDS, BASIC, BASIC_WORDS, FORWARDING, FORWARDING_WORDS, LONG_DROPPED,
+    ACROSS, ACROSS_WORDS, BASIC_WORDS, FORWARDING, FORWARDING_WORDS, FRONT, LONG_DROPPED,
 };
 use lex_text::{Words, tokens};
 use p4_decls::{ProgramFault, read_program};
 use p4_printer::print_program;
 use p4_tree::Program;
+use sample_programs::BASIC;
 use std::alloc::{AllocError, Global};
 use std::process::Abort;
 use std::test::Fail;
@@ -125,7 +126,9 @@ fn samples(rt: HostRuntime) -> Result<(), Fail> {
     forwards(&rt, alloc, across, drops)?;
     forwards(&rt, alloc, out_by_two, ("", ""))?;
     forwards(&rt, alloc, LONG_DROPPED, ("", ""))?;
-    spells(&rt, alloc, BASIC, BASIC_WORDS)
+    let mut text = String::from_str(alloc, FRONT)?;
+    text.push_str(BASIC)?;
+    spells(&rt, alloc, &text, BASIC_WORDS)
 }
 
 #[test]
