@@ -27,11 +27,7 @@ pub struct Bench {
 }
 
 /// A switch that runs a program with these tables.
-pub fn bench_with(
-    alloc: Global,
-    program: TypedProgram,
-    tables: TableState,
-) -> Tried<Bench>
+pub fn bench_with(alloc: Global, program: TypedProgram, tables: TableState) -> Tried<Bench>
     requires { IsStateOf (program_of program) tables }
 {
     let buf = FrameBuf::new(alloc, &program)?;
@@ -92,9 +88,9 @@ impl Bench {
         if frame.len() > 2000 || self.place.full() {
             return Err(BenchFault::NoRoom);
         }
-        let entered =
-            self.switch
-                .enter(alloc, port, frame, &mut self.buf, &mut self.place)?;
+        let entered = self
+            .switch
+            .enter(alloc, port, frame, &mut self.buf, &mut self.place)?;
         if self.place.full() != (entered == Entered::Queued) || !self.buf.frame().is_empty() {
             return Err(BenchFault::WrongHalf);
         }
@@ -115,9 +111,7 @@ impl Bench {
 
     /// The second half of what waits, and the place is free.
     fn second_half(&mut self, alloc: Global) -> Tried<Passed> {
-        let passed = self
-            .switch
-            .leave(alloc, &mut self.place, &mut self.buf)?;
+        let passed = self.switch.leave(alloc, &mut self.place, &mut self.buf)?;
         if self.place.full() {
             return Err(BenchFault::WrongHalf);
         }

@@ -124,13 +124,7 @@ pub fn offer(
 }
 
 /// Loads one item into a table, which takes it.
-fn put(
-    alloc: Global,
-    p: &TypedProgram,
-    state: &mut TableState,
-    table: u32,
-    item: &str,
-) -> Tried<()>
+fn put(alloc: Global, p: &TypedProgram, state: &mut TableState, table: u32, item: &str) -> Tried<()>
     ensures { shapes state.new ≡ shapes state.old }
 {
     match offer(alloc, p, state, table, item)? {
