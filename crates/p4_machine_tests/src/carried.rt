@@ -1,10 +1,15 @@
 //! What tables hold, carried into a program with more tables and actions, whose numbers differ.
 
-use crate::bench::bench_carried;
-use crate::rows::text_of;
+ghost use Rattle.std.specs.Prelude.{IfOk};
+ghost use Rattle.p4_tree.specs.View.{program_of};
+ghost use Rattle.p4_tables.specs.Programs.{IsStateOf};
+
+use carried_tables::carried;
+use machine_bench::{Bench, Tried, bench_with, bytes, loaded, program, split_row, text_of};
+use p4_tables::TableState;
+use p4_types::TypedProgram;
 use std::alloc::Global;
 use std::process::Abort;
-use std::test::Fail;
 
 /// The pieces of both programs. Those of the other one stand in front of the first one's.
 const TABLE: &str = "action a(bit<8> v) { h.e.x = v; } action b() { h.e.y = 1; } \
@@ -14,63 +19,69 @@ table t { key = { h.e.x: exact; } actions = { b; a; NoAction; } default_action =
 const FRONT: &str = "action z(bit<8> v) { h.e.x = v; h.e.y = 9; } action y() { h.e.y = 7; } \
 table s { key = { h.e.y: exact; } actions = { z; y; NoAction; } default_action = y(); } ";
 
-/// What is loaded, the frame, and what leaves.
+/// What stands behind in the other program's ingress, what is loaded, the frame, and what leaves. A table
+/// that the first program lacks, `s`, is empty, and runs the default that is written.
 const ROWS: &str = "\
-Ing.t: 8:1 -> Ing.a 8:8 => 010203 => 2 080203
-Ing.t: 8:1 -> Ing.a 8:8 => 020203 => 2 050203
-Ing.t: 8:1 -> Ing.b => 010203 => 2 010001
-Ing.t: 8:1 -> NoAction => 010203 => 2 010203
-Ing.t: default Ing.a 8:4 => 010203 => 2 040203
-Ing.t: default Ing.b => 010203 => 2 010001
-Ing.t: default NoAction => 010203 => 2 010203
-Ing.t: 8:1 -> Ing.a 8:8; default Ing.b => 010203 => 2 080203
-Ing.t: 8:1 -> Ing.a 8:8; 8:2 -> Ing.b => 020203 => 2 020001";
+; => Ing.t: 8:1 -> Ing.a 8:8 => 010203 => 2 080203
+; => Ing.t: 8:1 -> Ing.a 8:8 => 020203 => 2 050203
+; => Ing.t: 8:1 -> Ing.b => 010203 => 2 010001
+; => Ing.t: 8:1 -> NoAction => 010203 => 2 010203
+; => Ing.t: default Ing.a 8:4 => 010203 => 2 040203
+; => Ing.t: default Ing.b => 010203 => 2 010001
+; => Ing.t: default NoAction => 010203 => 2 010203
+; => Ing.t: 8:1 -> Ing.a 8:8; default Ing.b => 010203 => 2 080203
+; => Ing.t: 8:1 -> Ing.a 8:8; 8:2 -> Ing.b => 020203 => 2 020001
+s.apply(); => Ing.t: 8:1 -> Ing.a 8:8 => 010203 => 2 080007
+s.apply(); => Ing.t: 8:1 -> Ing.b => 010203 => 2 010007";
 
-/// What leaves where that is carried; the other program has `behind` at the end of its ingress.
-fn answer(
-    rt: &impl Abort,
-    alloc: Global,
-    loaded: &str,
-    frame: &str,
-    behind: &str,
-) -> Result<String, Fail> {
-    let row = format!(in alloc; "@in {TABLE}")?;
-    let from = text_of(alloc, &row)?;
-    let row = format!(in alloc; "@in {FRONT}{TABLE}{behind}")?;
-    let to = text_of(alloc, &row)?;
-    let mut bench = bench_carried(rt, alloc, &from, &to, loaded)?;
-    bench.answer(rt, alloc, frame)
-}
-
-#[test]
-fn entries_and_defaults(rt: HostRuntime) -> Result<(), Fail> {
-    let alloc = rt.alloc();
-    for line in ROWS.lines() {
-        let Some((loaded, rest)) = line.split_once(" => ") else {
-            return Err(Fail::new("a row has no frame"));
-        };
-        let Some((frame, wanted)) = rest.split_once(" => ") else {
-            return Err(Fail::new("a row has no answer"));
-        };
-        let out = answer(&rt, alloc, loaded, frame, "")?;
-        assert_eq!(rt; out.as_str(), wanted, "{line}");
+/// The program of these pieces of ingress.
+fn program_with(alloc: Global, front: &str, behind: &str) -> Tried<TypedProgram> {
+    let mut row = String::from_str(alloc, "@in ")?;
+    for piece in [front, TABLE, behind] {
+        row.push_str(piece)?;
     }
-    Ok(())
+    program(alloc, &text_of(alloc, &row)?)
 }
 
-/// A table that the first program lacks is empty, and runs the default that is written.
+/// The tables of the program `to`, which hold what those of the first program hold, where this is
+/// loaded.
+fn carried_over(alloc: Global, to: &TypedProgram, items: &str) -> Tried<TableState>
+    ensures { IfOk result (λ s. IsStateOf (program_of to.now) s) }
+{
+    let from = program_with(alloc, "", "")?;
+    let state = loaded(alloc, &from, items)?;
+    Ok(carried(alloc, &state, &from, to)?)
+}
+
+/// A switch where that is carried; its program has `behind` at the end of its ingress.
+fn bench(alloc: Global, behind: &str, items: &str) -> Tried<Bench> {
+    let to = program_with(alloc, FRONT, behind)?;
+    let tables = carried_over(alloc, &to, items)?;
+    bench_with(alloc, to, tables)
+}
+
+/// What leaves it.
+fn out(alloc: Global, bench: &mut Bench, frame: &str) -> Tried<String> {
+    bench.answer(alloc, 1, &bytes(alloc, frame)?)
+}
+
+/// Whether a line is as it says.
+fn right(alloc: Global, line: &str) -> Tried<bool> {
+    let (behind, rest) = split_row(line)?;
+    let (items, rest) = split_row(rest)?;
+    let (frame, wanted) = split_row(rest)?;
+    let mut bench = bench(alloc, behind, items)?;
+    Ok(out(alloc, &mut bench, frame)?.as_str() == wanted)
+}
+
+/// Each line is as it says.
+fn all_right(rt: &impl Abort, alloc: Global) {
+    for line in ROWS.lines() {
+        assert!(rt; right(alloc, line) == Ok(true), "{line}");
+    }
+}
+
 #[test]
-fn other_tables_are_empty(rt: HostRuntime) -> Result<(), Fail> {
-    let alloc = rt.alloc();
-    let out = answer(
-        &rt,
-        alloc,
-        "Ing.t: 8:1 -> Ing.a 8:8",
-        "010203",
-        " s.apply();",
-    )?;
-    assert_eq!(rt; out.as_str(), "2 080007");
-    let out = answer(&rt, alloc, "Ing.t: 8:1 -> Ing.b", "010203", " s.apply();")?;
-    assert_eq!(rt; out.as_str(), "2 010007");
-    Ok(())
+fn entries_and_defaults(rt: HostRuntime) {
+    all_right(&rt, rt.alloc());
 }

@@ -1,11 +1,12 @@
 //! Which entries and defaults tables take, and why they refuse others.
 
-use crate::support::{offer, program};
+use machine_bench::{BenchFault, Tried, offer, program, split_row};
 use p4_tables::TableState;
 use p4_types::TypedProgram;
 use std::alloc::Global;
 use std::process::Abort;
 use std::test::Fail;
+use table_faults::EntryFault;
 
 const BEFORE: &str = "header e_t { bit<8> x; bit<16> y; bit<32> k; } struct headers_t { e_t e; } \
 struct meta_t { } parser Prs(packet_in p, out headers_t h, inout meta_t m, \
@@ -66,46 +67,68 @@ Ing.u: default Ing.go 9:7 => WidthDiffers
 Ing.u: default Ing.go 8:7 => ConstDefault";
 
 /// The program with these tables.
-pub fn program_with(rt: &impl Abort, alloc: Global, tables: &str) -> Result<TypedProgram, Fail> {
+pub fn program_with(alloc: Global, tables: &str) -> Tried<TypedProgram> {
     let mut text = String::from_str(alloc, BEFORE)?;
     text.push_str(tables)?;
     text.push_str(BEHIND)?;
-    program(rt, alloc, &text)
+    program(alloc, &text)
+}
+
+/// The name of an answer.
+fn named(answer: Result<(), EntryFault>) -> &'static str {
+    match answer {
+        Ok(()) => "taken",
+        Err(EntryFault::NoSuchAction) => "NoSuchAction",
+        Err(EntryFault::WidthDiffers) => "WidthDiffers",
+        Err(EntryFault::SameEntry) => "SameEntry",
+        Err(EntryFault::SamePriority) => "SamePriority",
+        Err(EntryFault::TableLimit) => "TableLimit",
+        Err(EntryFault::ConstDefault) => "ConstDefault",
+        Err(EntryFault::NoMemory) => "NoMemory",
+    }
 }
 
 /// What is answered for the last of some items, where the table takes those before it.
 fn last_answer(
-    rt: &impl Abort,
     alloc: Global,
     p: &TypedProgram,
-    name: &str,
+    state: &mut TableState,
+    table: u32,
     items: &str,
-) -> Result<String, Fail> {
-    let Some(table) = p.table_number(name) else {
-        return Err(Fail::new("no such table"));
-    };
-    let mut state = TableState::new(alloc, p)?;
-    let mut last = String::from_str(alloc, "taken")?;
+) -> Tried<&'static str> {
+    let mut last = "taken";
     for item in items.split("; ") {
-        assert_eq!(rt; last.as_str(), "taken", "{items}");
-        last = offer(alloc, p, &mut state, table, item)?;
+        if last != "taken" {
+            return Err(BenchFault::Refused);
+        }
+        last = named(offer(alloc, p, state, table, item)?);
     }
     Ok(last)
+}
+
+/// The same for a line of `OFFERS`: whether it is as it says.
+fn right(alloc: Global, p: &TypedProgram, line: &str) -> Tried<bool> {
+    let Some((name, rest)) = line.split_once(": ") else {
+        return Err(BenchFault::NoItem);
+    };
+    let (items, wanted) = split_row(rest)?;
+    let Some(table) = p.table_number(name) else {
+        return Err(BenchFault::NoSuchTable);
+    };
+    let mut state = TableState::new(alloc, p)?;
+    Ok(last_answer(alloc, p, &mut state, table, items)? == wanted)
+}
+
+/// Each line is as it says.
+fn all_right(rt: &impl Abort, alloc: Global, p: &TypedProgram) {
+    for line in OFFERS.lines() {
+        assert!(rt; right(alloc, p, line) == Ok(true), "{line}");
+    }
 }
 
 #[test]
 fn offers(rt: HostRuntime) -> Result<(), Fail> {
     let alloc = rt.alloc();
-    let program = program_with(&rt, alloc, TABLES)?;
-    for line in OFFERS.lines() {
-        let Some((name, rest)) = line.split_once(": ") else {
-            return Err(Fail::new("a row has no table"));
-        };
-        let Some((items, wanted)) = rest.split_once(" => ") else {
-            return Err(Fail::new("a row has no answer"));
-        };
-        let answer = last_answer(&rt, alloc, &program, name, items)?;
-        assert_eq!(rt; answer.as_str(), wanted, "{line}");
-    }
+    all_right(&rt, alloc, &program_with(alloc, TABLES)?);
     Ok(())
 }

@@ -5,9 +5,10 @@ ghost use Rattle.std.specs.Prelude.{◌≡◌, ◌≤◌};
 
 use crate::entries::program_with;
 use bit_values::Bits;
+use machine_bench::{BenchFault, Tried};
 use p4_tables::{Entry, Match, TableState};
 use p4_types::TypedProgram;
-use std::alloc::Global;
+use std::alloc::{AllocError, Global};
 use std::process::Abort;
 use std::test::Fail;
 use table_faults::EntryFault;
@@ -30,84 +31,98 @@ fn word(width: u8, value: u32) -> Bits
     Bits::new(128, value as u128).cast(width)
 }
 
-/// A program's state, and one of its tables.
+/// A program's tables, one of them, and the action that notes a number.
 #[derive(Drop)]
 struct Rig {
-    program: TypedProgram,
     state: TableState,
     table: u32,
+    action: u32,
+}
+
+/// The number of a table, and of the action that notes a number.
+fn table_and_action(p: &TypedProgram, name: &str) -> Tried<(u32, u32)> {
+    let Some(table) = p.table_number(name) else {
+        return Err(BenchFault::NoSuchTable);
+    };
+    let Some(action) = p.action_number("Ing.note") else {
+        return Err(BenchFault::NoSuchAction);
+    };
+    Ok((table, action))
 }
 
 /// A table with nothing loaded.
-fn rig_of(rt: &impl Abort, alloc: Global, name: &str) -> Result<Rig, Fail> {
-    let program = program_with(rt, alloc, TABLES)?;
-    let Some(table) = program.table_number(name) else {
-        return Err(Fail::new("no such table"));
-    };
+fn rig_of(alloc: Global, name: &str) -> Tried<Rig> {
+    let program = program_with(alloc, TABLES)?;
+    let (table, action) = table_and_action(&program, name)?;
     let state = TableState::new(alloc, &program)?;
     Ok(Rig {
-        program,
         state,
         table,
+        action,
     })
 }
 
-/// An entry that notes a number.
-fn entry(
-    alloc: Global,
-    p: &TypedProgram,
-    asked: &[Match],
-    note: u32,
-    priority: u32,
-) -> Result<Entry, Fail> {
-    let Some(action) = p.action_number("Ing.note") else {
-        return Err(Fail::new("no such action"));
-    };
+/// The arguments that note a number.
+fn args(alloc: Global, note: u32) -> Result<Vec<Bits>, AllocError> {
+    let mut args = Vec::new(alloc);
+    args.push(word(32, note))?;
+    Ok(args)
+}
+
+/// What is asked of keys.
+fn keys(alloc: Global, asked: &[Match]) -> Result<Vec<Match>, AllocError> {
     let mut keys = Vec::new(alloc);
     for key in asked {
         keys.push(*key)?;
     }
-    let mut args = Vec::new(alloc);
-    args.push(word(32, note))?;
-    Ok(Entry {
-        keys,
-        action,
-        args,
-        priority,
-    })
+    Ok(keys)
 }
 
-/// Whether a table takes an entry: it may be refused for another one alone.
-fn takes(state: &mut TableState, table: u32, e: Entry) -> Result<bool, Fail> {
-    if !state.has(table) {
-        return Err(Fail::new("no such table"));
+impl Rig {
+    /// An entry that notes a number.
+    fn entry(
+        &self,
+        alloc: Global,
+        asked: &[Match],
+        note: u32,
+        priority: u32,
+    ) -> Result<Entry, AllocError> {
+        let args = args(alloc, note)?;
+        Ok(Entry {
+            keys: keys(alloc, asked)?,
+            action: self.action,
+            args,
+            priority,
+        })
     }
-    match state.insert(table, e) {
-        Ok(()) => Ok(true),
-        Err(EntryFault::SameEntry | EntryFault::SamePriority) => Ok(false),
-        Err(_) => Err(Fail::new("an entry is refused")),
-    }
-}
 
-/// Why a table refuses an entry.
-fn refusal(alloc: Global, state: &mut TableState, table: u32, e: Entry) -> Result<String, Fail> {
-    if !state.has(table) {
-        return Err(Fail::new("no such table"));
+    /// What the table answers for an entry.
+    fn offer(&mut self, e: Entry) -> Result<(), EntryFault> {
+        if self.state.has(self.table) {
+            self.state.insert(self.table, e)
+        } else {
+            Err(EntryFault::NoSuchAction)
+        }
     }
-    match state.insert(table, e) {
-        Ok(()) => Ok(String::from_str(alloc, "taken")?),
-        Err(fault) => Ok(format!(in alloc; "{fault:?}")?),
-    }
-}
 
-/// What is noted for keys; without an entry it is 0.
-fn noted(state: &TableState, table: u32, keys: &[Bits]) -> Result<u128, Fail> {
-    if !state.has(table) {
-        return Err(Fail::new("no such table"));
+    /// Whether the table takes an entry: it may be refused for another one alone.
+    fn takes(&mut self, e: Entry) -> Tried<bool> {
+        match self.offer(e) {
+            Ok(()) => Ok(true),
+            Err(EntryFault::SameEntry | EntryFault::SamePriority) => Ok(false),
+            Err(_) => Err(BenchFault::Refused),
+        }
     }
-    match state.choose(table, keys).args {
-        [note] => Ok(note.value),
-        _ => Err(Fail::new("another action")),
+
+    /// What is noted for keys; without an entry it is 0.
+    fn noted(&self, keys: &[Bits]) -> Tried<u128> {
+        if !self.state.has(self.table) {
+            return Err(BenchFault::NoSuchTable);
+        }
+        match self.state.choose(self.table, keys).args {
+            [note] => Ok(note.value),
+            _ => Err(BenchFault::NoSuchAction),
+        }
     }
 }
 
@@ -159,17 +174,17 @@ fn key(way: Way, i: u32) -> Bits {
 
 impl Rig {
     /// An entry is taken.
-    fn put(&mut self, alloc: Global, asked: Match, note: u32, priority: u32) -> Result<(), Fail> {
-        let e = entry(alloc, &self.program, &[asked], note, priority)?;
-        if takes(&mut self.state, self.table, e)? {
+    fn put(&mut self, alloc: Global, asked: Match, note: u32, priority: u32) -> Tried<()> {
+        let e = self.entry(alloc, &[asked], note, priority)?;
+        if self.takes(e)? {
             Ok(())
         } else {
-            Err(Fail::new("an entry is there"))
+            Err(BenchFault::Refused)
         }
     }
 
     /// The entries of the numbers below a count are taken.
-    fn fill(&mut self, alloc: Global, way: Way, count: u32) -> Result<(), Fail> {
+    fn fill(&mut self, alloc: Global, way: Way, count: u32) -> Tried<()> {
         for i in 0..count {
             let priority = i.saturating_add(1);
             self.put(alloc, asked(way, i), note_of(way, i), priority)?;
@@ -178,46 +193,36 @@ impl Rig {
     }
 
     /// The keys of the numbers below a count choose their own entries.
-    fn choose_own(&self, rt: &impl Abort, way: Way, count: u32) -> Result<(), Fail> {
+    fn choose_own(&self, rt: &impl Abort, way: Way, count: u32) {
         for i in 0..count {
-            let note = noted(&self.state, self.table, &[key(way, i)])?;
-            assert_eq!(rt; note, i as u128);
+            assert!(rt; self.noted(&[key(way, i)]) == Ok(i as u128), "{i}");
         }
-        Ok(())
     }
 
-    /// A key chooses the entry that notes this number.
-    fn notes(&self, rt: &impl Abort, key: u32, wanted: u128) -> Result<(), Fail> {
-        let note = noted(&self.state, self.table, &[word(32, key)])?;
-        assert_eq!(rt; note, wanted);
-        Ok(())
+    /// Whether a key chooses the entry that notes this number.
+    fn notes(&self, key: u32, wanted: u128) -> bool {
+        self.noted(&[word(32, key)]) == Ok(wanted)
     }
 
-    /// An entry is refused so.
-    fn refuses(
-        &mut self,
-        rt: &impl Abort,
-        alloc: Global,
-        asked: Match,
-        priority: u32,
-        wanted: &str,
-    ) -> Result<(), Fail> {
-        let e = entry(alloc, &self.program, &[asked], 1, priority)?;
-        let answer = refusal(alloc, &mut self.state, self.table, e)?;
-        assert_eq!(rt; answer.as_str(), wanted);
-        Ok(())
+    /// Why an entry is refused.
+    fn refusal(&mut self, alloc: Global, asked: Match, priority: u32) -> Result<(), EntryFault> {
+        let e = self.entry(alloc, &[asked], 1, priority)?;
+        self.offer(e)
     }
 }
 
 #[test]
 fn full_table_of_exact_keys(rt: HostRuntime) -> Result<(), Fail> {
     let alloc = rt.alloc();
-    let mut rig = rig_of(&rt, alloc, "Ing.one")?;
+    let mut rig = rig_of(alloc, "Ing.one")?;
     rig.fill(alloc, Way::Exact, 65_536)?;
-    assert_eq!(rt; rig.state.entries(), 65_536);
-    rig.choose_own(&rt, Way::Exact, 65_536)?;
-    rig.refuses(&rt, alloc, asked(Way::Exact, 65_536), 0, "TableLimit")?;
-    rig.refuses(&rt, alloc, asked(Way::Exact, 7), 0, "SameEntry")
+    assert!(rt; rig.state.entries() == 65_536);
+    rig.choose_own(&rt, Way::Exact, 65_536);
+    let refusal = rig.refusal(alloc, asked(Way::Exact, 65_536), 0);
+    assert!(rt; refusal == Err(EntryFault::TableLimit));
+    let refusal = rig.refusal(alloc, asked(Way::Exact, 7), 0);
+    assert!(rt; refusal == Err(EntryFault::SameEntry));
+    Ok(())
 }
 
 /// What is chosen for keys of which no entry has all first 16 bits.
@@ -229,23 +234,25 @@ fffe0000 15
 ffffffff 15";
 
 /// The keys of that table choose what stands there.
-fn shorter(rt: &impl Abort, rig: &Rig) -> Result<(), Fail> {
+fn shorter(rt: &impl Abort, rig: &Rig) {
     for row in SHORTER.lines() {
         let (key, wanted) = row.split_once(' ').unwrap_or((row, ""));
         let key = u32::from_str_radix(key, 16).unwrap_or(0);
-        rig.notes(rt, key, u128::from_str_radix(wanted, 10).unwrap_or(99))?;
+        let wanted = u128::from_str_radix(wanted, 10).unwrap_or(99);
+        assert!(rt; rig.notes(key, wanted), "{row}");
     }
-    Ok(())
 }
 
 #[test]
 fn full_table_of_prefixes(rt: HostRuntime) -> Result<(), Fail> {
     let alloc = rt.alloc();
-    let mut rig = rig_of(&rt, alloc, "Ing.pre")?;
+    let mut rig = rig_of(alloc, "Ing.pre")?;
     rig.fill(alloc, Way::Prefix, 65_536)?;
-    rig.choose_own(&rt, Way::Prefix, 65_520)?;
-    shorter(&rt, &rig)?;
-    rig.refuses(&rt, alloc, asked(Way::Prefix, 65_535), 0, "SameEntry")
+    rig.choose_own(&rt, Way::Prefix, 65_520);
+    shorter(&rt, &rig);
+    let refusal = rig.refusal(alloc, asked(Way::Prefix, 65_535), 0);
+    assert!(rt; refusal == Err(EntryFault::SameEntry));
+    Ok(())
 }
 
 /// What each key fits.
@@ -256,14 +263,16 @@ fn any() -> Match {
 #[test]
 fn many_masks(rt: HostRuntime) -> Result<(), Fail> {
     let alloc = rt.alloc();
-    let mut rig = rig_of(&rt, alloc, "Ing.tern")?;
+    let mut rig = rig_of(alloc, "Ing.tern")?;
     rig.put(alloc, any(), 9_999, 0)?;
     rig.fill(alloc, Way::Mask, 4_095)?;
-    rig.choose_own(&rt, Way::Mask, 4_095)?;
-    rig.notes(&rt, 0xab_cfff, 9_999)?;
-    rig.refuses(&rt, alloc, any(), 7, "SamePriority")?;
+    rig.choose_own(&rt, Way::Mask, 4_095);
+    assert!(rt; rig.notes(0xab_cfff, 9_999));
+    let refusal = rig.refusal(alloc, any(), 7);
+    assert!(rt; refusal == Err(EntryFault::SamePriority));
     rig.put(alloc, any(), 7_777, 5_000)?;
-    rig.notes(&rt, 5, 7_777)
+    assert!(rt; rig.notes(5, 7_777));
+    Ok(())
 }
 
 /// A generator of numbers: Knuth's linear congruences, the high bits.
@@ -367,22 +376,37 @@ fn some_keys(numbers: &mut Numbers, masks: bool) -> [Bits; 3] {
 }
 
 impl Rig {
-    /// Some keys of three parts choose what a plain walk finds.
-    fn same_choices(
-        &self,
-        rt: &impl Abort,
-        numbers: &mut Numbers,
-        masks: bool,
-    ) -> Result<(), Fail> {
-        for i in 0..500 {
-            let keys = some_keys(numbers, masks);
-            if !self.state.has(self.table) {
-                return Err(Fail::new("no such table"));
-            }
-            let walked = walked(self.state.listed(self.table), &keys);
-            assert_eq!(rt; noted(&self.state, self.table, &keys)?, walked);
+    /// Whether some keys choose what a plain walk finds.
+    fn same_choice(&self, keys: &[Bits]) -> bool {
+        if !self.state.has(self.table) {
+            return false;
         }
-        Ok(())
+        let walked = walked(self.state.listed(self.table), keys);
+        self.noted(keys) == Ok(walked)
+    }
+
+    /// Some keys of three parts choose what a plain walk finds.
+    fn same_choices(&self, rt: &impl Abort, numbers: &mut Numbers, masks: bool) {
+        for i in 0..500 {
+            assert!(rt; self.same_choice(&some_keys(numbers, masks)), "{i}");
+        }
+    }
+
+    /// Whether a random entry that notes a number is taken.
+    fn put_random(
+        &mut self,
+        alloc: Global,
+        numbers: &mut Numbers,
+        note: u32,
+        masks: bool,
+    ) -> Tried<bool> {
+        let asked = if masks {
+            some_masks(numbers)
+        } else {
+            some_prefix(numbers)
+        };
+        let e = self.entry(alloc, &asked, note, numbers.below(100_000))?;
+        self.takes(e)
     }
 
     /// How many of some random entries are taken, of which each notes its number.
@@ -392,17 +416,10 @@ impl Rig {
         numbers: &mut Numbers,
         count: u32,
         masks: bool,
-    ) -> Result<u32, Fail> {
+    ) -> Tried<u32> {
         let mut taken: u32 = 0;
         for i in 0..count {
-            let asked = if masks {
-                some_masks(numbers)
-            } else {
-                some_prefix(numbers)
-            };
-            let priority = numbers.below(100_000);
-            let e = entry(alloc, &self.program, &asked, i.wrapping_add(1), priority)?;
-            if takes(&mut self.state, self.table, e)? {
+            if self.put_random(alloc, numbers, i.wrapping_add(1), masks)? {
                 taken = taken.saturating_add(1);
             }
         }
@@ -411,21 +428,16 @@ impl Rig {
 }
 
 /// A table of random entries.
-fn random_table(
-    rt: &impl Abort,
-    alloc: Global,
-    name: &str,
-    count: u32,
-    masks: bool,
-) -> Result<(), Fail> {
-    let mut rig = rig_of(rt, alloc, name)?;
+fn random_table(rt: &impl Abort, alloc: Global, name: &str, count: u32, masks: bool) -> Tried<()> {
+    let mut rig = rig_of(alloc, name)?;
     let mut numbers = Numbers {
         state: count as u64,
     };
     let taken = rig.fill_random(alloc, &mut numbers, count, masks)?;
     assert!(rt; taken > count / 4);
     assert!(rt; taken == rig.state.entries());
-    rig.same_choices(rt, &mut numbers, masks)
+    rig.same_choices(rt, &mut numbers, masks);
+    Ok(())
 }
 
 #[test]
@@ -434,5 +446,6 @@ fn random_tables(rt: HostRuntime) -> Result<(), Fail> {
     random_table(&rt, alloc, "Ing.parts", 30, false)?;
     random_table(&rt, alloc, "Ing.parts", 300, false)?;
     random_table(&rt, alloc, "Ing.masks", 30, true)?;
-    random_table(&rt, alloc, "Ing.masks", 300, true)
+    random_table(&rt, alloc, "Ing.masks", 300, true)?;
+    Ok(())
 }

@@ -1,10 +1,8 @@
 //! Long frames: the length that the program sees, and the bytes behind the headers.
 
-use crate::bench::bench_of;
-use crate::rows::text_of;
+use machine_bench::{Bench, BenchFault, Tried, bench_of, text_of};
 use p4_machine::Passed;
 use std::alloc::{AllocError, Global};
-use std::process::Abort;
 use std::test::Fail;
 
 /// So many bytes of one kind.
@@ -29,26 +27,35 @@ fn bytes_behind(frame: &[u8]) -> u32 {
     count
 }
 
-/// A frame of so many bytes leaves as long as it came, with these two bytes behind the first one.
-fn right(rt: &impl Abort, alloc: Global, length: u32, high: u8, low: u8) -> Result<(), Fail> {
+/// Whether a frame leaves as long as it came, with these bytes in front.
+fn leaves(bench: &mut Bench, alloc: Global, frame: &[u8], front: &[u8]) -> Tried<bool> {
+    if frame.len() > 65_791 {
+        return Err(BenchFault::NoRoom);
+    }
+    let passed = bench.pass(alloc, 1, frame)?;
+    let out = bench.frame();
+    let behind = bytes_behind(out).saturating_add(3) as usize;
+    let same = out.len() == frame.len() && behind == out.len() && out.starts_with(front);
+    Ok(same && passed == (Passed::Out { port: 2 }))
+}
+
+/// A switch that writes the length behind the first byte.
+fn bench(alloc: Global) -> Tried<Bench> {
     let text = text_of(alloc, "@ingress h.e.y = (bit<16>) std.packet_length;")?;
-    let mut bench = bench_of(rt, alloc, &text, "")?;
-    let frame = long_frame(alloc, length)?;
-    assert!(rt; frame.len() <= 65_791);
-    let passed = bench.pass(alloc, &frame)?;
-    assert!(rt; passed == Passed::Out { port: 2 });
-    let frame = bench.buf.frame();
-    assert!(rt; frame.len() == length as usize);
-    assert!(rt; frame.starts_with(&[0xab, high, low]));
-    assert!(rt; bytes_behind(frame).saturating_add(3) == length);
-    Ok(())
+    bench_of(alloc, &text, "")
+}
+
+/// Whether a frame of so many bytes leaves as long as it came, with these in front.
+fn right(bench: &mut Bench, alloc: Global, length: u32, front: &[u8]) -> Tried<bool> {
+    leaves(bench, alloc, &long_frame(alloc, length)?, front)
 }
 
 #[test]
 fn lengths(rt: HostRuntime) -> Result<(), Fail> {
     let alloc = rt.alloc();
-    right(&rt, alloc, 1_500, 0x05, 0xdc)?;
-    right(&rt, alloc, 65_535, 0xff, 0xff)?;
-    right(&rt, alloc, 65_791, 0x00, 0xff)?;
+    let mut bench = bench(alloc)?;
+    assert!(rt; right(&mut bench, alloc, 1_500, &[0xab, 0x05, 0xdc]) == Ok(true));
+    assert!(rt; right(&mut bench, alloc, 65_535, &[0xab, 0xff, 0xff]) == Ok(true));
+    assert!(rt; right(&mut bench, alloc, 65_791, &[0xab, 0x00, 0xff]) == Ok(true));
     Ok(())
 }

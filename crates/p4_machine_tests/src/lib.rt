@@ -3,8 +3,6 @@
 #![tactic(auto)]
 
 #[cfg(test)]
-mod bench;
-#[cfg(test)]
 mod carried;
 #[cfg(test)]
 mod entries;
@@ -18,5 +16,3 @@ mod prefixes;
 mod rows;
 #[cfg(test)]
 mod sums;
-#[cfg(test)]
-mod support;

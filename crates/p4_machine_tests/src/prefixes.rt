@@ -1,9 +1,10 @@
 //! Forwarding by the longest prefix. The frames that leave were worked by hand: a hop less, and the
 //! header's checksum by RFC 1071.
 
-use crate::bench::answer;
+use machine_bench::{Tried, answer, bytes, split_row};
 use sample_programs::BASIC;
-use std::test::Fail;
+use std::alloc::{AllocError, Global};
+use std::process::Abort;
 
 /// What is loaded, the destination, and what leaves.
 const WAYS: &str = "\
@@ -28,28 +29,48 @@ fn entry(prefix: &str) -> &str {
     }
 }
 
-#[test]
-fn ways(rt: HostRuntime) -> Result<(), Fail> {
-    let alloc = rt.alloc();
-    for line in WAYS.lines() {
-        let Some((prefixes, rest)) = line.split_once(" => ") else {
-            return Err(Fail::new("a row has no destination"));
-        };
-        let Some((destination, wanted)) = rest.split_once(" => ") else {
-            return Err(Fail::new("a row has no answer"));
-        };
-        let mut loaded = String::from_str(alloc, "MyIngress.ipv4_lpm: ")?;
-        for (i, prefix) in prefixes.split(", ").enumerate() {
-            if i > 0 {
-                loaded.push_str("; ")?;
-            }
-            loaded.push_str(entry(prefix))?;
+/// What is loaded for prefixes.
+fn items(alloc: Global, prefixes: &str) -> Result<String, AllocError> {
+    let mut items = String::from_str(alloc, "MyIngress.ipv4_lpm: ")?;
+    for (i, prefix) in prefixes.split(", ").enumerate() {
+        if i > 0 {
+            items.push_str("; ")?;
         }
-        let mut frame = String::from_str(alloc, "02000000000102000000000908004500007300004000")?;
-        frame.push_str("4011b861c0a80001")?;
-        frame.push_str(destination)?;
-        let out = answer(&rt, alloc, BASIC, &loaded, &frame)?;
-        assert_eq!(rt; out.as_str(), wanted, "{line}");
+        items.push_str(entry(prefix))?;
     }
-    Ok(())
+    Ok(items)
+}
+
+/// The digits of a frame for a destination.
+fn frame(alloc: Global, destination: &str) -> Result<String, AllocError> {
+    let mut frame = String::from_str(alloc, "02000000000102000000000908004500007300004000")?;
+    frame.push_str("4011b861c0a80001")?;
+    frame.push_str(destination)?;
+    Ok(frame)
+}
+
+/// What leaves where the prefixes are loaded.
+fn out(alloc: Global, prefixes: &str, destination: &str) -> Tried<String> {
+    let items = items(alloc, prefixes)?;
+    let frame = bytes(alloc, &frame(alloc, destination)?)?;
+    answer(alloc, BASIC, &items, &frame)
+}
+
+/// Whether a line is as it says.
+fn right(alloc: Global, line: &str) -> Tried<bool> {
+    let (prefixes, rest) = split_row(line)?;
+    let (destination, wanted) = split_row(rest)?;
+    Ok(out(alloc, prefixes, destination)?.as_str() == wanted)
+}
+
+/// Each line is as it says.
+fn all_right(rt: &impl Abort, alloc: Global) {
+    for line in WAYS.lines() {
+        assert!(rt; right(alloc, line) == Ok(true), "{line}");
+    }
+}
+
+#[test]
+fn ways(rt: HostRuntime) {
+    all_right(&rt, rt.alloc());
 }

@@ -4,92 +4,43 @@
 //! frame, which comes by port 1; and then what leaves: the port and the frame, or `dropped`, and the
 //! digests, each with its receiver and its values.
 
-use crate::bench::{answer, answer_by_halves};
-use std::alloc::{AllocError, Global};
+use machine_bench::{Tried, answer, answer_by_halves, bytes, piece, split_row, text_of};
+use std::alloc::Global;
 use std::process::Abort;
 use std::test::Fail;
 
-const TYPES: &str = "typedef bit<9> port_t; header e_t { bit<8> x; bit<16> y; } \
-header w_t { bit<48> a; } header n_t { port_t p; bit<7> f; } \
-header o_t { bit<3> a; bit<13> b; bit<4> c; bit<4> d; } \
-struct headers_t { e_t e; w_t w; n_t n; o_t o; } struct meta_t { bit<8> b; bit<16> s; } \
-parser Prs(packet_in p, out headers_t h, inout meta_t m, inout standard_metadata_t std) { ";
-
-const VERIFY: &str = " } control Ver(inout headers_t h, inout meta_t m) { apply { ";
-
-const INGRESS: &str =
-    " } } control Ing(inout headers_t h, inout meta_t m, inout standard_metadata_t std) { ";
-
-const EGRESS: &str =
-    " } } control Egr(inout headers_t h, inout meta_t m, inout standard_metadata_t std) { ";
-
-const COMPUTE: &str = " } } control Com(inout headers_t h, inout meta_t m) { apply { ";
-
-const DEPARSER: &str = " } } control Dep(packet_out p, in headers_t h) { \
-apply { p.emit(h.e); p.emit(h.w); p.emit(h.n); p.emit(h.o); } } ";
-
-const MAIN: &str = " V1Switch(Prs(), Ver(), Ing(), Egr(), Com(), Dep()) main;";
-
-/// The piece of a row behind a word, or else another text.
-fn piece<'a>(row: &'a str, word: &str, other: &'a str) -> &'a str {
-    for piece in row.split('@') {
-        if let Some(text) = piece.strip_prefix(word) {
-            return text;
-        }
-    }
-    other
-}
-
-/// The program of a row.
-pub fn text_of(alloc: Global, row: &str) -> Result<String, AllocError> {
-    let parser = "state start { p.extract(h.e); transition accept; }";
-    let parts = [
-        piece(row, "top ", ""),
-        TYPES,
-        piece(row, "parser ", parser),
-        VERIFY,
-        piece(row, "verify ", ""),
-        INGRESS,
-        piece(row, "in ", ""),
-        "apply { std.egress_spec = 2; ",
-        piece(row, "ingress ", ""),
-        EGRESS,
-        piece(row, "out ", ""),
-        "apply { ",
-        piece(row, "egress ", ""),
-        COMPUTE,
-        piece(row, "compute ", ""),
-        DEPARSER,
-        piece(row, "end ", ""),
-        MAIN,
-    ];
-    let mut text = String::new(alloc);
-    for part in parts {
-        text.push_str(part)?;
-    }
-    Ok(text)
+/// What leaves is what is wanted.
+fn same(rt: &impl Abort, out: &str, wanted: &str, row: &str) {
+    assert_eq!(rt; out, wanted, "{row}");
 }
 
 /// The row's frame is answered as it says, at once and by halves.
-fn right(rt: &impl Abort, alloc: Global, row: &str, frame: &str, wanted: &str) -> Result<(), Fail> {
+fn right(rt: &impl Abort, alloc: Global, row: &str, frame: &str, wanted: &str) -> Tried<()> {
     let text = text_of(alloc, row)?;
-    let loaded = piece(row, "load ", "");
-    let out = answer(rt, alloc, &text, loaded, frame)?;
-    assert_eq!(rt; out.as_str(), wanted, "{row}");
-    let out = answer_by_halves(rt, alloc, &text, loaded, frame)?;
-    assert_eq!(rt; out.as_str(), wanted, "by halves: {row}");
+    let frame = bytes(alloc, frame)?;
+    let items = piece(row, "load ", "");
+    same(rt, &answer(alloc, &text, items, &frame)?, wanted, row);
+    same(
+        rt,
+        &answer_by_halves(alloc, &text, items, &frame)?,
+        wanted,
+        row,
+    );
     Ok(())
+}
+
+/// The same for a line.
+fn line_right(rt: &impl Abort, alloc: Global, line: &str) -> Tried<()> {
+    let (row, rest) = split_row(line)?;
+    let (frame, wanted) = split_row(rest)?;
+    right(rt, alloc, row, frame, wanted)
 }
 
 fn each(rt: &impl Abort, alloc: Global, table: &str) -> Result<(), Fail> {
     for line in table.lines() {
-        let Some((row, rest)) = line.split_once(" => ") else {
-            return Err(Fail::new("a row has no frame"));
-        };
-        let Some((frame, wanted)) = rest.split_once(" => ") else {
-            return Err(Fail::new("a row has no answer"));
-        };
-        right(rt, alloc, row, frame, wanted)?;
+        if let Err(fault) = line_right(rt, alloc, line) {
+            return Err(Fail::new(format_args!("{fault:?}: {line}")));
+        }
     }
     Ok(())
 }

@@ -1,9 +1,10 @@
 //! Checksums of bytes: that of a header of IPv4 with its checksum zero, and with it; and the example of
 //! RFC 1071, section 3.
 
-use crate::support::bytes;
+use machine_bench::{Tried, bytes};
 use p4_values::csum16;
-use std::test::Fail;
+use std::alloc::Global;
+use std::process::Abort;
 
 const SUMS: &str = "\
 450000730000400040110000c0a80001c0a800c7 => b861
@@ -13,16 +14,21 @@ empty => ffff
 ffff => 0000
 0000 => ffff";
 
-#[test]
-fn sums(rt: HostRuntime) -> Result<(), Fail> {
-    let alloc = rt.alloc();
+/// Whether bytes have a sum, both hexadecimal.
+fn right(alloc: Global, digits: &str, wanted: &str) -> Tried<bool> {
+    let sum = csum16(&bytes(alloc, digits)?);
+    Ok(u16::from_str_radix(wanted, 16) == Ok(sum))
+}
+
+/// Each line is as it says.
+fn all_right(rt: &impl Abort, alloc: Global) {
     for line in SUMS.lines() {
-        let Some((digits, wanted)) = line.split_once(" => ") else {
-            return Err(Fail::new("a row has no sum"));
-        };
-        let sum = csum16(&bytes(alloc, digits)?);
-        let sum = format!(in alloc; "{sum:04x}")?;
-        assert_eq!(rt; sum.as_str(), wanted, "{line}");
+        let (digits, wanted) = line.split_once(" => ").unwrap_or(("", ""));
+        assert!(rt; right(alloc, digits, wanted) == Ok(true), "{line}");
     }
-    Ok(())
+}
+
+#[test]
+fn sums(rt: HostRuntime) {
+    all_right(&rt, rt.alloc());
 }
