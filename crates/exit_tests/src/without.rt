@@ -3,6 +3,7 @@
 ghost use Rattle.std.specs.Prelude.{IfOk};
 ghost use Rattle.p4_tree.specs.View.{program_of};
 ghost use Rattle.p4_printer.specs.CanSpell.{CanSpell};
+ghost use Rattle.exit_programs.specs.Names.{HasGivenNames};
 
 use exit_lowering::without_exits;
 use given_names::has_given_names;
@@ -27,14 +28,24 @@ pub fn given(alloc: Global, row: &str) -> Tried<TypedProgram>
 }
 
 /// The program without exits, which can be printed.
+fn without_any(alloc: Global, p: &TypedProgram) -> Result<TypedProgram, AllocError>
+    requires given { HasGivenNames (program_of p.now) }
+    requires spelled { CanSpell (program_of p.now) }
+    ensures { IfOk result (λ q. CanSpell (program_of q)) }
+{
+    without_exits(alloc, p)
+}
+
+/// The same where no name begins with `hydra_`.
 fn lowered(alloc: Global, p: &TypedProgram) -> Tried<TypedProgram>
     requires { CanSpell (program_of p.now) }
     ensures { IfOk result (λ q. CanSpell (program_of q)) }
 {
-    if !has_given_names(p.program()) {
-        return Err(BenchFault::NoProgram);
+    if has_given_names(p.program()) {
+        Ok(without_any(alloc, p)?)
+    } else {
+        Err(BenchFault::NoProgram)
     }
-    Ok(without_exits(alloc, p)?)
 }
 
 /// A program as it is printed.
