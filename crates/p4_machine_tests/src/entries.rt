@@ -96,14 +96,14 @@ fn last_answer(
     table: u32,
     items: &str,
 ) -> Tried<&'static str> {
-    let mut last = "taken";
+    let mut last = Ok(());
     for item in items.split("; ") {
-        if last != "taken" {
+        if last.is_err() {
             return Err(BenchFault::Refused);
         }
-        last = named(offer(alloc, p, state, table, item)?);
+        last = offer(alloc, p, state, table, item)?;
     }
-    Ok(last)
+    Ok(named(last))
 }
 
 /// The same for a line of `OFFERS`: whether it is as it says.
