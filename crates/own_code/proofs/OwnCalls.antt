@@ -11,12 +11,12 @@ use Rattle.p4_meaning.specs.Statements.{no_calls, Go, Run, Ended, in_store}
 use Rattle.p4_meaning.specs.Choice.{Entry, fits_keys, rank_of, higher, choice_of}
 use Rattle.p4_meaning.specs.Actions.{Param, Action, action_named, params_of, args_of, bound, flow_behind, act, act_if}
 use Rattle.p4_meaning.specs.Tables.{Key, Chosen, Table, table_named, has_ternary, Entries, Tables, key_words, test_behind, chosen_runs, apply_if, calls_in}
-use Rattle.linked_halves.specs.Regions.{is_mine}
-use Rattle.linked_halves.specs.Forwarding.{IsOwnExpr, IsOwnAction, IsOwnTable}
-use Rattle.linked_halves.specs.Relations.{Alike}
-use Rattle.linked_halves.specs.OwnCode.{Ran, RanTest, AreAlikeCalls, HoldSame, HasOwn, IsSameAction, RunsSame}
-use Rattle.linked_halves.proofs.Apart.{single_writable, single_spec}
-use Rattle.linked_halves.proofs.Own.{stays_same, stays_then, ran_same, value_alike, set_alike, set_stays, keeps_other, no_calls_alike, all_ran}
+use Rattle.own_code.specs.Regions.{is_mine}
+use Rattle.own_code.specs.Forwarding.{IsOwnExpr, IsOwnAction, IsOwnTable}
+use Rattle.own_code.specs.Relations.{Alike}
+use Rattle.own_code.specs.OwnCode.{Ran, RanTest, AreAlikeCalls, HoldSame, HasOwn, IsSameAction, RunsSame}
+use Rattle.own_code.proofs.Apart.{single_writable, single_spec}
+use Rattle.own_code.proofs.Own.{stays_same, stays_then, ran_same, value_alike, set_alike, set_stays, keeps_other, no_calls_alike, all_ran}
 
 -- an own parameter has the same word in both
 param_ran : (a b : Run) (x : List ℕ) (w : Word) → is_mine x ≡ false → Alike a b → Ran b (in_store a (set_value a.store (x ∷ []) w), Go) (in_store b (set_value b.store (x ∷ []) w), Go)

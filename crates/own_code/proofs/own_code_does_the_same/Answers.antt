@@ -1,7 +1,7 @@
 use Rattle.p4_meaning.specs.Statements.{application}
-use Rattle.linked_halves.proofs.Own.{act_ran, tested_ran, all_ran}
-use Rattle.linked_halves.proofs.OwnCalls.{calls_alike, more_alike}
-use Rattle.linked_halves.proofs.own_code_does_the_same.Goals as goal
+use Rattle.own_code.proofs.Own.{act_ran, tested_ran, all_ran}
+use Rattle.own_code.proofs.OwnCalls.{calls_alike, more_alike}
+use Rattle.own_code.proofs.own_code_does_the_same.Goals as goal
 
 pub returns-clause-statements : goal.returns-clause-statements
 returns-clause-statements c = λ e d same ss a b own alike. all_ran e d same ss a b own alike

@@ -1,21 +1,21 @@
--- Which forwarding programs are linked: they use no name of the monitor's, do not read the packet's length, write of
--- the standard metadata at most `egress_spec` and `checksum_error`, and tell no reports. `return` and `exit` are taken
--- out of them before, of actions too. Read `Regions` before.
-use Rattle.std.specs.Prelude.{◌≡◌, ℕ, List, [], ◌∷◌, Bool, true, false, Option, Some, None, nat_eq}
+-- Which forwarding programs are linked: they use no name of the monitor's, write of the standard metadata at most
+-- `egress_spec` and `checksum_error`, and tell no reports. `return` and `exit` are taken out of them before, of actions
+-- too. Read `Regions` before.
+use Rattle.std.specs.Prelude.{◌≡◌, codes, ℕ, List, [], ◌∷◌, Bool, true, false, Option, Some, None, nat_eq}
 use Rattle.std.specs.List.{AllByRecursion}
 use Rattle.p4_tree.specs.Tree.{Expr, num, flag, path, valid, applied, error_name, negation, inversion, opposite, binary, conditional, slice, cast, Arg, one, Stmt, Stmts, MaybeStmt, nothing, block, var, assign, choice, return_, exit_, call, done, next, without, otherwise, Keyset, any, only, masked, Case, Transition, nowhere, to, select, ParserState}
 use Rattle.p4_meaning.specs.Statements.{Act, makes, drops, reads, writes, tells, sums, runs, applies, idle, act_of, application}
-use Rattle.p4_meaning.specs.Actions.{Action}
+use Rattle.p4_meaning.specs.Actions.{Action, action_named}
 use Rattle.p4_meaning.specs.Tables.{Table}
 use Rattle.p4_meaning.specs.Parts.{Parts, Body}
 use Rattle.linkage.specs.Linkage.{report_receiver}
-use Rattle.linked_halves.specs.Regions.{is_mine, is_free, is_readable, is_writable, is_own_header}
+use Rattle.own_code.specs.Regions.{is_mine, is_free, is_writable, is_own_header}
 
 -- an expression reads own paths
 abbrev pub IsOwnExpr : Expr → Type 0
 IsOwnExpr (num p n) = Unit {0}
 IsOwnExpr (flag p b) = Unit {0}
-IsOwnExpr (path p names) = is_readable names ≡ true
+IsOwnExpr (path p names) = is_free names ≡ true
 IsOwnExpr (valid p header) = is_free header ≡ true
 IsOwnExpr (applied p t b) = Unit {0}
 IsOwnExpr (error_name p x) = Unit {0}
@@ -36,10 +36,10 @@ IsOwnStart (Some e) = IsOwnExpr e
 abbrev pub IsOwnAct : Act → Type 0
 IsOwnAct (makes h b) = is_own_header h ≡ true
 IsOwnAct drops = Unit {0}
-IsOwnAct (reads x t i) = (is_mine x ≡ false) × (is_readable t ≡ true) × (is_writable t ≡ true) × IsOwnExpr i
+IsOwnAct (reads x t i) = (is_mine x ≡ false) × (is_free t ≡ true) × (is_writable t ≡ true) × IsOwnExpr i
 IsOwnAct (writes x i v) = (is_mine x ≡ false) × IsOwnExpr i × IsOwnExpr v
 IsOwnAct (tells n es) = (nat_eq n report_receiver ≡ false) × AllByRecursion IsOwnExpr es
-IsOwnAct (sums verifies c es field) = IsOwnExpr c × AllByRecursion IsOwnExpr es × (is_readable field ≡ true) × (is_writable field ≡ true)
+IsOwnAct (sums verifies c es field) = IsOwnExpr c × AllByRecursion IsOwnExpr es × (is_free field ≡ true) × (is_writable field ≡ true)
 IsOwnAct (runs x es) = (is_mine x ≡ false) × AllByRecursion IsOwnExpr es
 IsOwnAct (applies x) = is_mine x ≡ false
 IsOwnAct idle = Unit {0}
@@ -58,7 +58,7 @@ abbrev mutual
   IsOwnStmt (nothing p) = Unit {0}
   IsOwnStmt (block p ss) = AreOwnStmts ss
   IsOwnStmt (var p ty x e) = (is_mine x ≡ false) × IsOwnStart e
-  IsOwnStmt (assign p target e) = (is_readable target ≡ true) × (is_writable target ≡ true) × IsOwnExpr e
+  IsOwnStmt (assign p target e) = (is_free target ≡ true) × (is_writable target ≡ true) × IsOwnExpr e
   IsOwnStmt (choice p e a b) = IsOwnTest e × IsOwnStmt a × IsOwnElse b
   IsOwnStmt (return_ p) = ⊥
   IsOwnStmt (exit_ p) = ⊥
@@ -72,13 +72,19 @@ abbrev mutual
   AreOwnStmts done = Unit {0}
   AreOwnStmts (next s ss) = IsOwnStmt s × AreOwnStmts ss
 
+-- statements that set variables, and do nothing else
+abbrev pub AreVars : Stmts → Type 0
+AreVars done = Unit {0}
+AreVars (next (var p ty x e) ss) = AreVars ss
+AreVars _ = ⊥
+
 -- a statement of a parser's state extracts own headers, or assigns to own paths
 abbrev pub IsOwnExtract : List Arg → Type 0
 IsOwnExtract (one p (path q names) ∷ []) = is_own_header names ≡ true
 IsOwnExtract _ = Unit {0}
 
 abbrev pub IsOwnParse : Stmt → Type 0
-IsOwnParse (assign p target e) = (is_readable target ≡ true) × (is_writable target ≡ true) × IsOwnExpr e
+IsOwnParse (assign p target e) = (is_free target ≡ true) × (is_writable target ≡ true) × IsOwnExpr e
 IsOwnParse (call p callee args) = IsOwnExtract args
 IsOwnParse _ = Unit {0}
 
@@ -123,9 +129,13 @@ pub record IsForwarding (f : Parts) : Type 0 where
   pub metadata : AllByRecursion (λ m. is_mine m.name ≡ false) f.metadata
   pub states : AllByRecursion IsOwnState f.states
   pub actions : AllByRecursion IsOwnAction f.actions
+  -- none is called `NoAction`, which does nothing
+  pub no_action : action_named f.actions (codes "NoAction") ≡ None
   pub tables : AllByRecursion IsOwnTable f.tables
   pub verify : AreOwnStmts f.verify
   pub ingress : IsOwnBody f.ingress
+  -- what ingress runs before its body sets its variables alone
+  pub ingress_vars : AreVars f.ingress.locals
   pub egress : IsOwnBody f.egress
   pub compute : AreOwnStmts f.compute
   pub emits : AllByRecursion (λ p. is_own_header p ≡ true) f.emits

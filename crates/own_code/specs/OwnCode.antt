@@ -5,9 +5,9 @@ use Rattle.p4_tree.specs.Tree.{Expr}
 use Rattle.p4_meaning.specs.Statements.{Go, Run, Ended, runs, Tested, Calls}
 use Rattle.p4_meaning.specs.Actions.{Action, action_named}
 use Rattle.p4_meaning.specs.Tables.{Table, table_named, Entries, Tables}
-use Rattle.linked_halves.specs.Regions.{is_mine}
-use Rattle.linked_halves.specs.Forwarding.{IsOwnAct}
-use Rattle.linked_halves.specs.Relations.{Alike, Stays}
+use Rattle.own_code.specs.Regions.{is_mine}
+use Rattle.own_code.specs.Forwarding.{IsOwnAct}
+use Rattle.own_code.specs.Relations.{Alike, Stays}
 
 -- two ends are alike, both go on, and nothing of the monitor's in the run b has changed
 pub record Ran (b : Run) (x y : Ended) : Type 0 where
@@ -46,3 +46,8 @@ pub record HasOwn (actions actions' : List Action) (tables tables' : List Table)
 pub record RunsSame (actions actions' : List Action) (n : Entries) : Type 0 where
   pub listed : AllByRecursion (λ e. IsSameAction actions actions' e.action) n.listed
   pub default : IsSameAction actions actions' n.default.action
+
+-- the entries of a table and its default run no action of the monitor's
+pub record AreOwnEntries (n : Entries) : Type 0 where
+  pub listed : AllByRecursion (λ e. is_mine e.action ≡ false) n.listed
+  pub default : is_mine n.default.action ≡ false

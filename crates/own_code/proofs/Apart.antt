@@ -2,9 +2,8 @@
 use Rattle.std.proofs.Common.{◌≡◌, ℕ, List, [], ◌∷◌, ◌++◌, Bool, true, false, not, ◌&&◌, refl, ap, ◌∙◌, subst, Decides}
 use Rattle.std.proofs.lemmas.Slice.Eq.{slice_eq-Decides, bytes_eq-Decides}
 use Rattle.lex_text.specs.Names.{same_text, same_path, parent}
-use Rattle.p4_meaning.specs.Standard.{headers_root, standard_root, metadata_root, egress_spec, packet_length}
-use Rattle.linked_halves.specs.Monitor.{tele_header}
-use Rattle.linked_halves.specs.Regions.{is_mine, is_free, is_readable, is_writable, is_own_header}
+use Rattle.p4_meaning.specs.Standard.{headers_root, standard_root, metadata_root, egress_spec}
+use Rattle.own_code.specs.Regions.{is_mine, is_free, is_writable, is_own_header}
 
 pub path_decides : (p q : List (List ℕ)) → Decides (same_path p q) (p ≡ q)
 path_decides p q = slice_eq-Decides bytes_eq-Decides p q (same_path p q) refl
@@ -35,9 +34,6 @@ pub both_right : (a b : Bool) → (a && b) ≡ true → b ≡ true
 both_right true b h = h
 both_right false b h = absurd (cc)
 
-pub readable_free : (p : List (List ℕ)) → is_readable p ≡ true → is_free p ≡ true
-readable_free p h = both_left (is_free p) (not (same_path packet_length p)) h
-
 -- a free path is none of the monitor's, whose path is given
 pub free_apart : (p q : List (List ℕ)) → is_free p ≡ false → is_free q ≡ true → same_path p q ≡ false
 free_apart p q o i = apart (λ q. not (is_free q)) p q (ap not o) (ap not i)
@@ -49,10 +45,6 @@ free_parent (x ∷ []) h = refl
 free_parent (x ∷ y ∷ []) h = both_left (not (is_mine x)) (not (is_mine y)) h
 free_parent (x ∷ y ∷ z ∷ []) h = h
 free_parent (x ∷ y ∷ z ∷ w ∷ rest) h = h
-
--- and is not the telemetry header
-pub free_above : (q : List (List ℕ)) → is_free q ≡ true → same_path tele_header (parent q) ≡ false
-free_above q h = free_apart tele_header (parent q) refl (free_parent q h)
 
 and_none : (b : Bool) → (b && false) ≡ false
 and_none true = refl
@@ -99,10 +91,10 @@ field_writable (x ∷ []) n e = absurd (cc)
 field_writable (x ∷ y ∷ []) n e = subst (λ x. is_writable (x ∷ y ∷ n ∷ []) ≡ true) (own_root x y e) (ap (λ b. b && true) (own_rest x y e))
 field_writable (x ∷ y ∷ z ∷ rest) n e = absurd (cc)
 
-pub field_readable : (h : List (List ℕ)) (n : List ℕ) → is_own_header h ≡ true → is_readable (h ++ n ∷ []) ≡ true
+pub field_readable : (h : List (List ℕ)) (n : List ℕ) → is_own_header h ≡ true → is_free (h ++ n ∷ []) ≡ true
 field_readable [] n e = absurd (cc)
 field_readable (x ∷ []) n e = absurd (cc)
-field_readable (x ∷ y ∷ []) n e = subst (λ x. is_readable (x ∷ y ∷ n ∷ []) ≡ true) (own_root x y e) (ap (λ b. b && true) (own_rest x y e))
+field_readable (x ∷ y ∷ []) n e = subst (λ x. is_free (x ∷ y ∷ n ∷ []) ≡ true) (own_root x y e) (own_rest x y e)
 field_readable (x ∷ y ∷ z ∷ rest) n e = absurd (cc)
 
 pub field_spec : (h : List (List ℕ)) (n : List ℕ) → is_own_header h ≡ true → same_path (h ++ n ∷ []) egress_spec ≡ false

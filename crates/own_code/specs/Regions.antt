@@ -1,8 +1,8 @@
--- Which names are the monitor's: those that begin with `hydra_`. What the forwarding program's own code may
--- read and write is told by regions of paths.
+-- Which names are the monitor's: those that begin with `hydra_`, but for those that begin with `hydra_x_`, which take exits
+-- out of a program. What the forwarding program's own code may read and write is told by regions of paths.
 use Rattle.std.specs.Prelude.{codes, ℕ, List, [], ◌∷◌, Bool, true, false, ◌&&◌, ◌||◌, nat_eq, not, if◌then◌else◌}
-use Rattle.lex_text.specs.Names.{same_text, same_path}
-use Rattle.p4_meaning.specs.Standard.{headers_root, standard_root, packet_length}
+use Rattle.lex_text.specs.Names.{same_text}
+use Rattle.p4_meaning.specs.Standard.{headers_root, standard_root}
 
 -- a text begins with another
 abbrev pub begins : List ℕ → List ℕ → Bool
@@ -12,17 +12,13 @@ begins (a ∷ as') (b ∷ bs) = nat_eq a b && begins as' bs
 
 -- the name is the monitor's
 abbrev pub is_mine : List ℕ → Bool
-is_mine x = begins (codes "hydra_") x
+is_mine x = begins (codes "hydra_") x && not (begins (codes "hydra_x_") x)
 
--- the path is not one of the monitor's, which its first two names tell
+-- the path is not one of the monitor's, which its first two names tell. Own code may read it
 abbrev pub is_free : List (List ℕ) → Bool
 is_free [] = true
 is_free (x ∷ []) = not (is_mine x)
 is_free (x ∷ y ∷ rest) = not (is_mine x) && not (is_mine y)
-
--- own code may read it. The length of the packet is another in the linked network
-abbrev pub is_readable : List (List ℕ) → Bool
-is_readable p = is_free p && not (same_path packet_length p)
 
 -- own code may write it: of the standard metadata `egress_spec`, and the error of a checksum
 abbrev pub is_writable : List (List ℕ) → Bool
