@@ -1,14 +1,9 @@
 -- Which names are the monitor's: those that begin with `hydra_`, but for those that begin with `hydra_x_`, which take exits
 -- out of a program. What the forwarding program's own code may read and write is told by regions of paths.
-use Rattle.std.specs.Prelude.{codes, ℕ, List, [], ◌∷◌, Bool, true, false, ◌&&◌, ◌||◌, nat_eq, not, if◌then◌else◌}
+use Rattle.std.specs.Prelude.{codes, ℕ, List, [], ◌∷◌, Bool, true, false, ◌&&◌, ◌||◌, not, if◌then◌else◌}
 use Rattle.lex_text.specs.Names.{same_text}
+use Rattle.lex_text.specs.Comments.{begins}
 use Rattle.p4_meaning.specs.Standard.{headers_root, standard_root}
-
--- a text begins with another
-abbrev pub begins : List ℕ → List ℕ → Bool
-begins [] x = true
-begins (a ∷ as') [] = false
-begins (a ∷ as') (b ∷ bs) = nat_eq a b && begins as' bs
 
 -- the name is the monitor's
 abbrev pub is_mine : List ℕ → Bool
