@@ -6,7 +6,7 @@
 -- linkage asks for.
 use Rattle.std.proofs.Common.{◌≡◌, ℕ, ◌+◌, ◌<◌, ◌≤◌, List, length, Bool, true, Option, None}
 use Rattle.std.specs.List.{AllByRecursion}
-use Rattle.network_run.specs.Network.{Wiring, at_edge, Place, Flying, Waiting, Over, Net}
+use Rattle.network_run.specs.Network.{Wiring, at_edge, Place, Flying, Waiting, Over, Net, port_count}
 use Rattle.network_run.specs.NetworkRun.{Limits, longest_frame}
 use Rattle.network_run.specs.PathMeaning.{Property, Path}
 use Rattle.network_run.specs.RunLaws.{IsOver}
@@ -18,7 +18,7 @@ module _ {S Q S' Q' C T Z : Type 0} (net : Wiring) (p : Property T Z C) (telemet
   -- a packet that is in flight in both networks: t are its tele values and v the verdict on it
   pub record SameFlight (t : T) (v : Option Bool) (s port : ℕ) (f : List ℕ) (n s' port' : ℕ) (f' : List ℕ) (n' : ℕ) : Type 0 where
     pub known : s < net.switches
-    pub low : port < net.ports
+    pub low : port < port_count
     pub fit : Fit t
     pub switch : s' ≡ s
     pub by : port' ≡ port

@@ -2,7 +2,7 @@
 -- laws the linkage follows over every schedule. Read `Linkage` before it.
 use Rattle.std.specs.Prelude.{◌≡◌, ℕ, ◌+◌, ◌<◌, ◌≤◌, List, [], ◌++◌, length, map, filter, Bool, true, false, not, Option, Some, None}
 use Rattle.network_run.specs.Machine.{Digest, Entered, Going, Leaving, Machine}
-use Rattle.network_run.specs.Network.{Wiring, at_edge, one_if}
+use Rattle.network_run.specs.Network.{Wiring, at_edge, one_if, port_count}
 use Rattle.network_run.specs.NetworkRun.{put, longest_frame}
 use Rattle.network_run.specs.PathMeaning.{Report, Doing, Property, reads_at, entry_part, exit_part}
 use Rattle.linkage.specs.Linkage.{Telemetry, RegisterReading, SameRegisters, MonitorRegisters, is_report, report_digest}
@@ -94,7 +94,7 @@ module _
           -- values are at their start
           pub enters :
               (s port k : ℕ) (a : S) (b : S') (z : Z) (c : ℕ → C) (t : T) (frame : List ℕ) →
-              s < net.switches → port < net.ports → Kept s a z c k b → IsFitTele t →
+              s < net.switches → port < port_count → Kept s a z c k b → IsFitTele t →
               (at_edge net s port ≡ true → t ≡ p.tele) → length frame ≤ longest_frame →
               EnterAgrees s (at_edge net s port) c k
               (entry_part p

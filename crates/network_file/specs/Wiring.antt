@@ -1,11 +1,11 @@
 -- A network as the network's run sees it, and the links at a port. Read `Network` before it.
-use Rattle.std.specs.Prelude.{◌≡◌, ◌⊎◌, ℕ, ◌+◌, length, All}
+use Rattle.std.specs.Prelude.{◌≡◌, ◌⊎◌, ℕ, length, All}
 use Rattle.network_run.specs.Network.{Link, Wiring}
-use Rattle.network_file.specs.Network.{Network, last_port}
+use Rattle.network_file.specs.Network.{Network}
 
--- the same switches and links; each switch has ports 0 to 510
+-- the same switches and links
 abbrev pub wiring_of : Network → Wiring
-wiring_of n = record { switches = length n.names; ports = last_port + 1; links = n.links }
+wiring_of n = record { switches = length n.names; links = n.links }
 
 -- one end of the link is this port of this switch
 abbrev pub IsAt : (switch port : ℕ) → Link → Type 0

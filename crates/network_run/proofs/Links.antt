@@ -2,14 +2,14 @@
 use Rattle.std.proofs.Common.{◌≡◌, ℕ, ◌<◌, List, [], ◌∷◌, Bool, true, false, ◌&&◌, Option, Some, refl, subst}
 use Rattle.std.specs.Prelude.{◌==◌, if◌then◌else◌, is_none, All}
 use Rattle.std.proofs.lemmas.List.Elements.{All-head, All-tail}
-use Rattle.network_run.specs.Network.{Link, Wiring, far_end_among, far_end, IsLinkOf, IsWiring}
+use Rattle.network_run.specs.Network.{Link, Wiring, far_end_among, far_end, IsLinkOf, IsWiring, port_count}
 use Rattle.network_run.proofs.Numbers.{nat_eq_self}
 
 -- what is known of the far end of a link
 pub record FarEnd (net : Wiring) (links : List Link) (far : ℕ × ℕ) : Type 0 where
   pub linked : is_none (far_end_among links far.0 far.1) ≡ false
   pub known : far.0 < net.switches
-  pub low : far.1 < net.ports
+  pub low : far.1 < port_count
 
 either_some : (b c : Bool) (X Y : ℕ × ℕ) (F : Option (ℕ × ℕ)) → is_none F ≡ false → is_none (if b then Some X else (if c then Some Y else F)) ≡ false
 either_some true c X Y F h = refl

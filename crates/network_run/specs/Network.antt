@@ -11,11 +11,13 @@ pub record Link : Type 0 where
   pub other : ℕ
   pub other_port : ℕ
 
--- the wiring of a network: how many switches there are, how many ports a switch has, and the links.
--- Switches and ports are numbers from 0 on
+-- each switch has so many ports, numbered from 0 on: 511 as a port drops a packet
+abbrev pub port_count : ℕ
+port_count = 511
+
+-- the wiring of a network: how many switches there are, numbered from 0 on, and the links
 pub record Wiring : Type 0 where
   pub switches : ℕ
-  pub ports : ℕ
   pub links : List Link
 
 -- the far end of a port among links, a switch and a port; a port without a link has none, and of two
@@ -41,9 +43,9 @@ at_edge net switch port = is_none (far_end net switch port)
 -- the link's ends are ports of switches of the network
 pub record IsLinkOf (net : Wiring) (l : Link) : Type 0 where
   pub one : l.one < net.switches
-  pub one_port : l.one_port < net.ports
+  pub one_port : l.one_port < port_count
   pub other : l.other < net.switches
-  pub other_port : l.other_port < net.ports
+  pub other_port : l.other_port < port_count
 
 -- each link joins ports of switches of the network
 abbrev pub IsWiring : Wiring → Type 0

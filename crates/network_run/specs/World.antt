@@ -2,7 +2,7 @@
 -- it. Read `PathMeaning` before it and `linkage`'s `Linkage` after it.
 use Rattle.std.specs.Prelude.{◌≡◌, ℕ, ◌+◌, ◌<◌, ◌≤◌, List, [], ◌++◌, length, take, true, slice_get, Option, Some, None, All}
 use Rattle.network_run.specs.Machine.{Machine}
-use Rattle.network_run.specs.Network.{Wiring, at_edge, Place, Flying, Over, Net}
+use Rattle.network_run.specs.Network.{Wiring, at_edge, Place, Flying, Over, Net, port_count}
 use Rattle.network_run.specs.Events.{Event, Enter, Leave, Set, closing}
 use Rattle.network_run.specs.NetworkRun.{Limits, longest_frame, run_of_halves}
 
@@ -24,7 +24,7 @@ pub record World (E C : Type 0) : Type 0 where
 -- the packet comes to an edge port of the network, with a frame of at most 65,535 bytes
 pub record IsArrival (net : Wiring) (a : Arrival) : Type 0 where
   pub switch : a.switch < net.switches
-  pub port : a.port < net.ports
+  pub port : a.port < port_count
   pub edge : at_edge net a.switch a.port ≡ true
   pub short : length a.frame ≤ longest_frame
 

@@ -15,16 +15,16 @@ cable one other port = record { one = one; one_port = 2; other = other; other_po
 -- one switch without links; switches in a line, each linked by its port 2 to port 1 of the next;
 -- two switches in a ring
 abbrev pub alone : Wiring
-alone = record { switches = 1; ports = 511; links = [] }
+alone = record { switches = 1; links = [] }
 
 abbrev pub line2 : Wiring
-line2 = record { switches = 2; ports = 511; links = cable 0 1 1 ∷ [] }
+line2 = record { switches = 2; links = cable 0 1 1 ∷ [] }
 
 abbrev pub line3 : Wiring
-line3 = record { switches = 3; ports = 511; links = cable 0 1 1 ∷ cable 1 2 1 ∷ [] }
+line3 = record { switches = 3; links = cable 0 1 1 ∷ cable 1 2 1 ∷ [] }
 
 abbrev pub ring2 : Wiring
-ring2 = record { switches = 2; ports = 511; links = cable 0 1 1 ∷ cable 1 0 3 ∷ [] }
+ring2 = record { switches = 2; links = cable 0 1 1 ∷ cable 1 0 3 ∷ [] }
 
 -- packets that come to port 1 of switch 0, one for each frame. Each control variable contains 5
 abbrev pub arrivals : List (List ℕ) → List Arrival

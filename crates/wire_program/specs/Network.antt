@@ -7,6 +7,5 @@ abbrev pub wire_line : Wiring
 wire_line =
     record {
       switches = 3;
-      ports = 512;
       links = record { one = 0; one_port = 2; other = 1; other_port = 1 } ∷ record { one = 1; one_port = 2; other = 2; other_port = 1 } ∷ [];
     }
