@@ -12,7 +12,7 @@ use Rattle.network_run.specs.Network.{Sent, Net}
 use Rattle.network_run.specs.NetworkRun.{Limits}
 use Rattle.network_run.specs.World.{first_place, first_net, limits_of, steps}
 use Rattle.network_file.specs.Wiring.{wiring_of}
-use Rattle.path_runner.specs.Programs.{Programs, machine_of}
+use Rattle.switch_machines.specs.Programs.{Programs, machine_of}
 use Rattle.path_runner.specs.Conditions.{most_packets}
 use Rattle.path_runner.specs.Nets.{Switch, State, Shows, RunsTo, Starts, AreKept, IsSame, run_in}
 use Rattle.path_runner.proofs.Running.{runs_then}

@@ -9,7 +9,7 @@ use Rattle.indus_tree.specs.State.{Contents, members}
 use Rattle.network_run.specs.Network.{Net}
 use Rattle.network_run.specs.World.{World, net_at_end}
 use Rattle.network_file.specs.Wiring.{wiring_of}
-use Rattle.path_runner.specs.Programs.{Programs, machine_of}
+use Rattle.switch_machines.specs.Programs.{Programs, machine_of}
 use Rattle.forward_run.specs.Job.{Job}
 
 -- the program at every switch. There is no property, so nothing is read for one

@@ -11,7 +11,7 @@ use Rattle.network_run.specs.NetworkRun.{Limits}
 use Rattle.network_run.specs.RunLaws.{IsOver, HasPassedFewer}
 use Rattle.network_run.proofs.Ends.{all_end}
 use Rattle.network_file.specs.Wiring.{wiring_of}
-use Rattle.path_runner.specs.Programs.{Programs, machine_of}
+use Rattle.switch_machines.specs.Programs.{Programs, machine_of}
 use Rattle.path_runner.specs.Nets.{Switch, State, Traffic, Shows, RunsTo, IsSame, run_in}
 use Rattle.path_runner.specs.Sound.{is_within}
 use Rattle.path_runner.proofs.Lists.{passes_at}

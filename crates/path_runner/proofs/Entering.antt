@@ -7,13 +7,13 @@ use Rattle.p4_meaning.specs.Pass.{Kept, Queued, parts_enter}
 use Rattle.p4_meaning.specs.Store.{Store}
 use Rattle.indus_tree.specs.State.{Contents}
 use Rattle.bit_values.specs.Bits.{Word}
-use Rattle.linked_halves.specs.Networks.{network_digest}
+use Rattle.switch_machines.specs.Programs.{network_digest}
 use Rattle.network_run.specs.Machine.{Entered}
 use Rattle.network_run.specs.Network.{Place, Flying, Over, Net, Told}
 use Rattle.network_run.specs.Events.{Enter}
 use Rattle.network_run.specs.NetworkRun.{told_by, queued_or_over, dropped_if_none, entered, enters}
 use Rattle.network_file.specs.Wiring.{wiring_of}
-use Rattle.path_runner.specs.Programs.{Programs, machine_of, entered_of}
+use Rattle.switch_machines.specs.Programs.{Programs, machine_of, entered_of}
 use Rattle.path_runner.specs.Nets.{Switch, kept_of, State, Traffic, Shows, RunsTo}
 use Rattle.path_runner.specs.Switches.{entry_at, with_cells}
 use Rattle.path_runner.proofs.Lists.{put_item}

@@ -9,13 +9,13 @@ use Rattle.p4_meaning.specs.Store.{Store}
 use Rattle.indus_tree.specs.State.{Contents}
 use Rattle.bit_values.specs.Bits.{Word}
 use Rattle.p4_machine.specs.Buffers.{is_some_packet}
-use Rattle.linked_halves.specs.Networks.{network_digest}
+use Rattle.switch_machines.specs.Programs.{network_digest}
 use Rattle.network_run.specs.Machine.{Leaving}
 use Rattle.network_run.specs.Network.{Place, Waiting, Over, Net, Sent, Told, far_end, Half}
 use Rattle.network_run.specs.Events.{Leave}
 use Rattle.network_run.specs.NetworkRun.{queued_or_over, put, told_by, left, went, leaves, exit_half}
 use Rattle.network_file.specs.Wiring.{wiring_of}
-use Rattle.path_runner.specs.Programs.{Programs, machine_of, leaving_of, going_of}
+use Rattle.switch_machines.specs.Programs.{Programs, machine_of, leaving_of, going_of}
 use Rattle.path_runner.specs.Nets.{Switch, kept_of, State, Traffic, Shows, RunsTo}
 use Rattle.path_runner.specs.Switches.{exit_at, with_cells}
 use Rattle.path_runner.specs.Departures.{Departure, sent_departure, out_departure, left_departure}

@@ -6,7 +6,7 @@ use Rattle.network_run.specs.Network.{Net}
 use Rattle.network_run.specs.Events.{Event, Enter, Leave, to_its_end}
 use Rattle.network_run.proofs.Ends.{run_append}
 use Rattle.network_file.specs.Wiring.{wiring_of}
-use Rattle.path_runner.specs.Programs.{Programs, machine_of}
+use Rattle.switch_machines.specs.Programs.{Programs, machine_of}
 use Rattle.path_runner.specs.Nets.{State, Shows, RunsTo, AreKept, IsSame, run_in}
 
 pub kept_then : (s t u : State) → AreKept s t → AreKept t u → AreKept s u

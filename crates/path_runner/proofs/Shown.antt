@@ -12,7 +12,7 @@ use Rattle.network_run.specs.Network.{Place, Flying, Over, Sent, Net}
 use Rattle.network_run.specs.NetworkRun.{longest_frame, put, frame_of, dropped, lost_if, sent}
 use Rattle.network_run.proofs.Numbers.{put_cases, put_same}
 use Rattle.network_file.specs.Wiring.{wiring_of}
-use Rattle.path_runner.specs.Programs.{Programs}
+use Rattle.switch_machines.specs.Programs.{Programs}
 use Rattle.path_runner.specs.Nets.{Switch, kept_of, Traffic, State, AreSwitches, Shows}
 use Rattle.path_runner.specs.Switches.{with_cells}
 use Rattle.path_runner.specs.Departures.{lost_in, sent_departure}

@@ -3,7 +3,7 @@ use Rattle.std.proofs.Common.{◌≡◌, ◌<◌, ◌+◌, ℕ, List, [], ◌∷
 use Rattle.std.proofs.lemmas.List.{map_more, map-append}
 use Rattle.p4_statements.specs.Runs.{digest_of}
 use Rattle.p4_statements.specs.declared.run.Digest.{Digest}
-use Rattle.linked_halves.specs.Networks.{network_digest}
+use Rattle.switch_machines.specs.Programs.{network_digest}
 use Rattle.network_run.specs.Network.{Told}
 use Rattle.network_run.specs.NetworkRun.{told_by}
 

@@ -2,7 +2,7 @@
 use Rattle.std.specs.Prelude.{ℕ, ◌+◌, List, [], ◌∷◌, ◌++◌, length, map, ◌||◌, nat_lt, nat_le, if◌then◌else◌, Option, Some, None}
 use Rattle.p4_meaning.specs.Pass.{Queued}
 use Rattle.p4_machine.specs.Passages.{Passage}
-use Rattle.linked_halves.specs.Networks.{network_digest}
+use Rattle.switch_machines.specs.Programs.{network_digest}
 use Rattle.network_run.specs.Network.{Wiring, far_end, Place, Flying, Over, Sent}
 use Rattle.network_run.specs.NetworkRun.{Limits, longest_frame, told_by}
 use Rattle.path_runner.specs.Nets.{Traffic}

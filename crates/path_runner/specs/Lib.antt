@@ -1,6 +1,5 @@
 -- What callers rest on, in reading order: the programs as the network's run takes them, what a net holds and stands for,
 -- what is asked of what is handed in, and of which values of the program these are the views.
-pub mod Programs
 pub mod Nets
 pub mod Conditions
 pub mod Packets

@@ -13,7 +13,7 @@ use Rattle.network_run.specs.NetworkRun.{Limits, run_of_halves}
 use Rattle.network_run.specs.World.{Arrival, first_place}
 use Rattle.network_file.specs.Network.{Network}
 use Rattle.network_file.specs.Wiring.{wiring_of}
-use Rattle.path_runner.specs.Programs.{Programs, machine_of}
+use Rattle.switch_machines.specs.Programs.{Programs, machine_of}
 
 -- a switch: its program, what its tables hold by their numbers, and the cells of its registers
 pub record Switch : Type 0 where

@@ -1,6 +1,6 @@
 -- Packets, frames and digests of the program, as the network's run has them.
 use Rattle.p4_statements.specs.Runs.{digest_of}
-use Rattle.linked_halves.specs.Networks.{network_digest}
+use Rattle.switch_machines.specs.Programs.{network_digest}
 use Rattle.network_run.specs.Network as network
 use Rattle.network_run.specs.World.{Arrival}
 use Rattle.path_runner.specs.declared.packet.Packet.{Packet}

@@ -3,7 +3,7 @@
 ghost use Rattle.std.specs.Prelude.{◌≡◌, ◌+◌, ◌<◌, ◌≤◌, ◌++◌, length, map, IfOk, IfSome, OnOk, OnErr};
 ghost use Rattle.std.specs.Option.{option_map};
 ghost use Rattle.p4_machine.specs.Buffers.{place_of};
-ghost use Rattle.linked_halves.specs.Networks.{network_digest};
+ghost use Rattle.switch_machines.specs.Programs.{network_digest};
 ghost use Rattle.network_run.specs.NetworkRun.{told_by, queued_or_over, dropped_if_none};
 ghost use Rattle.path_runner.specs.Switches.{entry_at, exit_at};
 ghost use Rattle.network_file.specs.Wiring.{wiring_of};

@@ -2,7 +2,7 @@
 
 ghost use Rattle.std.specs.Prelude.{◌≡◌, ◌+◌, ◌++◌, map, IfOk, OnOk};
 ghost use Rattle.p4_statements.specs.Runs.{digest_of};
-ghost use Rattle.linked_halves.specs.Networks.{network_digest};
+ghost use Rattle.switch_machines.specs.Programs.{network_digest};
 ghost use Rattle.network_run.specs.NetworkRun.{told_by};
 
 use crate::packet::{Sent, Told};

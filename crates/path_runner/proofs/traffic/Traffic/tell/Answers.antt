@@ -1,6 +1,6 @@
 use Rattle.std.proofs.Common.{map, ap, ◌∙◌, ◌++◌, ◌∷◌, []}
 use Rattle.std.proofs.lemmas.List.{map-append}
-use Rattle.linked_halves.specs.Networks.{network_digest}
+use Rattle.switch_machines.specs.Programs.{network_digest}
 use Rattle.path_runner.specs.Packets.{told_of}
 use Rattle.path_runner.proofs.Telling.{told_next}
 use Rattle.path_runner.proofs.traffic.Traffic.tell.Goals as goal

@@ -1,6 +1,6 @@
 use Rattle.std.proofs.Common.{◌≡◌, ◌++◌, map, take}
 use Rattle.p4_statements.specs.Runs.{digest_of}
-use Rattle.linked_halves.specs.Networks.{network_digest}
+use Rattle.switch_machines.specs.Programs.{network_digest}
 use Rattle.network_run.specs.NetworkRun.{told_by}
 use Rattle.path_runner.specs.Packets.{told_of}
 use Rattle.path_runner.proofs.traffic.Traffic.tell.Given as goal
