@@ -1,13 +1,3 @@
-pub mod Apart
-pub mod Own
-pub mod OwnCalls
-pub mod Lower
-pub mod Bits
-pub mod Fill
+pub mod Ports
 pub mod Parse
 pub mod EnterParse
-pub mod ExitRuns
-pub mod QueuedStores
-pub mod Enter
-pub mod Leave
-pub mod Theorem

@@ -1,62 +1,60 @@
 -- What is linked, and what is said of it: the laws of the two halves, and linkage.
-use Rattle.std.specs.Prelude.{ℕ, ◌≤◌}
+use Rattle.std.specs.Prelude.{◌≡◌, ℕ, List, [], map, false}
 use Rattle.p4_meaning.specs.Parts.{Parts}
 use Rattle.p4_meaning.specs.Tables.{Tables}
 use Rattle.p4_meaning.specs.Pass.{Kept, Queued}
-use Rattle.indus_tree.specs.Tree.{Property}
-use Rattle.indus_tree.specs.State.{Contents}
-use Rattle.indus_tree.specs.Law.{law_of}
-use Rattle.indus_tree.specs.Small.{IsSmall}
 use Rattle.network_run.specs.Machine.{Machine}
 use Rattle.network_run.specs.Network.{Wiring, IsWiring}
-use Rattle.linkage.specs.Linkage.{Linkage}
+use Rattle.linkage.specs.Linkage.{SensorRegister, RegisterReading, Linkage}
 use Rattle.linkage.specs.HalvesLaws.{HalvesLaws}
-use Rattle.linked_halves.specs.Forwarding.{IsForwarding}
-use Rattle.linked_halves.specs.LinkedParts.{linked_parts}
-use Rattle.linked_halves.specs.Telemetry.{telemetry_of, IsFitTele}
-use Rattle.linked_halves.specs.Networks.{machine_of, registers_of, ports_at}
-use Rattle.linked_halves.specs.Relations.{KeptBy, HeldBy}
+use Rattle.switch_machines.specs.Programs.{view_of, machine_of, machine_with, cells_of, ports_at}
+use Rattle.own_code.specs.Regions.{is_mine}
+use Rattle.own_code.specs.Forwarding.{IsForwarding}
+use Rattle.own_code.specs.OwnCode.{AreOwnEntries}
+use Rattle.monitor_laws.specs.Names.{rejects_register}
+use Rattle.monitor_laws.specs.Monitor.{Monitor, telemetry_of}
+use Rattle.linked_halves.specs.LinkedParts.{Declarations, Joins, linked_parts}
+use Rattle.linked_halves.specs.Held.{KeptBy, HeldBy}
 
--- a forwarding program, a property and a network
-pub record Given : Type 0 where
-  pub forwarding : Parts
-  pub property : Property
-  pub network : Wiring
+-- how registers are read: the forwarding program's, the sensors', and the one that counts rejected packets
+abbrev pub registers_of : {Z : Type 0} → Parts → List (SensorRegister Z (List ℕ)) → RegisterReading Kept Kept Z (List ℕ)
+registers_of f sensors =
+    record {
+      plain_cells = cells_of;
+      linked_cells = cells_of;
+      forwarding = map (λ c. c.name) f.registers;
+      sensors = sensors;
+      rejects = rejects_register;
+    }
 
--- the program is one that is linked, the property is of the small grammar, and the links join ports of switches, which
--- have 9 bits
-pub record IsGiven (g : Given) : Type 0 where
-  pub forwarding : IsForwarding g.forwarding
-  pub property : IsSmall g.property
-  pub network : IsWiring g.network
-  pub ports : g.network.ports ≤ 512
+-- a switch's own tables may hold any entries and defaults that run own actions
+abbrev pub OwnEntries : (switch : ℕ) → Tables → Type 0
+OwnEntries s e = (x : List ℕ) → is_mine x ≡ false → AreOwnEntries (e x)
 
--- the same program at each switch
-abbrev pub forwarding_machine : Given → Machine Tables Kept Queued Contents
-forwarding_machine g = machine_of (λ s. g.forwarding)
+module _ {T Z C : Type 0} (m : Monitor T Z C) (f : Parts) (net : Wiring) (d : (switch : ℕ) → Declarations) where
+  -- the program is one that is linked, the links join ports of switches, and each switch declares what the two do
+  pub record IsHost : Type 0 where
+    pub forwarding : IsForwarding f
+    pub network : IsWiring net
+    pub joins : (s : ℕ) → Joins m f (d s)
 
--- the linked program of each switch
-abbrev pub linked_machine : Given → Machine Tables Kept Queued Contents
-linked_machine g = machine_of (λ s. linked_parts g.forwarding g.property (ports_at g.network.links s))
+  -- the same program at each switch
+  abbrev pub forwarding_machine : Machine Tables Kept Queued C
+  forwarding_machine = machine_of (record { program = λ s. f; reads = view_of m.views })
 
--- a switch's tables may hold any entries and defaults at the start, and there are no control variables
-abbrev pub AnyEntries : (switch : ℕ) → Tables → Type 0
-AnyEntries s e = Unit {0}
+  -- the linked program of each switch. What it would view is not looked at
+  abbrev pub linked_machine : Machine Tables Kept Queued C
+  linked_machine = machine_with m.controls (record { program = λ s. linked_parts m s (ports_at net.links s) f (d s); reads = λ s. [] })
 
-abbrev pub NoVariable : ℕ → Type 0
-NoVariable v = ⊥
+  module _ (Fit : T → Type 0) (Keeps : Z → (ℕ → C) → Kept → Type 0) (IsVariable : ℕ → Type 0) (IsFitContents : (variable : ℕ) → C → Type 0) where
+    -- a linked enter and a linked leave keep to the laws of the two halves
+    abbrev pub KeepsHalves : Type 0
+    KeepsHalves =
+        HalvesLaws net m.property (telemetry_of m) (KeptBy m Fit Keeps) (HeldBy m Fit Keeps (ports_at net.links)) Fit
+        forwarding_machine linked_machine (registers_of f m.sensors) OwnEntries IsVariable (λ s. IsFitContents)
 
-abbrev pub NoContents : (switch variable : ℕ) → Contents → Type 0
-NoContents s v c = ⊥
-
--- a linked enter and a linked leave keep to the laws of the two halves
-abbrev pub KeepsHalves : Given → Type 0
-KeepsHalves g =
-    HalvesLaws g.network (law_of g.property) (telemetry_of g.property.decls) KeptBy (HeldBy g.property.decls) (IsFitTele g.property.decls)
-    (forwarding_machine g) (linked_machine g) (registers_of g.forwarding) AnyEntries NoVariable NoContents
-
--- the linked programs are a linkage
-abbrev pub IsLinked : Given → Type 0
-IsLinked g =
-    Linkage (forwarding_machine g) (linked_machine g) g.network (law_of g.property) (telemetry_of g.property.decls)
-    (registers_of g.forwarding) AnyEntries NoVariable NoContents
+    -- the linked programs are a linkage
+    abbrev pub IsLinkage : Type 0
+    IsLinkage =
+        Linkage forwarding_machine linked_machine net m.property (telemetry_of m)
+        (registers_of f m.sensors) OwnEntries IsVariable (λ s. IsFitContents)

@@ -1,9 +1,13 @@
--- The parser states that a linked program begins with: they ask how the frame arrived, and take the telemetry where
--- it stands. All places are 0.
-use Rattle.std.specs.Prelude.{codes, ℕ, List, [], ◌∷◌}
-use Rattle.p4_tree.specs.Tree.{path, one, call, any, only, Case, select, to, ParserState}
-use Rattle.p4_meaning.specs.Standard.{ingress_port}
-use Rattle.linked_halves.specs.Monitor.{number, tele_header}
+-- The parser states that a linked program begins with: they ask how the frame arrived, take the telemetry where it stands,
+-- and keep the packet's length without it. All places are 0.
+use Rattle.std.specs.Prelude.{codes, ℕ, List, [], ◌∷◌, map, if◌then◌else◌}
+use Rattle.lex_text.specs.Names.{same_text}
+use Rattle.p4_tree.specs.Tree.{path, binary, one, assign, call, any, only, Case, Transition, nowhere, to, select, ParserState}
+use Rattle.p4_tree.specs.declared.statement.Op.TheVariants as p4
+use Rattle.p4_meaning.specs.Standard.{ingress_port, packet_length}
+use Rattle.packet_lengths.specs.Lengths.{length_path, plain_state}
+use Rattle.monitor_laws.specs.Names.{tele_header}
+use Rattle.monitor_laws.specs.Trees.{number}
 
 -- a frame that came by a link begins with the telemetry
 abbrev pub link_case : ℕ → Case
@@ -16,8 +20,46 @@ abbrev pub link_cases : List ℕ → List Case
 link_cases [] = last_case ∷ []
 link_cases (n ∷ ns) = link_case n ∷ link_cases ns
 
+-- the length is that of the packet, and behind the telemetry, of so many bytes, it is less by them
 abbrev pub first_state : (linked_ports : List ℕ) → ParserState
-first_state linked_ports = record { at = 0; name = codes "start"; body = []; next = select 0 (path 0 ingress_port ∷ []) (link_cases linked_ports) }
+first_state linked_ports =
+    record {
+      at = 0;
+      name = codes "start";
+      body = assign 0 length_path (path 0 packet_length) ∷ [];
+      next = select 0 (path 0 ingress_port ∷ []) (link_cases linked_ports);
+    }
 
-abbrev pub taken_state : ParserState
-taken_state = record { at = 0; name = codes "hydra_taken"; body = call 0 (codes "packet" ∷ codes "extract" ∷ []) (one 0 (path 0 tele_header) ∷ []) ∷ []; next = to 0 (codes "hydra_start") }
+abbrev pub taken_state : (size : ℕ) → ParserState
+taken_state size =
+    record {
+      at = 0;
+      name = codes "hydra_taken";
+      body =
+          call 0 (codes "packet" ∷ codes "extract" ∷ []) (one 0 (path 0 tele_header) ∷ [])
+          ∷ assign 0 length_path (binary 0 p4.Sub (path 0 packet_length) (number 0 size)) ∷ [];
+      next = to 0 (codes "hydra_start");
+    }
+
+-- the program's own first state is renamed, and its other states may lead to it
+abbrev pub own_name : List ℕ → List ℕ
+own_name x = if same_text x (codes "start") then codes "hydra_start" else x
+
+abbrev pub renamed_case : Case → Case
+renamed_case c = record c { next = own_name c.next }
+
+abbrev pub renamed_transition : Transition → Transition
+renamed_transition (nowhere p) = nowhere p
+renamed_transition (to p x) = to p (own_name x)
+renamed_transition (select p es cs) = select p es (map renamed_case cs)
+
+abbrev pub renamed_state : ParserState → ParserState
+renamed_state s = record s { name = own_name s.name; next = renamed_transition s.next }
+
+-- they read the length without telemetry
+abbrev pub own_state : ParserState → ParserState
+own_state s = renamed_state (plain_state s)
+
+-- how the frame arrived, the telemetry where it stands, and then the program's own states
+abbrev pub linked_states : (size : ℕ) (linked_ports : List ℕ) → List ParserState → List ParserState
+linked_states size linked_ports own = first_state linked_ports ∷ taken_state size ∷ map own_state own

@@ -1,7 +1,7 @@
 -- Code whose reads of the packet's length are rewritten. On links a packet is longer, by its telemetry. So the parser
 -- puts the length without telemetry into a field of the metadata, and rewritten code reads that field in the place of
 -- `packet_length`. Nothing else of the code changes.
-use Rattle.std.specs.Prelude.{◌≡◌, codes, ℕ, List, [], ◌∷◌, map, Bool, true, false, not, ◌||◌, None, if◌then◌else◌}
+use Rattle.std.specs.Prelude.{◌≡◌, codes, ℕ, List, [], ◌∷◌, map, Bool, true, false, not, ◌||◌, Option, Some, None, if◌then◌else◌}
 use Rattle.std.specs.Option.{option_map}
 use Rattle.bit_values.specs.Bits.{Word}
 use Rattle.lex_text.specs.Names.{same_path}
@@ -138,6 +138,11 @@ abbrev mutual
 -- an action: its body, since its parameters are paths of one name
 abbrev pub KeepsAction : Action → Type 0
 KeepsAction a = KeepLength a.body
+
+-- the action that a name finds, where it finds one
+abbrev pub KeepsFound : Option Action → Type 0
+KeepsFound None = Unit {0}
+KeepsFound (Some a) = KeepsAction a
 
 -- ---- runs
 

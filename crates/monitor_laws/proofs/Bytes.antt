@@ -1,14 +1,16 @@
--- Words as the bits of a header's fields, and whole bytes of bits.
-use Rattle.std.proofs.Common.{◌≡◌, ℕ, ◌+◌, ◌^◌, ◌<◌, List, [], ◌∷◌, ◌++◌, length, take, drop, refl, sym, ap, ap₂, ◌∙◌, append_assoc, length-append}
+-- Words in fields as the bits of a header, and whole bytes of bits.
+use Rattle.std.proofs.Common.{◌≡◌, ℕ, zero, suc, ◌+◌, ◌*◌, ◌^◌, ◌<◌, List, [], ◌∷◌, ◌++◌, length, take, drop, refl, sym, ap, ap₂, ◌∙◌, append_assoc, length-append, arith}
 use Rattle.std.proofs.Math.Seq.{take-append_seam, drop-append_seam}
 use Rattle.bit_values.specs.Bits.{Word, word, cast}
 use Rattle.bit_values.specs.BitLists.{AreBits, number_bits, number_of}
 use Rattle.bit_values.specs.Bytes.{bits_of}
 use Rattle.bit_values.proofs.BitsLemmas.{cast_of_small}
-use Rattle.bit_values.proofs.BitListsLemmas.{AreBits-number_bits, length-number_bits, number_back, bits_back}
-use Rattle.p4_meaning.specs.Store.{Store, set_value}
+use Rattle.bit_values.proofs.BitListsLemmas.{AreBits-append, AreBits-number_bits, length-number_bits, number_back, bits_back}
 use Rattle.bit_writer.specs.Bytes.{words_bits, bytes_of}
+use Rattle.p4_meaning.specs.Store.{Store, set_value}
 use Rattle.p4_meaning.specs.Parsing.{Field, Reading, width_sum, field_taken, fields_taken, fields_bits}
+use Rattle.monitor_laws.specs.Telemetry.{AreFor, HasWords}
+use Rattle.monitor_laws.proofs.Fields.{fill}
 
 -- ---- whole bytes
 
@@ -48,19 +50,6 @@ pub whole_byte : (v : ℕ) (rest : List ℕ) → IsWhole rest → IsWhole (numbe
 whole_byte v rest h = (AreBits-number_bits 8 v, h)
 
 -- ---- words in fields
-
--- the words have the widths of the fields
-abbrev pub AreFor : List Field → List Word → Type 0
-AreFor [] [] = Unit {0}
-AreFor [] (w ∷ ws) = ⊥
-AreFor (f ∷ fs) [] = ⊥
-AreFor (f ∷ fs) (w ∷ ws) = (w.width ≡ f.width) × (w.value < 2 ^ w.width) × AreFor fs ws
-
--- the store in which the fields hold the words
-abbrev pub fill : List (List ℕ) → List Field → List Word → Store → Store
-fill p [] ws s = s
-fill p (f ∷ fs) [] s = s
-fill p (f ∷ fs) (w ∷ ws) s = fill p fs ws (set_value s (p ++ f.name ∷ []) w)
 
 pub length-words : (fs : List Field) (ws : List Word) → AreFor fs ws → length (words_bits ws) ≡ width_sum fs
 length-words [] [] h = refl
@@ -102,14 +91,7 @@ words_taken p (f ∷ fs) (w ∷ ws) s rest h =
     ∙ ap (fields_taken p fs) (word_taken p f w s (words_bits ws ++ rest) h.0 h.1)
     ∙ words_taken p fs ws (set_value s (p ++ f.name ∷ []) w) rest h.2
 
--- the words stand in the fields of a header
-abbrev pub HasWords : List (List ℕ) → List Field → List Word → Store → Type 0
-HasWords p [] [] s = Unit {0}
-HasWords p [] (w ∷ ws) s = ⊥
-HasWords p (f ∷ fs) [] s = ⊥
-HasWords p (f ∷ fs) (w ∷ ws) s = (s.values (p ++ f.name ∷ []) ≡ w) × HasWords p fs ws s
-
--- and are what the deparser writes
+-- the words in the fields of a header are what the deparser writes
 pub words_written : (p : List (List ℕ)) (fs : List Field) (ws : List Word) (s : Store) → AreFor fs ws → HasWords p fs ws s → fields_bits p fs s ≡ words_bits ws
 words_written p [] [] s h k = refl
 words_written p [] (w ∷ ws) s h k = absurd h
@@ -120,3 +102,40 @@ words_written p (f ∷ fs) (w ∷ ws) s h k =
     ∙ ap (λ n. number_bits n (cast n w.value)) (sym h.0)
     ∙ ap (number_bits w.width) (cast_of_small w.width w.value h.1))
     (words_written p fs ws s h.2 k.1)
+
+-- words are bits
+AreBits-words : (ws : List Word) → AreBits (words_bits ws)
+AreBits-words [] = tt
+AreBits-words (w ∷ ws) = AreBits-append (number_bits w.width w.value) (words_bits ws) (AreBits-number_bits w.width w.value) (AreBits-words ws)
+
+-- bits are whole bytes where there are eight a byte
+pub whole_bits : (n : ℕ) (bs : List ℕ) → AreBits bs → length bs ≡ n * 8 → IsWhole bs
+whole_bits n [] h e = tt
+whole_bits zero (a ∷ bs) h e = absurd (omega (arith, e))
+whole_bits (suc n) (a ∷ b ∷ c ∷ d ∷ e ∷ f ∷ g ∷ i ∷ rest) h l =
+    ((h.0, (h.1.0, (h.1.1.0, (h.1.1.1.0, (h.1.1.1.1.0, (h.1.1.1.1.1.0, (h.1.1.1.1.1.1.0, (h.1.1.1.1.1.1.1.0, tt)))))))), whole_bits n rest h.1.1.1.1.1.1.1.1 (omega (arith, l)))
+whole_bits (suc n) (a ∷ []) h l = absurd (omega (arith, l))
+whole_bits (suc n) (a ∷ b ∷ []) h l = absurd (omega (arith, l))
+whole_bits (suc n) (a ∷ b ∷ c ∷ []) h l = absurd (omega (arith, l))
+whole_bits (suc n) (a ∷ b ∷ c ∷ d ∷ []) h l = absurd (omega (arith, l))
+whole_bits (suc n) (a ∷ b ∷ c ∷ d ∷ e ∷ []) h l = absurd (omega (arith, l))
+whole_bits (suc n) (a ∷ b ∷ c ∷ d ∷ e ∷ f ∷ []) h l = absurd (omega (arith, l))
+whole_bits (suc n) (a ∷ b ∷ c ∷ d ∷ e ∷ f ∷ g ∷ []) h l = absurd (omega (arith, l))
+
+-- words that fill whole bytes
+pub whole_words : (n : ℕ) (fs : List Field) (ws : List Word) → AreFor fs ws → width_sum fs ≡ n * 8 → IsWhole (words_bits ws)
+whole_words n fs ws h e = whole_bits n (words_bits ws) (AreBits-words ws) (length-words fs ws h ∙ e)
+
+-- so many bytes
+pub length-bytes : (n : ℕ) (bs : List ℕ) → IsWhole bs → length bs ≡ n * 8 → length (bytes_of bs) ≡ n
+length-bytes zero [] h e = refl
+length-bytes (suc n) [] h e = absurd (omega (arith, e))
+length-bytes zero (a ∷ bs) h e = absurd (omega (arith, e))
+length-bytes (suc n) (a ∷ b ∷ c ∷ d ∷ e ∷ f ∷ g ∷ i ∷ rest) h l = ap suc (length-bytes n rest h.1 (omega (arith, l)))
+length-bytes (suc n) (a ∷ []) h l = absurd h
+length-bytes (suc n) (a ∷ b ∷ []) h l = absurd h
+length-bytes (suc n) (a ∷ b ∷ c ∷ []) h l = absurd h
+length-bytes (suc n) (a ∷ b ∷ c ∷ d ∷ []) h l = absurd h
+length-bytes (suc n) (a ∷ b ∷ c ∷ d ∷ e ∷ []) h l = absurd h
+length-bytes (suc n) (a ∷ b ∷ c ∷ d ∷ e ∷ f ∷ []) h l = absurd h
+length-bytes (suc n) (a ∷ b ∷ c ∷ d ∷ e ∷ f ∷ g ∷ []) h l = absurd h
