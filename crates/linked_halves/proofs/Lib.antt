@@ -1,3 +1,6 @@
 pub mod Ports
 pub mod Parse
 pub mod EnterParse
+pub mod QueuedStores
+pub mod LinkedCalls
+pub mod Enter

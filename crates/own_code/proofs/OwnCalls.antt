@@ -99,11 +99,11 @@ found_table (t ∷ ts) x o = pick (same_text t.name x) (Some t) (table_named ts 
     pick false y z h i = i
 
 -- what a walk chooses is as all entries are
-abbrev IfChosen : (Entry → Type 0) → Option Entry → Type 0
+abbrev pub IfChosen : (Entry → Type 0) → Option Entry → Type 0
 IfChosen P None = Unit {0}
 IfChosen P (Some e) = P e
 
-choice_all : (P : Entry → Type 0) (t : Bool) (es : List Entry) (ks : List Word) → AllByRecursion P es → IfChosen P (choice_of t es ks)
+pub choice_all : (P : Entry → Type 0) (t : Bool) (es : List Entry) (ks : List Word) → AllByRecursion P es → IfChosen P (choice_of t es ks)
 choice_all P t [] ks h = tt
 choice_all P t (e ∷ es) ks h = pick (fits_keys e.keys ks) (choice_of t es ks) (choice_all P t es ks h.1)
   where
