@@ -4,3 +4,5 @@ pub mod EnterParse
 pub mod QueuedStores
 pub mod LinkedCalls
 pub mod Enter
+pub mod ExitRuns
+pub mod Leave
