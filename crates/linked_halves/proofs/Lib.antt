@@ -6,3 +6,4 @@ pub mod LinkedCalls
 pub mod Enter
 pub mod ExitRuns
 pub mod Leave
+pub mod Theorem
