@@ -1,0 +1,2 @@
+-- What callers rest on: rewritten code, code that writes neither length, and runs that differ in the packet's length.
+pub mod Lengths
