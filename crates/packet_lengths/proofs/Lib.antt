@@ -4,4 +4,4 @@ pub mod Lengths
 pub mod LengthCalls
 pub mod Plainly
 pub mod Near
-pub mod NearParse
+pub mod NearStates

@@ -1,5 +1,5 @@
 use Rattle.packet_lengths.proofs.Near.{near_value, own_keeps, own_action_keeps}
-use Rattle.packet_lengths.proofs.NearParse.{near_after}
+use Rattle.packet_lengths.proofs.NearStates.{near_state}
 use Rattle.packet_lengths.proofs.laws.own_code_keeps_the_length.Goals as goal
 
 pub returns-clause-statements : goal.returns-clause-statements
@@ -11,5 +11,5 @@ returns-clause-actions c = λ a own. own_action_keeps a own
 pub returns-clause-values : goal.returns-clause-values
 returns-clause-values c = λ x y e w own near. near_value x y e w own near
 
-pub returns-clause-transitions : goal.returns-clause-transitions
-returns-clause-transitions c = λ x y t own near. near_after x y near t own
+pub returns-clause-states : goal.returns-clause-states
+returns-clause-states c = λ headers linked extract s x y own near rest. near_state headers linked extract s x y own near rest
