@@ -1,0 +1,4 @@
+pub mod Paths
+pub mod Fields
+pub mod Bytes
+pub mod Frames
