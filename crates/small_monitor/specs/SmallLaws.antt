@@ -26,8 +26,8 @@ use Rattle.monitor_laws.proofs.Frames.{others_then, others_set, last_ended, open
 use Rattle.small_monitor.specs.Lowered.{lowered_stmt, lowered_block, lowered_else}
 use Rattle.small_monitor.specs.Telemetry.{IsFitTele}
 use Rattle.small_monitor.specs.Small.{checker_of, small_monitor, NoneKept, NoVariable, NoContents}
-use Rattle.small_monitor.proofs.Lower.{HoldsTele, Lowered, lowers}
-use Rattle.small_monitor.proofs.TeleWords.{words_for, has_all, has_at, start_fits, start_zero, names_apart, mark_apart, bytes_sum}
+use Rattle.small_monitor.specs.LoweredLemmas.{HoldsTele, Lowered, lowers}
+use Rattle.small_monitor.specs.TelemetryLemmas.{words_for, has_all, has_at, start_fits, start_zero, names_apart, mark_apart, bytes_sum}
 
 -- a block that may not reject is one that may
 mutual
