@@ -292,7 +292,7 @@ module _ {T Z C : Type 0} (m : Monitor T Z C) (Fit : T → Type 0) (Keeps : Z �
         (((refl, (refl, laws.entry_keeps sw)), tt), own_keeps f.ingress.body own.ingress.body)
 
     -- what the switches keep
-    module _ (a b : Kept) (z : Z) (c : ℕ → C) (k : ℕ) (kept : KeptBy m Fit Keeps sw a z c k b) where
+    module _ (a b : Kept) (z : Z) (c : ℕ → C) (k : ℕ) (kept : KeptBy m Fit Keeps f sw a z c k b) where
       -- what actions and tables do, in the forwarding switch, in the linked one, and there before they are rewritten
       abbrev calls : Calls
       calls = calls_of f a.tables
@@ -330,10 +330,10 @@ module _ {T Z C : Type 0} (m : Monitor T Z C) (Fit : T → Type 0) (Keeps : Z �
 
       -- a linked entry half does what a plain one does, and a part
       abbrev Agrees : (first : Bool) → Doing T Z → (plain linked : pass.Entered) → Type 0
-      Agrees first d x y = EnterAgrees net m.property (telemetry_of m) (KeptBy m Fit Keeps) (HoldsCore m Fit Keeps links) Fit sw first c k d (entered_of (view_of m.views) a.tables x) (entered_of (λ s. []) b.tables y)
+      Agrees first d x y = EnterAgrees net m.property (telemetry_of m) (KeptBy m Fit Keeps f) (HoldsCore m Fit Keeps links) Fit sw first c k d (entered_of (view_of m.views) a.tables x) (entered_of (λ s. []) b.tables y)
 
       abbrev LinkedAgrees : (first : Bool) → Doing T Z → (plain linked : pass.Entered) → Type 0
-      LinkedAgrees first d x y = EnterAgrees net m.property (telemetry_of m) (KeptBy m Fit Keeps) (HeldBy m Fit Keeps links) Fit sw first c k d (entered_of (view_of m.views) a.tables x) (entered_of (λ s. []) b.tables y)
+      LinkedAgrees first d x y = EnterAgrees net m.property (telemetry_of m) (KeptBy m Fit Keeps f) (HeldBy m Fit Keeps links) Fit sw first c k d (entered_of (view_of m.views) a.tables x) (entered_of (λ s. []) b.tables y)
 
       -- behind the entry statement the program's own ingress runs
       ingress_agrees : (first : Bool) (port : ℕ) (d : Doing T Z) (u v : Run) (rest rest' : List ℕ) → Alike u v → (own_vars v).cells rejects_register ≡ word 32 (k % 2 ^ 32) ∷ [] → filter is_report (own_vars v).digests ≡ [] → rest' ≡ rest

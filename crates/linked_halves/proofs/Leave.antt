@@ -133,7 +133,7 @@ module _ {T Z C : Type 0} (m : Monitor T Z C) (Fit : T → Type 0) (Keeps : Z �
     exit_mine = (refl, (refl, (refl, all_region (λ n. is_lowered (n ∷ [])) (λ n. is_mine n ≡ true) (fields_of m.exit_locals) (λ n h. both_left (is_mine n) _ h) laws.exit_vars)))
 
     -- a passage's exit half
-    module _ (net : Wiring) (k : ℕ) (first : Bool) (c : ℕ → C) (wired : (port : ℕ) → is_in port (links sw) ≡ not (at_edge net sw port)) (a b : Kept) (z : Z) (t : T) (q q' : Queued) (kept : KeptBy m Fit Keeps sw a z c k b) (held : HoldsCore m Fit Keeps links sw first q t q') where
+    module _ (net : Wiring) (k : ℕ) (first : Bool) (c : ℕ → C) (wired : (port : ℕ) → is_in port (links sw) ≡ not (at_edge net sw port)) (a b : Kept) (z : Z) (t : T) (q q' : Queued) (kept : KeptBy m Fit Keeps f sw a z c k b) (held : HoldsCore m Fit Keeps links sw first q t q') where
       -- what actions and tables do, in the forwarding switch and in the linked one before they are rewritten
       abbrev calls : Calls
       calls = calls_of f a.tables
@@ -262,7 +262,7 @@ module _ {T Z C : Type 0} (m : Monitor T Z C) (Fit : T → Type 0) (Keeps : Z �
 
       -- the forwarding program drops the packet
       abbrev Drops : Run → Type 0
-      Drops r = DropAgrees net m.property (telemetry_of m) (KeptBy m Fit Keeps) (HeldBy m Fit Keeps links) Fit sw c k z plain_leaving (linked_leaving r)
+      Drops r = DropAgrees net m.property (telemetry_of m) (KeptBy m Fit Keeps f) (HeldBy m Fit Keeps links) Fit sw c k z plain_leaving (linked_leaving r)
 
       drops : is_dropped plain_run.store ≡ true → Drops whole_run
       drops e =
@@ -284,7 +284,7 @@ module _ {T Z C : Type 0} (m : Monitor T Z C) (Fit : T → Type 0) (Keeps : Z �
       part last = exit_part m.property (reads last) t z
 
       abbrev Agrees : Bool → Doing T Z → Run → Type 0
-      Agrees last d r = GoAgrees net m.property (telemetry_of m) (KeptBy m Fit Keeps) (HeldBy m Fit Keeps links) Fit sw last c k d plain_leaving going (linked_leaving r)
+      Agrees last d r = GoAgrees net m.property (telemetry_of m) (KeptBy m Fit Keeps f) (HeldBy m Fit Keeps links) Fit sw last c k d plain_leaving going (linked_leaving r)
 
       -- a run that goes on by the same port, with a frame
       goes_by : (last : Bool) (t' : T) (r : Run) → is_dropped plain_run.store ≡ false → r.store.values egress_port ≡ own_run.store.values egress_port → r.store.values egress_spec ≡ own_run.store.values egress_spec → frame_of core q'.rest r ≡ carried (telemetry_of m) last t' going.frame
@@ -449,11 +449,11 @@ module _ {T Z C : Type 0} (m : Monitor T Z C) (Fit : T → Type 0) (Keeps : Z �
       pub plain_goes : (meaning_of calls f.egress.locals (run_from q.store a.registers)).1 ≡ Go
       plain_goes = vars_ran.goes
 
-      leave_by : (o : Bool) → is_dropped plain_run.store ≡ o → LeaveAgrees net m.property (telemetry_of m) (KeptBy m Fit Keeps) (HeldBy m Fit Keeps links) Fit sw first c k z t plain_leaving (linked_leaving whole_run) (option_map (going_of (view_of m.views)) (unless_dropped o sent))
+      leave_by : (o : Bool) → is_dropped plain_run.store ≡ o → LeaveAgrees net m.property (telemetry_of m) (KeptBy m Fit Keeps f) (HeldBy m Fit Keeps links) Fit sw first c k z t plain_leaving (linked_leaving whole_run) (option_map (going_of (view_of m.views)) (unless_dropped o sent))
       leave_by true e = drops e
       leave_by false e = goes_to (at_edge net sw going.port) e (wired going.port)
 
-      pub core_leaves : LeaveAgrees net m.property (telemetry_of m) (KeptBy m Fit Keeps) (HeldBy m Fit Keeps links) Fit sw first c k z t plain_leaving (linked_leaving whole_run) (option_map (going_of (view_of m.views)) (unless_dropped (is_dropped plain_run.store) sent))
+      pub core_leaves : LeaveAgrees net m.property (telemetry_of m) (KeptBy m Fit Keeps f) (HeldBy m Fit Keeps links) Fit sw first c k z t plain_leaving (linked_leaving whole_run) (option_map (going_of (view_of m.views)) (unless_dropped (is_dropped plain_run.store) sent))
       core_leaves = leave_by (is_dropped plain_run.store) refl
 
     -- ---- with the packet's length elsewhere
@@ -511,8 +511,8 @@ module _ {T Z C : Type 0} (m : Monitor T Z C) (Fit : T → Type 0) (Keeps : Z �
         (going_same (is_dropped r.store) (sent (bytes_of (deparse_of core.headers core.emits (meaning_of no_calls f.compute (plainly before)).0.store ++ rest)) (plainly r)) (sent (bytes_of (deparse_of core.headers core.emits c.store ++ rest)) r) refl frame)
 
     -- a leave of the linked program does what the forwarding program's does, and the exit part
-    pub leaves_agree : (net : Wiring) (k : ℕ) (first : Bool) (c : ℕ → C) (wired : (port : ℕ) → is_in port (links sw) ≡ not (at_edge net sw port)) (a b : Kept) (z : Z) (t : T) (q q' : Queued) → KeptBy m Fit Keeps sw a z c k b → HeldBy m Fit Keeps links sw first q t q'
-        → LeaveAgrees net m.property (telemetry_of m) (KeptBy m Fit Keeps) (HeldBy m Fit Keeps links) Fit sw first c k z t (leaving_of (view_of m.views) a.tables (parts_leave f a.tables a.registers q)) (leaving_of (λ s. []) b.tables (parts_leave linked b.tables b.registers q')) (leaving_of (view_of m.views) a.tables (parts_leave f a.tables a.registers q)).going
+    pub leaves_agree : (net : Wiring) (k : ℕ) (first : Bool) (c : ℕ → C) (wired : (port : ℕ) → is_in port (links sw) ≡ not (at_edge net sw port)) (a b : Kept) (z : Z) (t : T) (q q' : Queued) → KeptBy m Fit Keeps f sw a z c k b → HeldBy m Fit Keeps links sw first q t q'
+        → LeaveAgrees net m.property (telemetry_of m) (KeptBy m Fit Keeps f) (HeldBy m Fit Keeps links) Fit sw first c k z t (leaving_of (view_of m.views) a.tables (parts_leave f a.tables a.registers q)) (leaving_of (λ s. []) b.tables (parts_leave linked b.tables b.registers q')) (leaving_of (view_of m.views) a.tables (parts_leave f a.tables a.registers q)).going
     unfolding parts_leave
     leaves_agree net k first c wired a b z t q q' kept held =
         let calls = calls_of f a.tables in
@@ -526,7 +526,7 @@ module _ {T Z C : Type 0} (m : Monitor T Z C) (Fit : T → Type 0) (Keeps : Z �
         let r = (meaning_of linked_calls (plain_stmts ss) begun).0 in
         let none = plainly_none core_calls linked_calls ss begun lengths egress_keeps standard held.meta in
         let same : plainly r ≡ (meaning_of core_calls ss (plainly begun)).0 = plainly_run core_calls linked_calls ss begun lengths egress_keeps standard held.meta in
-        let Agrees : Leaving Kept → Leaving Kept → Type 0 = λ x y. LeaveAgrees net m.property (telemetry_of m) (KeptBy m Fit Keeps) (HeldBy m Fit Keeps links) Fit sw first c k z t x y x.going in
+        let Agrees : Leaving Kept → Leaving Kept → Type 0 = λ x y. LeaveAgrees net m.property (telemetry_of m) (KeptBy m Fit Keeps f) (HeldBy m Fit Keeps links) Fit sw first c k z t x y x.going in
         let plain_leaves = leaving_of (view_of m.views) a.tables (left_behind f q.rest (meaning_of calls f.egress.body (meaning_of calls f.egress.locals plain_begun).0).0) in
         let plain_is : (meaning_of calls f.egress.body (meaning_of calls f.egress.locals plain_begun).0).0 ≡ (meaning_of calls (whole f.egress) plain_begun).0 =
         sym (ap (λ (e : Ended). e.0) (then_runs calls f.egress.locals f.egress.body plain_begun)

@@ -23,6 +23,7 @@ use Rattle.packet_lengths.proofs.LengthCalls.{found_keeps, length_calls}
 use Rattle.monitor_laws.specs.Monitor.{Monitor}
 use Rattle.monitor_laws.specs.MonitorLaws.{IsMonitorAction, AreMonitorEntries, MeansTops, MonitorLaws}
 use Rattle.linked_halves.specs.LinkedParts.{Declarations, Joins}
+use Rattle.linked_halves.specs.Held.{OwnEntries}
 
 -- own entries run actions that are the same in both programs
 listed_same : (as' all : List Action) (same : (x : List ℕ) → is_mine x ≡ false → IsSameAction as' all x) (es : List Entry) → AllByRecursion (λ e. is_mine e.action ≡ false) es → AllByRecursion (λ e. IsSameAction as' all e.action) es
@@ -34,11 +35,11 @@ entries_same as' all same n h = record { listed = listed_same as' all same n.lis
 
 module _ {T Z C : Type 0} (m : Monitor T Z C) (f : Parts) (own : IsForwarding f) (decls : Declarations) (joins : Joins m f decls) where
   -- own calls
-  pub core_alike : (held held' : Tables) → HoldSame held held' → ((x : List ℕ) → is_mine x ≡ false → AreOwnEntries (held x)) → AreAlikeCalls (calls_of f held) (calls_in decls.actions decls.tables held')
+  pub core_alike : (held held' : Tables) → HoldSame held held' → OwnEntries f held → AreAlikeCalls (calls_of f held) (calls_in decls.actions decls.tables held')
   core_alike held held' same entries =
       more_alike f.actions decls.actions own.actions f.tables decls.tables held held' own.tables
       (record { same_actions = λ x o. joins.own_actions x o; same_tables = λ x o. joins.own_tables x o }) same
-      (λ x o. entries_same f.actions decls.actions joins.own_actions (held x) (entries x o))
+      (λ x t is. entries_same f.actions decls.actions joins.own_actions (held x) (entries x t is))
 
   -- the monitor's actions, and `NoAction`, which is none
   monitor_action : (x : List ℕ) → IsMonitorAction x → (b : Bool) → is_mine x ≡ b → (n : action_named m.actions (codes "NoAction") ≡ None) → action_named decls.actions x ≡ action_named m.actions x

@@ -19,8 +19,8 @@ use Rattle.monitor_laws.specs.Monitor.{Monitor, telemetry_of}
 use Rattle.monitor_laws.specs.MonitorLaws.{MonitorLaws}
 use Rattle.monitor_laws.proofs.Paths.{sensor_mine, own_sensor}
 use Rattle.linked_halves.specs.LinkedParts.{Declarations, linked_parts, rejects_cells}
-use Rattle.linked_halves.specs.Held.{is_in, KeptBy, HeldBy}
-use Rattle.linked_halves.specs.Given.{registers_of, OwnEntries, IsHost, forwarding_machine, linked_machine, KeepsHalves, IsLinkage}
+use Rattle.linked_halves.specs.Held.{is_in, OwnEntries, KeptBy, HeldBy}
+use Rattle.linked_halves.specs.Given.{registers_of, IsHost, forwarding_machine, linked_machine, KeepsHalves, IsLinkage}
 use Rattle.linked_halves.proofs.EnterParse.{bytes_sized}
 use Rattle.linked_halves.proofs.Enter.{enter_edge, enter_link}
 use Rattle.linked_halves.proofs.Leave.{leaves_agree}
@@ -81,19 +81,19 @@ module _ {T Z C : Type 0} (m : Monitor T Z C) (Fit : T → Type 0) (Keeps : Z �
 
     abbrev Enters : ℕ → ℕ → ℕ → Kept → Kept → Z → (ℕ → C) → T → List ℕ → Bool → Type 0
     Enters s port k a b z c t frame e =
-        EnterAgrees net m.property (telemetry_of m) (KeptBy m Fit Keeps) (HeldBy m Fit Keeps links) Fit s e c k
+        EnterAgrees net m.property (telemetry_of m) (KeptBy m Fit Keeps f) (HeldBy m Fit Keeps links) Fit s e c k
         (entry_part m.property (reads_at s e false (view_of m.views (parts_enter f a.tables a.registers port frame).entry_state) c) t z)
         (entered_of (view_of m.views) a.tables (parts_enter f a.tables a.registers port frame))
         (entered_of (λ s. []) b.tables (parts_enter (linked_parts m s (links s) f (decls s)) b.tables b.registers port (carried (telemetry_of m) e t frame)))
 
-    enters : (s port k : ℕ) (a b : Kept) (z : Z) (c : ℕ → C) (t : T) (frame : List ℕ) (e : Bool) → at_edge net s port ≡ e → port < 512 → KeptBy m Fit Keeps s a z c k b → Fit t → (e ≡ true → t ≡ m.property.tele) → Enters s port k a b z c t frame e
+    enters : (s port k : ℕ) (a b : Kept) (z : Z) (c : ℕ → C) (t : T) (frame : List ℕ) (e : Bool) → at_edge net s port ≡ e → port < 512 → KeptBy m Fit Keeps f s a z c k b → Fit t → (e ≡ true → t ≡ m.property.tele) → Enters s port k a b z c t frame e
     enters s port k a b z c t frame true e lt kept fits start =
         enter_edge m Fit Keeps IsVariable IsFitContents laws f is.forwarding s links (low s) (decls s) (is.joins s) net a b z c k kept port t frame lt (wired s port ∙ ap not e) (start refl)
     enters s port k a b z c t frame false e lt kept fits start =
         enter_link m Fit Keeps IsVariable IsFitContents laws f is.forwarding s links (low s) (decls s) (is.joins s) net a b z c k kept port t frame lt (wired s port ∙ ap not e) fits
 
-    started : (s : ℕ) (e : Tables) (c : ℕ → C) → OwnEntries s e → ((v : ℕ) → IsVariable v → IsFitContents v (c v))
-        → KeptBy m Fit Keeps s (kept_before f e) m.property.sensors c 0 (record { registers = start_cells (decls s).registers; tables = m.controls.loaded c e })
+    started : (s : ℕ) (e : Tables) (c : ℕ → C) → OwnEntries f e → ((v : ℕ) → IsVariable v → IsFitContents v (c v))
+        → KeptBy m Fit Keeps f s (kept_before f e) m.property.sensors c 0 (record { registers = start_cells (decls s).registers; tables = m.controls.loaded c e })
     started s e c entries fits =
         let joins = is.joins s in
         record {
@@ -129,5 +129,5 @@ module _ {T Z C : Type 0} (m : Monitor T Z C) (Fit : T → Type 0) (Keeps : Z �
 
     pub linked : IsLinkage m f net decls Fit Keeps IsVariable IsFitContents
     linked =
-        linkage net m.property (telemetry_of m) (KeptBy m Fit Keeps) (HeldBy m Fit Keeps links) Fit
-        (forwarding_machine m f net decls) (linked_machine m f net decls) (registers_of f m.sensors) OwnEntries IsVariable (λ s. IsFitContents) is.network laws_hold
+        linkage net m.property (telemetry_of m) (KeptBy m Fit Keeps f) (HeldBy m Fit Keeps links) Fit
+        (forwarding_machine m f net decls) (linked_machine m f net decls) (registers_of f m.sensors) (λ s. OwnEntries f) IsVariable (λ s. IsFitContents) is.network laws_hold

@@ -8,13 +8,11 @@ use Rattle.network_run.specs.Network.{Wiring, IsWiring}
 use Rattle.linkage.specs.Linkage.{SensorRegister, RegisterReading, Linkage}
 use Rattle.linkage.specs.HalvesLaws.{HalvesLaws}
 use Rattle.switch_machines.specs.Programs.{view_of, machine_of, machine_with, cells_of, ports_at}
-use Rattle.own_code.specs.Regions.{is_mine}
 use Rattle.own_code.specs.Forwarding.{IsForwarding}
-use Rattle.own_code.specs.OwnCode.{AreOwnEntries}
 use Rattle.monitor_laws.specs.Names.{rejects_register}
 use Rattle.monitor_laws.specs.Monitor.{Monitor, telemetry_of}
 use Rattle.linked_halves.specs.LinkedParts.{Declarations, Joins, linked_parts}
-use Rattle.linked_halves.specs.Held.{KeptBy, HeldBy}
+use Rattle.linked_halves.specs.Held.{OwnEntries, KeptBy, HeldBy}
 
 -- how registers are read: the forwarding program's, the sensors', and the one that counts rejected packets
 abbrev pub registers_of : {Z : Type 0} → Parts → List (SensorRegister Z (List ℕ)) → RegisterReading Kept Kept Z (List ℕ)
@@ -26,10 +24,6 @@ registers_of f sensors =
       sensors = sensors;
       rejects = rejects_register;
     }
-
--- a switch's own tables may hold any entries and defaults that run own actions
-abbrev pub OwnEntries : (switch : ℕ) → Tables → Type 0
-OwnEntries s e = (x : List ℕ) → is_mine x ≡ false → AreOwnEntries (e x)
 
 module _ {T Z C : Type 0} (m : Monitor T Z C) (f : Parts) (net : Wiring) (d : (switch : ℕ) → Declarations) where
   -- the program is one that is linked, the links join ports of switches, and each switch declares what the two do
@@ -50,11 +44,11 @@ module _ {T Z C : Type 0} (m : Monitor T Z C) (f : Parts) (net : Wiring) (d : (s
     -- a linked enter and a linked leave keep to the laws of the two halves
     abbrev pub KeepsHalves : Type 0
     KeepsHalves =
-        HalvesLaws net m.property (telemetry_of m) (KeptBy m Fit Keeps) (HeldBy m Fit Keeps (ports_at net.links)) Fit
-        forwarding_machine linked_machine (registers_of f m.sensors) OwnEntries IsVariable (λ s. IsFitContents)
+        HalvesLaws net m.property (telemetry_of m) (KeptBy m Fit Keeps f) (HeldBy m Fit Keeps (ports_at net.links)) Fit
+        forwarding_machine linked_machine (registers_of f m.sensors) (λ s. OwnEntries f) IsVariable (λ s. IsFitContents)
 
     -- the linked programs are a linkage
     abbrev pub IsLinkage : Type 0
     IsLinkage =
         Linkage forwarding_machine linked_machine net m.property (telemetry_of m)
-        (registers_of f m.sensors) OwnEntries IsVariable (λ s. IsFitContents)
+        (registers_of f m.sensors) (λ s. OwnEntries f) IsVariable (λ s. IsFitContents)

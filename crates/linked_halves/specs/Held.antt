@@ -1,7 +1,9 @@
 -- What the linked network keeps and queues, for what the forwarding network does.
-use Rattle.std.specs.Prelude.{◌≡◌, ℕ, ◌%◌, ◌^◌, List, [], ◌∷◌, Bool, false, None, ◌||◌, not, nat_eq}
+use Rattle.std.specs.Prelude.{◌≡◌, ℕ, ◌%◌, ◌^◌, List, [], ◌∷◌, Bool, false, Option, Some, None, ◌||◌, not, nat_eq}
 use Rattle.bit_values.specs.Bits.{word}
 use Rattle.p4_meaning.specs.Standard.{metadata_root, ingress_port, egress_spec, egress_port}
+use Rattle.p4_meaning.specs.Tables.{Table, table_named, Tables}
+use Rattle.p4_meaning.specs.Parts.{Parts}
 use Rattle.p4_meaning.specs.Pass.{Kept, Queued}
 use Rattle.own_code.specs.Regions.{is_mine}
 use Rattle.own_code.specs.Relations.{bare, Alike, IsPort}
@@ -16,16 +18,21 @@ abbrev pub is_in : ℕ → List ℕ → Bool
 is_in port [] = false
 is_in port (n ∷ ns) = nat_eq port n || is_in port ns
 
-module _ {T Z C : Type 0} (m : Monitor T Z C) (Fit : T → Type 0) (Keeps : Z → (ℕ → C) → Kept → Type 0) where
+-- a switch's own tables hold entries and defaults that run own actions
+abbrev pub OwnEntries : Parts → Tables → Type 0
+OwnEntries f held = (x : List ℕ) (t : Table) → table_named f.tables x ≡ Some t → AreOwnEntries (held x)
+
+module _ {T Z C : Type 0} (m : Monitor T Z C) (Fit : T → Type 0) (Keeps : Z → (ℕ → C) → Kept → Type 0) (f : Parts) where
   -- what a switch keeps: the program's own registers, the number of rejected packets, what own tables hold, and what
   -- stands for sensors and contents
   pub record KeptBy (s : ℕ) (a : Kept) (z : Z) (c : ℕ → C) (k : ℕ) (b : Kept) : Type 0 where
     pub own : (x : List ℕ) → is_mine x ≡ false → b.registers x ≡ a.registers x
     pub rejects : b.registers rejects_register ≡ word 32 (k % 2 ^ 32) ∷ []
     pub tables : (x : List ℕ) → is_mine x ≡ false → b.tables x ≡ a.tables x
-    pub entries : (x : List ℕ) → is_mine x ≡ false → AreOwnEntries (a.tables x)
+    pub entries : OwnEntries f a.tables
     pub monitor : Keeps z c b
 
+module _ {T Z C : Type 0} (m : Monitor T Z C) (Fit : T → Type 0) (Keeps : Z → (ℕ → C) → Kept → Type 0) where
   -- a queued packet, with the plain length in its place: the own headers, metadata and remaining bytes, the telemetry, and
   -- the port by which the frame came
   pub record HoldsCore (links : ℕ → List ℕ) (s : ℕ) (first : Bool) (q : Queued) (t : T) (q' : Queued) : Type 0 where

@@ -140,16 +140,17 @@ module _ (as' all : List Action) (own : AllByRecursion IsOwnAction as') where
   chosen_same d (Some e) a b default listed h = behind_same e.action e.args true a b listed h
 
   -- an own table that holds the same makes one choice
-  apply_same : (o : Option Table) (n : Entries) (a b : Run) → IsOwnTableIf o → RunsSame as' all n → Alike a b → RanTest b (apply_if as' o n a) (apply_if all o n b)
+  apply_same : (o : Option Table) (n : Entries) (a b : Run) → IsOwnTableIf o → ((t : Table) → o ≡ Some t → RunsSame as' all n) → Alike a b → RanTest b (apply_if as' o n a) (apply_if all o n b)
   apply_same None n a b o runs h = record { alike = h; stays = stays_same b; goes = refl; goes_on = refl; hit = refl }
-  apply_same (Some t) n a b o runs h =
+  apply_same (Some t) n a b o each h =
+      let runs = each t refl in
       let ternary = has_ternary t.keys in
       let ks = key_words t.keys a.store in
       subst (λ ws. RanTest b (apply_if as' (Some t) n a) (chosen_runs all n.default (choice_of ternary n.listed ws) b)) (sym (keys_same t.keys a b o.keys h))
       (chosen_same n.default (choice_of ternary n.listed ks) a b runs.default (choice_all (λ e. IsSameAction as' all e.action) ternary n.listed ks runs.listed) h)
 
   -- own actions and own tables do the same, where own tables hold the same, and what they choose runs the same
-  pub more_alike : (ts every : List Table) (held held' : Tables) → AllByRecursion IsOwnTable ts → HasOwn as' all ts every → HoldSame held held' → ((x : List ℕ) → is_mine x ≡ false → RunsSame as' all (held x)) → AreAlikeCalls (calls_in as' ts held) (calls_in all every held')
+  pub more_alike : (ts every : List Table) (held held' : Tables) → AllByRecursion IsOwnTable ts → HasOwn as' all ts every → HoldSame held held' → ((x : List ℕ) (t : Table) → table_named ts x ≡ Some t → RunsSame as' all (held x)) → AreAlikeCalls (calls_in as' ts held) (calls_in all every held')
   more_alike ts every held held' tables has same runs =
       record {
         actions = λ x es a b o h.
@@ -162,11 +163,11 @@ module _ (as' all : List Action) (own : AllByRecursion IsOwnAction as') where
             let t = table_named ts x in
             subst (λ i. RanTest b (apply_if as' t (held x) a) (apply_if all i (held' x) b)) (sym (has.same_tables x o))
             (subst (λ n. RanTest b (apply_if as' t (held x) a) (apply_if all t n b)) (sym (same x o))
-            (apply_same t (held x) a b (found_table ts x tables) (runs x o) h));
+            (apply_same t (held x) a b (found_table ts x tables) (runs x) h));
       }
 
 -- so do they in two runs of one program
 pub calls_alike : (as' : List Action) → AllByRecursion IsOwnAction as' → (ts : List Table) (held held' : Tables) → AllByRecursion IsOwnTable ts → HoldSame held held' → AreAlikeCalls (calls_in as' ts held) (calls_in as' ts held')
 calls_alike as' own ts held held' tables same =
     more_alike as' as' own ts ts held held' tables (record { same_actions = λ x o. refl; same_tables = λ x o. refl }) same
-    (λ x o. record { listed = all_refl as' (held x).listed; default = refl })
+    (λ x t is. record { listed = all_refl as' (held x).listed; default = refl })

@@ -9,16 +9,15 @@
 //! Not promised: `return` and `exit`, in actions neither.
 #![tactic(auto)]
 
-ghost use Rattle.std.specs.Prelude.{◌≡◌, ℕ, List, false};
+ghost use Rattle.std.specs.Prelude.{◌≡◌, ℕ, List, Some};
 ghost use Rattle.std.specs.List.{AllByRecursion};
 ghost use Rattle.p4_tree.specs.Tree.{Expr, Stmts};
 ghost use Rattle.p4_meaning.specs.Statements.{Run, Act, done_by, Calls, no_calls, tested, meaning_of};
 ghost use Rattle.p4_meaning.specs.Actions.{Action};
-ghost use Rattle.p4_meaning.specs.Tables.{Table, Tables, calls_in};
+ghost use Rattle.p4_meaning.specs.Tables.{Table, table_named, Tables, calls_in};
 ghost use Rattle.own_code.specs.Forwarding.{IsOwnAct, IsOwnTest, AreOwnStmts, IsOwnAction, IsOwnTable};
 ghost use Rattle.own_code.specs.Relations.{Alike};
 ghost use Rattle.own_code.specs.OwnCode.{Ran, RanTest, AreAlikeCalls, HasOwn, HoldSame, RunsSame};
-ghost use Rattle.own_code.specs.Regions.{is_mine};
 
 /// Own code on runs that are alike ends alike, goes on, and leaves the monitor's part as it was,
 /// whatever actions and tables do, if these keep to the same. So do own actions, and own tables
@@ -37,7 +36,7 @@ pub fn own_code_does_the_same()
         AreAlikeCalls (calls_in actions tables held) (calls_in actions tables held') }
     ensures more_calls { (actions actions' : List Action) (tables tables' : List Table) (held held' : Tables) →
         AllByRecursion IsOwnAction actions → AllByRecursion IsOwnTable tables → HasOwn actions actions' tables tables' →
-        HoldSame held held' → ((x : List ℕ) → is_mine x ≡ false → RunsSame actions actions' (held x)) →
+        HoldSame held held' → ((x : List ℕ) (t : Table) → table_named tables x ≡ Some t → RunsSame actions actions' (held x)) →
         AreAlikeCalls (calls_in actions tables held) (calls_in actions' tables' held') }
     ensures no_calls { AreAlikeCalls no_calls no_calls }
 {}
