@@ -6,7 +6,7 @@ use Rattle.std.specs.Option.{option_map}
 use Rattle.std.proofs.Math.Nat.{mod-eq_of_lt}
 use Rattle.bit_values.specs.Bits.{Word, word}
 use Rattle.bit_values.specs.Widths.{bit, holds, either_width, sound_width, cast_word}
-use Rattle.p4_tree.specs.Tree.{Expr, path, negation, binary}
+use Rattle.p4_tree.specs.Tree.{Expr, flag, path, negation, binary}
 use Rattle.p4_tree.specs.declared.statement.Op.TheVariants.{Equal, Either}
 use Rattle.p4_meaning.specs.Store.{Store, read}
 use Rattle.p4_meaning.specs.Value.{value_of}
@@ -157,3 +157,28 @@ unless_port calls p links ss b port e lt low =
     out : (t : Bool) (x y : Ended) → (if holds (bit (not t)) then x else y) ≡ (if t then y else x)
     out true x y = refl
     out false x y = refl
+
+-- ---- trees of tests
+
+-- what changes no test of a port changes no tests that are joined
+module _ (change : Expr → Expr) (both : (a b : Expr) → change (binary 0 Either a b) ≡ binary 0 Either (change a) (change b)) (none : change (flag 0 false) ≡ flag 0 false) where
+  pairs_changed : (es : List Expr) → map change (joined_pairs es) ≡ joined_pairs (map change es)
+  pairs_changed [] = refl
+  pairs_changed (a ∷ []) = refl
+  pairs_changed (a ∷ b ∷ es) = ap₂ (λ (x : Expr) (l : List Expr). x ∷ l) (both a b) (pairs_changed es)
+
+  joined_changed : (n : ℕ) (es : List Expr) → map change (joined n es) ≡ joined n (map change es)
+  joined_changed zero es = refl
+  joined_changed (suc n) es = joined_changed n (joined_pairs es) ∙ ap (joined n) (pairs_changed es)
+
+  any_changed : (es : List Expr) → change (any_of es) ≡ any_of (map change es)
+  any_changed [] = none
+  any_changed (a ∷ []) = refl
+  any_changed (a ∷ b ∷ es) = both a (any_of (b ∷ es)) ∙ ap (binary 0 Either (change a)) (any_changed (b ∷ es))
+
+  tests_changed : (p : List (List ℕ)) → ((n : ℕ) → change (port_test p n) ≡ port_test p n) → (ports : List ℕ) → map change (map (port_test p) ports) ≡ map (port_test p) ports
+  tests_changed p same [] = refl
+  tests_changed p same (n ∷ ns) = ap₂ (λ (x : Expr) (l : List Expr). x ∷ l) (same n) (tests_changed p same ns)
+
+  pub port_of_changed : (p : List (List ℕ)) → ((n : ℕ) → change (port_test p n) ≡ port_test p n) → (ports : List ℕ) → change (is_port_of p ports) ≡ is_port_of p ports
+  port_of_changed p same ports = any_changed (joined 9 (map (port_test p) ports)) ∙ ap any_of (joined_changed 9 (map (port_test p) ports) ∙ ap (joined 9) (tests_changed p same ports))

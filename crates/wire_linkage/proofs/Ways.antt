@@ -1,6 +1,7 @@
 -- The way of one packet is the run of the network law.
 use Rattle.std.proofs.Common.{◌≡◌, ℕ, zero, suc, ◌+◌, ◌<◌, List, [], ◌∷◌, ◌++◌, map, length, Bool, true, false, not, cond, ◌&&◌, ◌||◌, Option, Some, None, refl, sym, ap, ap₂, ◌∙◌, subst, arith, append-nil, append_assoc}
 use Rattle.std.specs.Prelude.{nat_eq, nat_lt, nat_le, slice_get, slice_set, ◌==◌}
+use Rattle.std.specs.Option.{option_map}
 use Rattle.std.proofs.lemmas.List.{map-append}
 use Rattle.std.proofs.lemmas.Bool.Decides.{nat_tests}
 use Rattle.std.proofs.lemmas.List.Elements.{All-cons, All-nil}
@@ -23,10 +24,10 @@ use Rattle.p4_passages.specs.Waiting.{goes_to}
 use Rattle.wire_machine.specs.Machine.{Machine}
 use Rattle.wire_network.specs.Travel.{Net, Fate, left, dropped, lost, left_from, passed, is_end, far_end, Way, on_link, behind, at_switch, no_way, travel}
 use Rattle.wire_network.specs.declared.link.Link.{Link}
-use Rattle.linked_halves.specs.Telemetry.{telemetry_of}
-use Rattle.linked_halves.specs.Networks.{network_digest, kept_behind, machine_of, going_of}
+use Rattle.switch_machines.specs.Programs.{network_digest, kept_behind, going_of}
+use Rattle.small_monitor.specs.Telemetry.{telemetry_of}
 use Rattle.wire_program.specs.Network.{wire_line}
-use Rattle.wire_linkage.specs.Line.{program_at, line_of, one_packet, run_of_frame}
+use Rattle.wire_linkage.specs.Line.{program_at, machine_at, line_of, one_packet, run_of_frame}
 use Rattle.wire_linkage.specs.Ways.{wire_line_links, machines, net_before, told_of, edges_of, dropped_of, lost_of, ShowsWay}
 
 eq_by : (a b : ℕ) (c d : Bool) → nat_eq a b ≡ c → nat_eq b a ≡ d → c ≡ d
@@ -116,14 +117,14 @@ module _ (parts : ℕ → Parts) where
     W = law.Net Kept Queued Contents
 
     abbrev run : W → List (Event Contents) → W
-    run = run_of_halves (machine_of parts) wire_line limits
+    run = run_of_halves (machine_at parts) wire_line limits
 
     -- the packet is at its end
     over_stays : (k : ℕ) (w : W) → w.packets 0 ≡ Over → run w (to_its_end 0 k) ≡ w
-    over_stays zero w e = ap (leaves (machine_of parts) wire_line limits w 0) e
+    over_stays zero w e = ap (leaves (machine_at parts) wire_line limits w 0) e
     over_stays (suc k) w e =
-        ap (λ u. run (enters (machine_of parts) wire_line limits u 0 (u.packets 0)) (to_its_end 0 k)) (ap (leaves (machine_of parts) wire_line limits w 0) e)
-        ∙ ap (λ u. run u (to_its_end 0 k)) (ap (enters (machine_of parts) wire_line limits w 0) e)
+        ap (λ u. run (enters (machine_at parts) wire_line limits u 0 (u.packets 0)) (to_its_end 0 k)) (ap (leaves (machine_at parts) wire_line limits w 0) e)
+        ∙ ap (λ u. run u (to_its_end 0 k)) (ap (enters (machine_at parts) wire_line limits w 0) e)
         ∙ over_stays k w e
 
     -- what follows a passage, of which so many may come yet
@@ -133,9 +134,9 @@ module _ (parts : ℕ → Parts) where
 
     over_rests : (k : ℕ) (w : W) → w.packets 0 ≡ Over → run w (behind_it k) ≡ w
     over_rests zero w e = refl
-    over_rests (suc k) w e = ap (λ u. run u (to_its_end 0 k)) (ap (enters (machine_of parts) wire_line limits w 0) e) ∙ over_stays k w e
+    over_rests (suc k) w e = ap (λ u. run u (to_its_end 0 k)) (ap (enters (machine_at parts) wire_line limits w 0) e) ∙ over_stays k w e
 
-    next_events : (k : ℕ) (w : W) → run w (to_its_end 0 k) ≡ run (leaves (machine_of parts) wire_line limits w 0 (w.packets 0)) (behind_it k)
+    next_events : (k : ℕ) (w : W) → run w (to_its_end 0 k) ≡ run (leaves (machine_at parts) wire_line limits w 0 (w.packets 0)) (behind_it k)
     next_events zero w = refl
     next_events (suc k) w = refl
 
@@ -272,7 +273,7 @@ module _ (parts : ℕ → Parts) where
         by_far g (Some far) e =
             by_link g far (far_end_is wire_line wire_line_is s g.port far e).known k refl (nat_lt limit (length g.frame)) (nat_le (length g.frame) limit) (more_is limit (length g.frame)) onward
 
-        leaves_by : (o : Option pass.Going) → ShowsWay parts (run (law_run.went wire_line limits here 0 s port m (going_of o)) (behind_it k)) (behind more wire_line_links limit there s (goes_to o))
+        leaves_by : (o : Option pass.Going) → ShowsWay parts (run (law_run.went wire_line limits here 0 s port m (option_map (going_of (λ s. [])) o)) (behind_it k)) (behind more wire_line_links limit there s (goes_to o))
         leaves_by None = dropped_there
         leaves_by (Some g) =
             subst (λ far. ShowsWay parts (run (law_run.sent wire_line limits (logged g) 0 s m (law_going g) (law.far_end wire_line s g.port) (length here.log)) (behind_it k)) (on_link more limit there s g.port g.frame far)) (far_same s g.port)
@@ -286,7 +287,7 @@ module _ (parts : ℕ → Parts) where
       kept_then cells = kept_behind (w.switches s).tables cells
 
       -- where the packet is queued, or dropped
-      queued_by : (cells : Registers) (ds : List Digest) (o : Option Queued) → ShowsWay parts (run (leaves (machine_of parts) wire_line limits (in_queue (kept_then cells) ds o) 0 ((in_queue (kept_then cells) ds o).packets 0)) (behind_it k)) (behind more wire_line_links limit (passed n s (left_from machine cells ds o)) s (left_from machine cells ds o).out)
+      queued_by : (cells : Registers) (ds : List Digest) (o : Option Queued) → ShowsWay parts (run (leaves (machine_at parts) wire_line limits (in_queue (kept_then cells) ds o) 0 ((in_queue (kept_then cells) ds o).packets 0)) (behind_it k)) (behind more wire_line_links limit (passed n s (left_from machine cells ds o)) s (left_from machine cells ds o).out)
       queued_by cells ds None =
           subst (λ v. ShowsWay parts v (net_by (kept_then cells) ds, dropped)) (sym (over_rests k (in_queue (kept_then cells) ds None) refl))
           (record {
@@ -298,17 +299,17 @@ module _ (parts : ℕ → Parts) where
           })
       queued_by cells ds (Some q) =
           let half = parts_leave (parts s) (w.switches s).tables cells q in
-          subst (λ cs. ShowsWay parts (run (law_run.left wire_line limits (in_queue (kept_then cells) ds (Some q)) 0 s port m ((machine_of parts).leave s cs q)) (behind_it k)) (behind more wire_line_links limit (passed n s (left_from machine cells ds (Some q))) s (left_from machine cells ds (Some q)).out)) (sym (put_at w.switches s (kept_then cells)))
+          subst (λ cs. ShowsWay parts (run (law_run.left wire_line limits (in_queue (kept_then cells) ds (Some q)) 0 s port m ((machine_at parts).leave s cs q)) (behind_it k)) (behind more wire_line_links limit (passed n s (left_from machine cells ds (Some q))) s (left_from machine cells ds (Some q)).out)) (sym (put_at w.switches s (kept_then cells)))
           (leaves_by (kept_then cells) ds q (kept_then half.registers) half.digests half.going)
 
       step : ShowsWay parts (run w (Enter 0 ∷ to_its_end 0 k)) (at_switch more wire_line_links limit n s port frame (slice_get n.switches s))
       step =
           let half = parts_enter (parts s) (w.switches s).tables (w.switches s).registers port frame in
           let queue = in_queue (kept_then half.registers) half.digests half.queued in
-          let enters_is : run w (Enter 0 ∷ to_its_end 0 k) ≡ run queue (to_its_end 0 k) = ap (λ x. run (enters (machine_of parts) wire_line limits w 0 x) (to_its_end 0 k)) comes.place in
+          let enters_is : run w (Enter 0 ∷ to_its_end 0 k) ≡ run queue (to_its_end 0 k) = ap (λ x. run (enters (machine_at parts) wire_line limits w 0 x) (to_its_end 0 k)) comes.place in
           let known_machine : slice_get n.switches s ≡ Some machine = ap (λ l. slice_get l s) comes.switches ∙ machine_is w.switches s comes.known in
           subst (λ v. ShowsWay parts v (at_switch more wire_line_links limit n s port frame (slice_get n.switches s))) (sym (enters_is ∙ next_events k queue))
-          (subst (λ o. ShowsWay parts (run (leaves (machine_of parts) wire_line limits queue 0 (queue.packets 0)) (behind_it k)) (at_switch more wire_line_links limit n s port frame o)) (sym known_machine)
+          (subst (λ o. ShowsWay parts (run (leaves (machine_at parts) wire_line limits queue 0 (queue.packets 0)) (behind_it k)) (at_switch more wire_line_links limit n s port frame o)) (sym known_machine)
           (queued_by half.registers half.digests half.queued))
 
     follows : (k : ℕ) → Follows k (travel k wire_line_links limit)
@@ -317,10 +318,10 @@ module _ (parts : ℕ → Parts) where
 
   -- the first step leaves the packet where it is
   from_start : (k limit : ℕ) (w : law.Net Kept Queued Contents) (n : Net) (s port : ℕ) (frame : List ℕ) → Comes (suc k) limit w n s port frame 0
-      → ShowsWay parts (run_of_halves (machine_of parts) wire_line (limits (suc k) limit) w (to_its_end 0 (suc k) ++ [])) (travel k wire_line_links limit n s port frame)
+      → ShowsWay parts (run_of_halves (machine_at parts) wire_line (limits (suc k) limit) w (to_its_end 0 (suc k) ++ [])) (travel k wire_line_links limit n s port frame)
   from_start k limit w n s port frame comes =
-      subst (λ es. ShowsWay parts (run_of_halves (machine_of parts) wire_line (limits (suc k) limit) w es) (travel k wire_line_links limit n s port frame)) (sym (append-nil (to_its_end 0 (suc k))))
-      (subst (λ v. ShowsWay parts (run_of_halves (machine_of parts) wire_line (limits (suc k) limit) v (Enter 0 ∷ to_its_end 0 k)) (travel k wire_line_links limit n s port frame)) (sym (ap (leaves (machine_of parts) wire_line (limits (suc k) limit) w 0) comes.place))
+      subst (λ es. ShowsWay parts (run_of_halves (machine_at parts) wire_line (limits (suc k) limit) w es) (travel k wire_line_links limit n s port frame)) (sym (append-nil (to_its_end 0 (suc k))))
+      (subst (λ v. ShowsWay parts (run_of_halves (machine_at parts) wire_line (limits (suc k) limit) v (Enter 0 ∷ to_its_end 0 k)) (travel k wire_line_links limit n s port frame)) (sym (ap (leaves (machine_at parts) wire_line (limits (suc k) limit) w 0) comes.place))
       (follows (suc k) limit k w n s port frame 0 comes (let all : 0 + suc k ≡ suc k = omega arith in all)))
 
 pub way_is_run : (p : Property) (frame : List ℕ) → ShowsWay (λ s. parts_of (program_at p s)) (run_of_frame (program_at p) p frame) (travel 63 wire_line_links (longest_frame + (telemetry_of p.decls).size) (net_before p) 0 1 frame)

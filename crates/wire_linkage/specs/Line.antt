@@ -2,7 +2,7 @@
 -- `wire_program`'s `Network` before it.
 use Rattle.std.specs.Prelude.{ℕ, List, [], ◌∷◌}
 use Rattle.p4_tree.specs.Tree.{Program}
-use Rattle.p4_meaning.specs.Parts.{parts_of}
+use Rattle.p4_meaning.specs.Parts.{Parts, parts_of}
 use Rattle.p4_meaning.specs.Tables.{Tables, tables_before}
 use Rattle.p4_meaning.specs.Pass.{Kept, Queued}
 use Rattle.indus_tree.specs.Tree.{Property}
@@ -13,20 +13,32 @@ use Rattle.network_run.specs.World.{World, net_at_end}
 use Rattle.wire_program.specs.Network.{wire_line}
 use Rattle.wire_program.specs.WireProgram.{wire_program}
 use Rattle.wire_linker.specs.Linked.{linked_wire}
-use Rattle.linked_halves.specs.Telemetry.{telemetry_of}
-use Rattle.linked_halves.specs.Networks.{machine_of, ports_at}
+use Rattle.switch_machines.specs.Programs.{machine_of, ports_at}
+use Rattle.small_monitor.specs.Telemetry.{telemetry_of}
 
 -- the linked program of a switch
 abbrev pub program_at : Property → (switch : ℕ) → Program
 program_at p s = linked_wire p (ports_at wire_line.links s)
 
+-- parts of programs at the switches. Header variables read nothing
+abbrev pub machine_at : (parts : (switch : ℕ) → Parts) → Machine Tables Kept Queued Contents
+machine_at parts = machine_of (record { program = parts; reads = λ s. [] })
+
 -- these programs at the switches
 abbrev pub line_of : (programs : (switch : ℕ) → Program) → Machine Tables Kept Queued Contents
-line_of programs = machine_of (λ s. parts_of (programs s))
+line_of programs = machine_at (λ s. parts_of (programs s))
 
 -- the wire program at each switch
 abbrev pub plain_line : Machine Tables Kept Queued Contents
 plain_line = line_of (λ s. wire_program)
+
+-- a switch's tables may hold any entries and defaults at the start, since the wire program has no table, and there are no
+-- control variables
+abbrev pub AnyEntries : (switch : ℕ) → Tables → Type 0
+AnyEntries s e = Unit {0}
+
+abbrev pub NoContents : (switch variable : ℕ) → Contents → Type 0
+NoContents s v c = ⊥
 
 -- one packet that comes to the first switch by port 1 and may pass 64 switches, without a schedule: it goes on
 -- to its end. Nothing is loaded into tables, and no number names a control variable, so their contents are no matter

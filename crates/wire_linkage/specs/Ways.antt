@@ -10,7 +10,7 @@ use Rattle.network_run.specs.Network as law
 use Rattle.wire_machine.specs.Machine.{Machine}
 use Rattle.wire_network.specs.Travel.{Net, Fate, left, dropped, lost}
 use Rattle.wire_network.specs.declared.link.Link.{Link}
-use Rattle.linked_halves.specs.Networks.{network_digest}
+use Rattle.switch_machines.specs.Programs.{network_digest}
 use Rattle.wire_linkage.specs.Line.{program_at}
 
 -- the links of `wire_line`, as the program holds them

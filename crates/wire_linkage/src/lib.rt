@@ -17,18 +17,23 @@ ghost use Rattle.indus_tree.specs.Tree.{Property};
 ghost use Rattle.network_run.specs.NetworkRun.{longest_frame};
 ghost use Rattle.network_run.specs.World.{IsValid};
 ghost use Rattle.wire_network.specs.Travel.{travel};
-ghost use Rattle.linked_halves.specs.Telemetry.{telemetry_of};
-ghost use Rattle.linked_halves.specs.Given.{AnyEntries, NoVariable, NoContents};
+ghost use Rattle.small_monitor.specs.Telemetry.{telemetry_of};
+ghost use Rattle.small_monitor.specs.Small.{NoVariable};
 ghost use Rattle.wire_program.specs.Network.{wire_line};
-ghost use Rattle.wire_linkage.specs.Line.{one_packet, program_at, run_of_frame};
+ghost use Rattle.wire_linkage.specs.Line.{AnyEntries, NoContents, one_packet, program_at, run_of_frame};
 ghost use Rattle.wire_linkage.specs.Linkage.{IsWireLinkage};
 ghost use Rattle.wire_linkage.specs.Ways.{ShowsWay, wire_line_links, net_before};
+
+use linked_halves::monitored_parts_are_a_linkage;
+use small_monitor::SmallGrammar;
 
 /// For every small property the linked wire programs are a linkage of the wire
 /// program and the property on the line of three switches.
 pub fn wire_programs_are_a_linkage()
     ensures { (p : Property) → IsSmall p → IsWireLinkage (program_at p) p }
-{}
+{
+    monitored_parts_are_a_linkage::<SmallGrammar>();
+}
 
 /// The world of one packet is among those worlds, where its frame has at most 65,535 bytes.
 pub fn one_packet_is_valid()

@@ -1,8 +1,9 @@
 use Rattle.std.proofs.Common.{[], refl, arith}
 use Rattle.std.proofs.lemmas.List.Elements.{All-nil, All-cons}
 use Rattle.network_run.specs.World.{IsArrival, IsFitEvent}
-use Rattle.linked_halves.specs.Given.{NoVariable, NoContents}
+use Rattle.small_monitor.specs.Small.{NoVariable}
 use Rattle.wire_program.specs.Network.{wire_line}
+use Rattle.wire_linkage.specs.Line.{NoContents}
 use Rattle.wire_linkage.proofs.one_packet_is_valid.Goals as goal
 
 pub returns : goal.returns
