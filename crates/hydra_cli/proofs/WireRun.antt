@@ -16,7 +16,7 @@ use Rattle.wire_machine.specs.Machine.{Machine}
 use Rattle.wire_network.specs.Travel.{Net, Fate, left, dropped, lost, travel}
 use Rattle.wire_network.specs.Fates.{net_of}
 use Rattle.wire_network.specs.declared.link.Told as code
-use Rattle.linked_halves.specs.Telemetry.{telemetry_of}
+use Rattle.small_monitor.specs.Telemetry.{telemetry_of}
 use Rattle.wire_linkage.specs.Line.{program_at, run_of_frame}
 use Rattle.wire_linkage.specs.Ways.{wire_line_links, net_before, told_of, edges_of, dropped_of, lost_of, ShowsWay}
 use Rattle.wire_linkage.proofs.Ways.{way_is_run}

@@ -1,7 +1,7 @@
 -- The headline of docs/HEADLINE.md, phrase by phrase, as far as `wire` has it: for a small property,
 -- on three switches in a line whose forwarding program passes frames on. Read `Linkage` of the
 -- linkage after it, and `World`, `NetworkRun` and `PathMeaning` of the network's run.
-use Rattle.std.specs.Prelude.{◌≡◌, ℕ, ◌+◌, ◌<◌, List, ◌++◌, map, filter, not}
+use Rattle.std.specs.Prelude.{◌≡◌, ℕ, ◌+◌, ◌<◌, List, [], ◌++◌, map, filter, not}
 use Rattle.p4_tree.specs.Tree.{Program}
 use Rattle.p4_meaning.specs.Parts.{parts_of}
 use Rattle.p4_meaning.specs.Tables.{Tables}
@@ -12,12 +12,12 @@ use Rattle.network_run.specs.Network.{times, one_if}
 use Rattle.network_run.specs.PathMeaning.{Path, path_meaning, rejects}
 use Rattle.network_run.specs.World.{World, IsValid, net_after}
 use Rattle.linkage.specs.Linkage.{SameRegisters, is_report, told_report}
-use Rattle.linked_halves.specs.Given.{AnyEntries, NoVariable, NoContents}
-use Rattle.linked_halves.specs.Networks.{registers_of}
-use Rattle.linked_halves.specs.Telemetry.{telemetry_of}
+use Rattle.linked_halves.specs.Given.{registers_of}
+use Rattle.small_monitor.specs.Telemetry.{telemetry_of}
+use Rattle.small_monitor.specs.Small.{NoVariable}
 use Rattle.wire_program.specs.WireProgram.{wire_program}
 use Rattle.wire_program.specs.Network.{wire_line}
-use Rattle.wire_linkage.specs.Line.{plain_line, line_of, run_of_frame}
+use Rattle.wire_linkage.specs.Line.{AnyEntries, NoContents, plain_line, line_of, run_of_frame}
 use Rattle.p4_printer.specs.Programs.{program_text}
 use Rattle.p4_printer.specs.Printed.{IsPrinted}
 use Rattle.job_course.specs.Output.{Out}
@@ -59,4 +59,4 @@ pub record Headline (p : Property) (frame out : List ℕ) (given : Out) : Type 0
       linked.edges ≡ filter (λ x. not (rejects path x.packet)) alone.edges)
   -- and with the forwarding registers, of the forwarding program alone.
   pub registers : InEveryWorld p programs (λ alone linked path.
-      (s : ℕ) → s < wire_line.switches → SameRegisters (registers_of (parts_of wire_program)) (alone.switches s) (linked.switches s))
+      (s : ℕ) → s < wire_line.switches → SameRegisters (registers_of (parts_of wire_program) []) (alone.switches s) (linked.switches s))

@@ -8,7 +8,7 @@ use Rattle.p4_meaning.specs.Statements.{cell_at}
 use Rattle.p4_meaning.specs.Pass.{Kept, Queued}
 use Rattle.network_run.specs.Network.{Net}
 use Rattle.linkage.specs.Linkage.{is_report}
-use Rattle.linked_halves.specs.Monitor.{rejects_register}
+use Rattle.monitor_laws.specs.Names.{rejects_register}
 use Rattle.p4_printer.specs.Programs.{program_text}
 
 -- the file of a switch's linked program: its printed text

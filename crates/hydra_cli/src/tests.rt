@@ -316,30 +316,35 @@ fn statuses_are_the_numbers_from_0_on(rt: HostRuntime) {
 const S2: &str = "\
 header hydra_tele_t { bit < 8 > hydra_mark ; bit < 8 > hydra_v_n ; }
 register < bit < 32 > > ( 1 ) hydra_rejects ;
-struct metadata { } struct headers { hydra_tele_t hydra_tele ; }
+struct metadata { bit < 32 > hydra_length ; } struct headers { hydra_tele_t hydra_tele ; }
 parser WireParser ( packet_in packet , out headers hdr , inout metadata meta ,
 inout standard_metadata_t standard_metadata ) {
-state start { transition select ( standard_metadata . ingress_port ) {
+state start { meta . hydra_length = standard_metadata . packet_length ;
+transition select ( standard_metadata . ingress_port ) {
 1 : hydra_taken ; 2 : hydra_taken ; default : hydra_start ; } }
-state hydra_taken { packet . extract ( hdr . hydra_tele ) ; transition hydra_start ; }
+state hydra_taken { packet . extract ( hdr . hydra_tele ) ;
+meta . hydra_length = ( standard_metadata . packet_length - 2 ) ; transition hydra_start ; }
 state hydra_start { transition accept ; } }
 control WireVerify ( inout headers hdr , inout metadata meta ) { apply { } }
 control WireIngress ( inout headers hdr , inout metadata meta ,
 inout standard_metadata_t standard_metadata ) { apply {
 if ( ( ! ( ( standard_metadata . ingress_port == 1 ) ||
-( ( standard_metadata . ingress_port == 2 ) || false ) ) ) ) {
+( standard_metadata . ingress_port == 2 ) ) ) ) {
 hdr . hydra_tele . setValid ( ) ; hdr . hydra_tele . hydra_mark = 8w72 ; }
 if ( ( standard_metadata . ingress_port == 1 ) ) { standard_metadata . egress_spec = 2 ; }
 else { standard_metadata . egress_spec = 1 ; } } }
 control WireEgress ( inout headers hdr , inout metadata meta ,
-inout standard_metadata_t standard_metadata ) { apply {
+inout standard_metadata_t standard_metadata ) {
+bool hydra_first ; bool hydra_last ; bool hydra_rejected ; apply {
 if ( ( standard_metadata . egress_spec != 511 ) ) {
+hydra_first = ( ! ( ( standard_metadata . ingress_port == 1 ) ||
+( standard_metadata . ingress_port == 2 ) ) ) ;
+hydra_last = ( ! ( ( standard_metadata . egress_port == 1 ) ||
+( standard_metadata . egress_port == 2 ) ) ) ;
 hdr . hydra_tele . hydra_v_n = ( hdr . hydra_tele . hydra_v_n + 8w1 ) ;
-if ( ( ! ( ( standard_metadata . egress_port == 1 ) ||
-( ( standard_metadata . egress_port == 2 ) || false ) ) ) ) {
-bool hydra_rejected = false ;
-if ( ( hdr . hydra_tele . hydra_v_n == 8w2 ) ) { hydra_rejected = true ; }
-hdr . hydra_tele . setInvalid ( ) ; if ( hydra_rejected ) {
+if ( hydra_last ) { hydra_rejected = false ;
+if ( ( hdr . hydra_tele . hydra_v_n == 8w2 ) ) { hydra_rejected = true ; } }
+if ( hydra_last ) { hdr . hydra_tele . setInvalid ( ) ; if ( hydra_rejected ) {
 bit < 32 > hydra_count ; hydra_rejects . read ( hydra_count , 0 ) ;
 hydra_rejects . write ( 0 , ( hydra_count + 1 ) ) ; mark_to_drop ( standard_metadata ) ; }
 } } } } control WireCompute ( inout headers hdr , inout metadata meta ) { apply { } }

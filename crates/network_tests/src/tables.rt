@@ -2,7 +2,7 @@
 ghost use Rattle.std.specs.Prelude.{◌≡◌, [], ◌∷◌, Some, None};
 ghost use Rattle.bit_values.specs.Bits.{word};
 ghost use Rattle.p4_meaning.specs.Parts.{parts_of};
-ghost use Rattle.linked_halves.specs.Forwarding.{IsForwarding};
+ghost use Rattle.own_code.specs.Forwarding.{IsForwarding};
 ghost use Rattle.network_tests.specs.Routing.{go_by, holding, nothing, port_for, routing, way_of};
 
 /// The program is among those of which linkage is a law.

@@ -42,7 +42,11 @@ fn linked_program_has_these_parts(rt: HostRuntime) -> Result<(), Fail> {
         assert!(rt; state.name.as_str() == name);
     }
     assert!(rt; parts.ingress.body.len() == 2 && parts.egress.body.len() == 1);
-    assert!(rt; parts.metadata.is_empty() && parts.verify.body.is_empty());
+    match parts.metadata.as_slice() {
+        [length] => assert!(rt; length.name.as_str() == "hydra_length" && length.width == 32),
+        _ => assert!(rt; false),
+    }
+    assert!(rt; parts.egress.locals.len() == 3 && parts.verify.body.is_empty());
     assert!(rt; parts.compute.body.is_empty());
     Ok(())
 }
