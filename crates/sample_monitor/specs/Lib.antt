@@ -1,0 +1,3 @@
+-- What callers rest on: a property made by hand, and its monitor.
+pub mod Property
+pub mod Sample
