@@ -1,0 +1,5 @@
+pub mod Steps
+pub mod Cells
+pub mod Lookups
+pub mod States
+pub mod Entry

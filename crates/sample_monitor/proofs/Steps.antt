@@ -1,0 +1,114 @@
+-- Statements one by one: what holds of a run before a statement gives what holds behind it.
+use Rattle.std.proofs.Common.{◌≡◌, ℕ, List, [], ◌∷◌, ◌++◌, Bool, true, false, not, cond, Option, Some, None, refl, sym, ap, ◌∙◌, subst, append-nil}
+use Rattle.std.specs.Prelude.{if◌then◌else◌}
+use Rattle.std.specs.List.{filter}
+use Rattle.std.proofs.lemmas.List.Elements.{filter-append}
+use Rattle.bit_values.specs.Bits.{Word}
+use Rattle.bit_values.specs.Widths.{bit, holds, sound_width, cast_word}
+use Rattle.lex_text.specs.Names.{parent}
+use Rattle.p4_tree.specs.Tree.{Expr, Stmt, Stmts, MaybeStmt, assign, choice, done, next}
+use Rattle.p4_meaning.specs.Standard.{is_assignable}
+use Rattle.p4_meaning.specs.Store.{Store, set_value, written}
+use Rattle.p4_meaning.specs.Value.{value_of}
+use Rattle.p4_meaning.specs.Statements.{Flow, Go, Digest, Run, Ended, after, in_store, put_cells, Calls, application, assigned, tested_by, meaning_of_stmt, meaning_of_else, meaning_of}
+use Rattle.linkage.specs.Linkage.{report_receiver}
+use Rattle.own_code.specs.Relations.{is_report}
+use Rattle.own_code.proofs.Apart.{apart, apart_names}
+use Rattle.monitor_laws.specs.Names.{is_lowered, is_sensor}
+use Rattle.monitor_laws.specs.MonitorLaws.{Others}
+
+-- ---- what lowered statements leave alone
+
+pub others_same : (a : Run) → Others a a
+others_same a = record { values = λ p o. refl; headers = refl; cells = λ x o. refl; digests = refl }
+
+pub others_then : (a b c : Run) → Others a b → Others b c → Others a c
+others_then a b c s t =
+    record { values = λ p o. t.values p o ∙ s.values p o; headers = t.headers ∙ s.headers; cells = λ x o. t.cells x o ∙ s.cells x o; digests = t.digests ∙ s.digests }
+
+-- a path is set that lowered statements may write
+pub others_set : (a q : Run) (p : List (List ℕ)) (w : Word) → is_lowered p ≡ true → Others a q → Others a (in_store q (set_value q.store p w))
+others_set a q p w i o =
+    others_then a q (in_store q (set_value q.store p w)) o
+    (record { values = λ y out. ap (λ t. cond t w (q.store.values y)) (apart is_lowered p y i out); headers = refl; cells = λ x out. refl; digests = refl })
+
+-- the cells of a sensor's register change
+pub others_cells : (a q : Run) (x : List ℕ) (ws : List Word) → is_sensor x ≡ true → Others a q → Others a (record q { cells = put_cells q.cells x ws })
+others_cells a q x ws i o =
+    others_then a q (record q { cells = put_cells q.cells x ws }) o
+    (record { values = λ y out. refl; headers = refl; cells = λ y out. ap (λ b. cond b ws (q.cells y)) (apart_names is_sensor x y i out); digests = refl })
+
+-- the digest of a report
+abbrev pub report_of : List Word → Digest
+report_of ws = record { receiver = report_receiver; values = ws }
+
+-- a report is told
+pub others_told : (a q : Run) (ws : List Word) → Others a q → Others a (record q { digests = q.digests ++ report_of ws ∷ [] })
+others_told a q ws o =
+    others_then a q (record q { digests = q.digests ++ report_of ws ∷ [] }) o
+    (record {
+      values = λ y out. refl;
+      headers = refl;
+      cells = λ y out. refl;
+      digests = filter-append (λ d. not (is_report d)) q.digests (report_of ws ∷ []) ∙ append-nil (filter (λ d. not (is_report d)) q.digests);
+    })
+
+-- ---- statements in order
+
+-- statements went on, and this holds of the run behind them
+pub record Ends (R : Run → Type 0) (e : Ended) : Type 0 where
+  pub run : R e.0
+  pub goes : e.1 ≡ Go
+
+pub ends_with : (R : Run → Type 0) (e f : Ended) → e ≡ f → Ends R f → Ends R e
+ends_with R e f is h = subst (Ends R) (sym is) h
+
+pub ends_then : (S R : Run → Type 0) (e : Ended) (k : Run → Ended) → Ends S e → ((q : Run) → S q → Ends R (k q)) → Ends R (after e.1 e.0 k)
+ends_then S R e k h more = subst (λ (f : Flow). Ends R (after f e.0 k)) (sym h.goes) (more e.0 h.run)
+
+module _ (calls : Calls) where
+  -- one statement and then others
+  pub step : (S R : Run → Type 0) (s : Stmt) (ss : Stmts) (q : Run) → Ends S (meaning_of_stmt calls s q) → ((p : Run) → S p → Ends R (meaning_of calls ss p)) → Ends R (meaning_of calls (next s ss) q)
+  step S R s ss q h more = ends_then S R (meaning_of_stmt calls s q) (meaning_of calls ss) h more
+
+  pub nothing_more : (R : Run → Type 0) (q : Run) → R q → Ends R (meaning_of calls done q)
+  nothing_more R q h = record { run = h; goes = refl }
+
+  -- an `if` whose test has this truth value
+  by_bit : (R : Run → Type 0) (s : Stmt) (m : MaybeStmt) (q : Run) (b : Bool) → (b ≡ true → Ends R (meaning_of_stmt calls s q)) → (b ≡ false → Ends R (meaning_of_else calls m q)) → Ends R (if holds (bit b) then meaning_of_stmt calls s q else meaning_of_else calls m q)
+  by_bit R s m q true x y = x refl
+  by_bit R s m q false x y = y refl
+
+  pub chosen : (R : Run → Type 0) (at : ℕ) (e : Expr) (s : Stmt) (m : MaybeStmt) (q : Run) (b : Bool) → application e ≡ None → value_of e 1 q.store ≡ bit b → (b ≡ true → Ends R (meaning_of_stmt calls s q)) → (b ≡ false → Ends R (meaning_of_else calls m q)) → Ends R (meaning_of_stmt calls (choice at e s m) q)
+  chosen R at e s m q b plain v x y =
+      subst (λ o. Ends R (after (tested_by calls o e q).flow (tested_by calls o e q).run (λ p. if (tested_by calls o e q).hit then meaning_of_stmt calls s p else meaning_of_else calls m p))) (sym plain)
+      (subst (λ w. Ends R (if holds w then meaning_of_stmt calls s q else meaning_of_else calls m q)) (sym v) (by_bit R s m q b x y))
+
+-- ---- assignments
+
+-- a place that a write reaches
+abbrev pub IsOpen : Option Bool → Type 0
+IsOpen None = Unit {0}
+IsOpen (Some true) = Unit {0}
+IsOpen (Some false) = ⊥
+
+pub open_by : (o o' : Option Bool) → o ≡ o' → IsOpen o' → IsOpen o
+open_by o o' e h = subst IsOpen (sym e) h
+
+pub written_open : (o : Option Bool) (s : Store) (p : List (List ℕ)) (w : Word) → IsOpen o → written o s p w ≡ set_value s p w
+written_open None s p w h = refl
+written_open (Some true) s p w h = refl
+written_open (Some false) s p w h = absurd h
+
+pub assigned_open : (s : Store) (p : List (List ℕ)) (u w : Word) → is_assignable p ≡ true → IsOpen (s.headers (parent p)) → s.values p ≡ u → assigned s p w ≡ set_value s p (cast_word (sound_width u.width) w)
+assigned_open s p u w i o h =
+    ap (λ b. if b then written (s.headers (parent p)) s p (cast_word (sound_width (s.values p).width) w) else s) i
+    ∙ written_open (s.headers (parent p)) s p _ o
+    ∙ ap (λ (v : Word). set_value s p (cast_word (sound_width v.width) w)) h
+
+-- an assignment, where the place's old word and the value are known
+pub assign_is : (calls : Calls) (q : Run) (at : ℕ) (p : List (List ℕ)) (e : Expr) (u w : Word) → is_assignable p ≡ true → IsOpen (q.store.headers (parent p)) → q.store.values p ≡ u → value_of e u.width q.store ≡ w → meaning_of_stmt calls (assign at p e) q ≡ (in_store q (set_value q.store p (cast_word (sound_width u.width) w)), Go)
+assign_is calls q at p e u w i o h k =
+    ap (λ s. (in_store q s, Go)) (assigned_open q.store p u (value_of e (q.store.values p).width q.store) i o h)
+    ∙ ap (λ (v : Word). (in_store q (set_value q.store p (cast_word (sound_width u.width) (value_of e v.width q.store))), Go)) h
+    ∙ ap (λ v. (in_store q (set_value q.store p (cast_word (sound_width u.width) v)), Go)) k
