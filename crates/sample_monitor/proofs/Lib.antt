@@ -1,5 +1,6 @@
 pub mod Steps
 pub mod Cells
+pub mod Tests
 pub mod Lookups
 pub mod States
 pub mod Entry

@@ -9,8 +9,9 @@ use Rattle.p4_meaning.specs.Choice.{Entry, fits_keys, rank_of, higher, choice_of
 use Rattle.p4_meaning.specs.Actions.{Action, action_named, act, act_if}
 use Rattle.p4_meaning.specs.Tables.{Table, table_named, Entries, Tables, test_behind, chosen_runs, apply_if, calls_in}
 use Rattle.sample_monitor.specs.Property.{is_member}
-use Rattle.sample_monitor.specs.Sample.{Lookup, number, no_action, table_for, action_for, entry_for, entries_for}
-use Rattle.sample_monitor.proofs.Steps.{IsOpen, open_by, assign_is}
+use Rattle.sample_monitor.specs.Sample.{Lookup, no_action, table_for, action_for, entry_for, entries_for}
+use Rattle.monitor_laws.specs.Trees.{number}
+use Rattle.monitor_laws.proofs.Frames.{open_by, assignment}
 
 -- a choice is an entry of the lookup's where there is a member, and none elsewhere
 abbrev IsEntry : Lookup → Option Entry → Bool → Type 0
@@ -41,7 +42,7 @@ found_in l b q = if b then in_store q (set_value q.store (l.found ∷ []) (word 
 acted : (l : Lookup) (q : Run) (u : Word) → q.store.headers [] ≡ None → q.store.values (l.found ∷ []) ≡ u → u.width ≡ 1 → act (action_for l) [] q ≡ (found_in l true q, Go)
 acted l q u plain old width =
     ap (λ (e : Ended). (e.0, Go))
-    (assign_is no_calls q 0 (l.found ∷ []) (number 1 1) u (word 1 1) refl (open_by (q.store.headers []) None plain tt) old refl)
+    (assignment no_calls q 0 (l.found ∷ []) (number 1 1) u (word 1 1) refl (open_by (q.store.headers []) None plain tt) old refl)
     ∙ ap (λ n. (in_store q (set_value q.store (l.found ∷ []) (cast_word (sound_width n) (word 1 1))), Go)) width
 
 module _ (l : Lookup) (as' : List Action) (action : action_named as' l.action ≡ Some (action_for l)) (none : action_named as' (codes "NoAction") ≡ None) where

@@ -16,7 +16,8 @@ use Rattle.monitor_laws.specs.Telemetry.{HasWords}
 use Rattle.monitor_laws.specs.MonitorLaws.{Others}
 use Rattle.sample_monitor.specs.Property.{Tele}
 use Rattle.sample_monitor.specs.Sample.{kind_path, tele_path, counter_name, Lookup, apply, sample, kept_cell}
-use Rattle.sample_monitor.proofs.Steps.{others_set, Ends, ends_with, open_by, assign_is}
+use Rattle.monitor_laws.proofs.Frames.{open_by, assignment}
+use Rattle.sample_monitor.proofs.Steps.{others_path, Ends, ends_with}
 use Rattle.sample_monitor.proofs.Lookups.{found_in}
 
 -- the run a has gone on to q
@@ -31,7 +32,7 @@ pub record At (vars : List Field) (a : Run) (t : Tele) (vs : List Word) (z : Lis
 pub at_set : (vars : List Field) (a : Run) (t t' : Tele) (vs vs' : List Word) (z : List ℕ) (ds : List Digest) (q : Run) (p : List (List ℕ)) (w : Word) → is_lowered p ≡ true → At vars a t vs z ds q →
     HasWords tele_header sample.fields (sample.words t') (set_value q.store p w) → HasWords [] vars vs' (set_value q.store p w) → At vars a t' vs' z ds (in_store q (set_value q.store p w))
 at_set vars a t t' vs vs' z ds q p w i h words variables =
-    record { words = words; variables = variables; others = others_set a q p w i h.others; cells = h.cells; reports = h.reports }
+    record { words = words; variables = variables; others = others_path a q p w i h.others; cells = h.cells; reports = h.reports }
 
 module _ (a : Run) (plain : a.store.headers [] ≡ None) (valid : a.store.headers tele_header ≡ Some true) where
   -- what is read between statements
@@ -53,11 +54,11 @@ module _ (a : Run) (plain : a.store.headers [] ≡ None) (valid : a.store.header
   -- a variable is set, and a field
   pub sets_variable : (calls : Calls) (R : Run → Type 0) (q : Run) (x : List ℕ) (e : Expr) (u v : Word) → Others a q → q.store.values (x ∷ []) ≡ u → value_of e u.width q.store ≡ v → R (in_store q (set_value q.store (x ∷ []) (cast_word (sound_width u.width) v))) → Ends R (meaning_of_stmt calls (assign 0 (x ∷ []) e) q)
   sets_variable calls R q x e u v o old is h =
-      ends_with R _ _ (assign_is calls q 0 (x ∷ []) e u v refl (open_by (q.store.headers []) None (no_header q o) tt) old is) (record { run = h; goes = refl })
+      ends_with R _ _ (assignment calls q 0 (x ∷ []) e u v refl (open_by (q.store.headers []) None (no_header q o) tt) old is) (record { run = h; goes = refl })
 
   pub sets_field : (calls : Calls) (R : Run → Type 0) (q : Run) (x : List ℕ) (e : Expr) (u v : Word) → Others a q → q.store.values (tele_path x) ≡ u → value_of e u.width q.store ≡ v → R (in_store q (set_value q.store (tele_path x) (cast_word (sound_width u.width) v))) → Ends R (meaning_of_stmt calls (assign 0 (tele_path x) e) q)
   sets_field calls R q x e u v o old is h =
-      ends_with R _ _ (assign_is calls q 0 (tele_path x) e u v refl (open_by (q.store.headers tele_header) (Some true) (tele_there q o) tt) old is) (record { run = h; goes = refl })
+      ends_with R _ _ (assignment calls q 0 (tele_path x) e u v refl (open_by (q.store.headers tele_header) (Some true) (tele_there q o) tt) old is) (record { run = h; goes = refl })
 
 -- a table is applied
 pub applies_it : (calls : Calls) (R : Run → Type 0) (l : Lookup) (q : Run) (b : Bool) → calls.apply_table l.table q ≡ test_behind (found_in l b q, Go) b → R (found_in l b q) → Ends R (meaning_of_stmt calls (apply l) q)

@@ -16,21 +16,13 @@ use Rattle.own_code.specs.Relations.{is_report}
 use Rattle.own_code.proofs.Apart.{apart, apart_names}
 use Rattle.monitor_laws.specs.Names.{is_lowered, is_sensor}
 use Rattle.monitor_laws.specs.MonitorLaws.{Others}
+use Rattle.monitor_laws.proofs.Frames.{others_then, others_set}
 
 -- ---- what lowered statements leave alone
 
-pub others_same : (a : Run) → Others a a
-others_same a = record { values = λ p o. refl; headers = refl; cells = λ x o. refl; digests = refl }
-
-pub others_then : (a b c : Run) → Others a b → Others b c → Others a c
-others_then a b c s t =
-    record { values = λ p o. t.values p o ∙ s.values p o; headers = t.headers ∙ s.headers; cells = λ x o. t.cells x o ∙ s.cells x o; digests = t.digests ∙ s.digests }
-
--- a path is set that lowered statements may write
-pub others_set : (a q : Run) (p : List (List ℕ)) (w : Word) → is_lowered p ≡ true → Others a q → Others a (in_store q (set_value q.store p w))
-others_set a q p w i o =
-    others_then a q (in_store q (set_value q.store p w)) o
-    (record { values = λ y out. ap (λ t. cond t w (q.store.values y)) (apart is_lowered p y i out); headers = refl; cells = λ x out. refl; digests = refl })
+-- a path is set
+pub others_path : (a q : Run) (p : List (List ℕ)) (w : Word) → is_lowered p ≡ true → Others a q → Others a (in_store q (set_value q.store p w))
+others_path a q p w i o = others_then a q (in_store q (set_value q.store p w)) o (others_set q p w i)
 
 -- the cells of a sensor's register change
 pub others_cells : (a q : Run) (x : List ℕ) (ws : List Word) → is_sensor x ≡ true → Others a q → Others a (record q { cells = put_cells q.cells x ws })
@@ -83,32 +75,3 @@ module _ (calls : Calls) where
   chosen R at e s m q b plain v x y =
       subst (λ o. Ends R (after (tested_by calls o e q).flow (tested_by calls o e q).run (λ p. if (tested_by calls o e q).hit then meaning_of_stmt calls s p else meaning_of_else calls m p))) (sym plain)
       (subst (λ w. Ends R (if holds w then meaning_of_stmt calls s q else meaning_of_else calls m q)) (sym v) (by_bit R s m q b x y))
-
--- ---- assignments
-
--- a place that a write reaches
-abbrev pub IsOpen : Option Bool → Type 0
-IsOpen None = Unit {0}
-IsOpen (Some true) = Unit {0}
-IsOpen (Some false) = ⊥
-
-pub open_by : (o o' : Option Bool) → o ≡ o' → IsOpen o' → IsOpen o
-open_by o o' e h = subst IsOpen (sym e) h
-
-pub written_open : (o : Option Bool) (s : Store) (p : List (List ℕ)) (w : Word) → IsOpen o → written o s p w ≡ set_value s p w
-written_open None s p w h = refl
-written_open (Some true) s p w h = refl
-written_open (Some false) s p w h = absurd h
-
-pub assigned_open : (s : Store) (p : List (List ℕ)) (u w : Word) → is_assignable p ≡ true → IsOpen (s.headers (parent p)) → s.values p ≡ u → assigned s p w ≡ set_value s p (cast_word (sound_width u.width) w)
-assigned_open s p u w i o h =
-    ap (λ b. if b then written (s.headers (parent p)) s p (cast_word (sound_width (s.values p).width) w) else s) i
-    ∙ written_open (s.headers (parent p)) s p _ o
-    ∙ ap (λ (v : Word). set_value s p (cast_word (sound_width v.width) w)) h
-
--- an assignment, where the place's old word and the value are known
-pub assign_is : (calls : Calls) (q : Run) (at : ℕ) (p : List (List ℕ)) (e : Expr) (u w : Word) → is_assignable p ≡ true → IsOpen (q.store.headers (parent p)) → q.store.values p ≡ u → value_of e u.width q.store ≡ w → meaning_of_stmt calls (assign at p e) q ≡ (in_store q (set_value q.store p (cast_word (sound_width u.width) w)), Go)
-assign_is calls q at p e u w i o h k =
-    ap (λ s. (in_store q s, Go)) (assigned_open q.store p u (value_of e (q.store.values p).width q.store) i o h)
-    ∙ ap (λ (v : Word). (in_store q (set_value q.store p (cast_word (sound_width u.width) (value_of e v.width q.store))), Go)) h
-    ∙ ap (λ v. (in_store q (set_value q.store p (cast_word (sound_width u.width) v)), Go)) k

@@ -1,9 +1,9 @@
 -- The monitor of the property. Read `Property` before it, and `MonitorLaws` of `monitor_laws`.
 use Rattle.std.specs.Prelude.{◌≡◌, codes, ℕ, ◌<◌, ◌^◌, List, [], ◌∷◌, map, length, true, false, if◌then◌else◌, nat_eq}
 use Rattle.std.specs.List.{AllByRecursion}
-use Rattle.bit_values.specs.Bits.{Word, word, cast}
+use Rattle.bit_values.specs.Bits.{Word, word}
 use Rattle.lex_text.specs.Names.{same_text}
-use Rattle.p4_tree.specs.Tree.{Expr, num, flag, path, negation, binary, slice, one, many, Stmt, Stmts, block, assign, choice, call, done, next, without, otherwise}
+use Rattle.p4_tree.specs.Tree.{Expr, flag, path, negation, binary, slice, one, many, Stmt, Stmts, block, assign, choice, call, done, next, otherwise}
 use Rattle.p4_tree.specs.declared.statement.Op.TheVariants.{Add, BitXor, Equal, Both}
 use Rattle.p4_tree.specs.declared.statement.PTy.TheVariants as type
 use Rattle.p4_meaning.specs.Standard.{headers_root}
@@ -13,6 +13,7 @@ use Rattle.p4_meaning.specs.Tables.{Table, Chosen, Entries, Tables}
 use Rattle.p4_meaning.specs.Pass.{Kept}
 use Rattle.linkage.specs.Linkage.{report_receiver, xor_with}
 use Rattle.monitor_laws.specs.Names.{first_name, last_name, rejected_name}
+use Rattle.monitor_laws.specs.Trees.{number, only_if}
 use Rattle.monitor_laws.specs.Monitor.{Monitor}
 use Rattle.sample_monitor.specs.Property.{Tele, sample_property}
 
@@ -61,9 +62,6 @@ starts = record { table = codes "hydra_t_1.Ingress"; action = codes "hydra_a_1.I
 
 -- ---- statements
 
-abbrev pub number : (width value : ℕ) → Expr
-number w n = num 0 (record { width = w; value = n })
-
 abbrev pub variable : List ℕ → Expr
 variable x = path 0 (x ∷ [])
 
@@ -75,7 +73,7 @@ abbrev pub lookup : Lookup → Stmts → Stmts
 lookup l more = next (assign 0 (l.found ∷ []) (number 1 0)) (next (assign 0 (l.key ∷ []) (path 0 kind_path)) (next (apply l) more))
 
 abbrev pub take_five : Stmt
-take_five = choice 0 (binary 0 Equal (variable starts.found) (number 1 1)) (assign 0 five_path (slice 0 (path 0 kind_path) 4 0)) without
+take_five = only_if (binary 0 Equal (variable starts.found) (number 1 1)) (next (assign 0 five_path (slice 0 (path 0 kind_path) 4 0)) done)
 
 -- the cell that the low two of the five bits name
 abbrev pub cell_index : Expr
@@ -121,10 +119,10 @@ push s = choice 0 (has_count 2) (block 0 (push_full s)) (otherwise (choice 0 (ha
 
 -- the verdict
 abbrev pub reject : Stmt
-reject = choice 0 (binary 0 Both (binary 0 Equal (variable checks.found) (number 1 0)) (negation 0 (variable first_name))) (assign 0 (rejected_name ∷ []) (flag 0 true)) without
+reject = only_if (binary 0 Both (binary 0 Equal (variable checks.found) (number 1 0)) (negation 0 (variable first_name))) (next (assign 0 (rejected_name ∷ []) (flag 0 true)) done)
 
 abbrev pub check : Stmt
-check = choice 0 (variable last_name) (block 0 (lookup checks (next reject done))) without
+check = only_if (variable last_name) (lookup checks (next reject done))
 
 -- ---- tables
 
