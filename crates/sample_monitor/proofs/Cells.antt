@@ -1,11 +1,10 @@
 -- The counter's cells in their register.
-use Rattle.std.proofs.Common.{◌≡◌, ℕ, zero, suc, ◌+◌, ◌%◌, ◌<◌, ◌^◌, List, [], ◌∷◌, map, length, get_or, slice_set, bit_xor, refl, sym, ap, ◌∙◌, subst, arith}
+use Rattle.std.proofs.Common.{◌≡◌, ℕ, zero, suc, ◌<◌, ◌^◌, List, [], ◌∷◌, map, length, get_or, slice_set, bit_xor, sym, ap, ◌∙◌, arith}
 use Rattle.std.specs.List.{AllByRecursion}
 use Rattle.std.specs.Int.Bits.{xor_self, xor_zero_r, xor_assoc}
-use Rattle.std.proofs.Math.Nat.{mod-lt}
 use Rattle.std.proofs.lemmas.Nat.{pow_pos, xor_lt}
 use Rattle.std.proofs.lemmas.List.{get_or-map, map-set}
-use Rattle.bit_values.specs.Bits.{Word, word, add, slice}
+use Rattle.bit_values.specs.Bits.{Word, word}
 use Rattle.bit_values.specs.Widths.{sound_width, cast_word}
 use Rattle.bit_values.proofs.BitsLemmas.{cast_of_small}
 use Rattle.linkage.specs.Linkage.{xor_with}

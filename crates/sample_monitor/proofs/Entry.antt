@@ -1,6 +1,6 @@
 -- The entry part: a lookup of the header variable, and then init.
-use Rattle.std.proofs.Common.{◌≡◌, codes, ℕ, List, [], ◌∷◌, ◌++◌, map, Bool, true, false, Option, Some, None, refl, sym, ap, ap₂, ◌∙◌, subst, append-nil}
-use Rattle.std.specs.Prelude.{if◌then◌else◌, nat_eq}
+use Rattle.std.proofs.Common.{◌≡◌, codes, ℕ, List, [], ◌∷◌, Bool, true, false, refl, sym, ap, ◌∙◌, subst, append-nil}
+use Rattle.std.specs.Prelude.{if◌then◌else◌}
 use Rattle.std.specs.List.{filter}
 use Rattle.std.proofs.Math.Nat.{mod-lt}
 use Rattle.std.proofs.lemmas.Nat.{pow_pos}
@@ -8,9 +8,8 @@ use Rattle.bit_values.specs.Bits.{Word, word}
 use Rattle.bit_values.specs.Bits as bits
 use Rattle.bit_values.specs.Widths.{bit, sound_width, cast_word}
 use Rattle.bit_values.proofs.BitsLemmas.{cast_of_small}
-use Rattle.p4_meaning.specs.Store.{read, set_value}
-use Rattle.p4_meaning.specs.Statements.{Go, Digest, Run, Ended, in_store, Calls, meaning_of_stmt, meaning_of}
-use Rattle.p4_meaning.specs.Parsing.{Field}
+use Rattle.p4_meaning.specs.Store.{read}
+use Rattle.p4_meaning.specs.Statements.{Go, Run, Calls, meaning_of_stmt, meaning_of}
 use Rattle.p4_meaning.specs.Tables.{Tables}
 use Rattle.p4_tree.specs.Tree.{path, binary, slice, block, assign, next, done, without}
 use Rattle.p4_tree.specs.declared.statement.Op.TheVariants.{Equal}
@@ -20,7 +19,7 @@ use Rattle.monitor_laws.specs.Trees.{number}
 use Rattle.monitor_laws.specs.Monitor.{fields_of}
 use Rattle.monitor_laws.specs.MonitorLaws.{MeansTops, StandsFor, Does}
 use Rattle.monitor_laws.proofs.Frames.{others_same}
-use Rattle.sample_monitor.specs.Property.{Tele, five_of, byte_of, first_of, is_member, is_known, sample_property, IsFit}
+use Rattle.sample_monitor.specs.Property.{Tele, five_of, byte_of, first_of, is_member, sample_property, IsFit}
 use Rattle.sample_monitor.specs.Sample.{kind_path, five_path, starts, variable, apply, take_five, sample, SampleKeeps}
 use Rattle.sample_monitor.proofs.Steps.{Ends, step, nothing_more, chosen}
 use Rattle.sample_monitor.proofs.Tests.{one_is}

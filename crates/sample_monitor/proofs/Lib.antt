@@ -4,3 +4,4 @@ pub mod Tests
 pub mod Lookups
 pub mod States
 pub mod Entry
+pub mod Push

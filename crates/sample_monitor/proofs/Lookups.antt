@@ -1,11 +1,11 @@
 -- A lookup of the set: what the application of its table does.
-use Rattle.std.proofs.Common.{◌≡◌, codes, ℕ, List, [], ◌∷◌, map, Bool, true, false, ◌&&◌, ◌||◌, Option, Some, None, refl, sym, ap, ap₂, ◌∙◌, subst}
+use Rattle.std.proofs.Common.{◌≡◌, codes, ℕ, List, [], ◌∷◌, map, Bool, true, false, ◌&&◌, ◌||◌, Option, Some, None, refl, sym, ap, ap₂, ◌∙◌}
 use Rattle.std.specs.Prelude.{if◌then◌else◌, nat_eq, nat_lt}
 use Rattle.bit_values.specs.Bits.{Word, word}
 use Rattle.bit_values.specs.Widths.{sound_width, cast_word}
-use Rattle.p4_meaning.specs.Store.{Store, read, set_value}
-use Rattle.p4_meaning.specs.Statements.{Go, Run, Ended, in_store, Tested, Calls, no_calls, meaning_of_stmt, meaning_of}
-use Rattle.p4_meaning.specs.Choice.{Entry, fits_keys, rank_of, higher, choice_of}
+use Rattle.p4_meaning.specs.Store.{read, set_value}
+use Rattle.p4_meaning.specs.Statements.{Go, Run, Ended, in_store, no_calls}
+use Rattle.p4_meaning.specs.Choice.{Entry, rank_of, higher, choice_of}
 use Rattle.p4_meaning.specs.Actions.{Action, action_named, act, act_if}
 use Rattle.p4_meaning.specs.Tables.{Table, table_named, Entries, Tables, test_behind, chosen_runs, apply_if, calls_in}
 use Rattle.sample_monitor.specs.Property.{is_member}

@@ -1,19 +1,17 @@
 -- Statements one by one: what holds of a run before a statement gives what holds behind it.
-use Rattle.std.proofs.Common.{◌≡◌, ℕ, List, [], ◌∷◌, ◌++◌, Bool, true, false, not, cond, Option, Some, None, refl, sym, ap, ◌∙◌, subst, append-nil}
+use Rattle.std.proofs.Common.{◌≡◌, ℕ, List, [], ◌∷◌, ◌++◌, Bool, true, false, not, cond, None, refl, sym, ap, ◌∙◌, subst, append-nil}
 use Rattle.std.specs.Prelude.{if◌then◌else◌}
 use Rattle.std.specs.List.{filter}
 use Rattle.std.proofs.lemmas.List.Elements.{filter-append}
 use Rattle.bit_values.specs.Bits.{Word}
-use Rattle.bit_values.specs.Widths.{bit, holds, sound_width, cast_word}
-use Rattle.lex_text.specs.Names.{parent}
-use Rattle.p4_tree.specs.Tree.{Expr, Stmt, Stmts, MaybeStmt, assign, choice, done, next}
-use Rattle.p4_meaning.specs.Standard.{is_assignable}
-use Rattle.p4_meaning.specs.Store.{Store, set_value, written}
+use Rattle.bit_values.specs.Widths.{bit, holds}
+use Rattle.p4_tree.specs.Tree.{Expr, Stmt, Stmts, MaybeStmt, choice, done, next}
+use Rattle.p4_meaning.specs.Store.{set_value}
 use Rattle.p4_meaning.specs.Value.{value_of}
-use Rattle.p4_meaning.specs.Statements.{Flow, Go, Digest, Run, Ended, after, in_store, put_cells, Calls, application, assigned, tested_by, meaning_of_stmt, meaning_of_else, meaning_of}
+use Rattle.p4_meaning.specs.Statements.{Flow, Go, Digest, Run, Ended, after, in_store, put_cells, Calls, application, tested_by, meaning_of_stmt, meaning_of_else, meaning_of}
 use Rattle.linkage.specs.Linkage.{report_receiver}
 use Rattle.own_code.specs.Relations.{is_report}
-use Rattle.own_code.proofs.Apart.{apart, apart_names}
+use Rattle.own_code.proofs.Apart.{apart_names}
 use Rattle.monitor_laws.specs.Names.{is_lowered, is_sensor}
 use Rattle.monitor_laws.specs.MonitorLaws.{Others}
 use Rattle.monitor_laws.proofs.Frames.{others_then, others_set}

@@ -1,16 +1,14 @@
 -- The values of tests and of the counter's expressions, where what they read is known.
-use Rattle.std.proofs.Common.{◌≡◌, ℕ, ◌+◌, ◌%◌, ◌<◌, ◌≤◌, ◌^◌, List, [], ◌∷◌, Bool, true, false, ◌&&◌, not, None, refl, sym, ap, ap₂, ◌∙◌, bit_xor, arith}
+use Rattle.std.proofs.Common.{◌≡◌, ℕ, ◌+◌, ◌<◌, ◌^◌, List, [], ◌∷◌, Bool, true, false, ◌&&◌, not, None, refl, ap, ap₂, ◌∙◌, bit_xor}
 use Rattle.std.specs.Prelude.{nat_eq}
 use Rattle.std.proofs.Math.Nat.{mod-lt}
 use Rattle.std.proofs.lemmas.Nat.{pow_pos}
 use Rattle.bit_values.specs.Bits.{Word, word, add, cast}
-use Rattle.bit_values.specs.Operators.{left_place, right_place}
-use Rattle.bit_values.specs.Widths.{bit, holds, either_width, sound_width, cast_word}
+use Rattle.bit_values.specs.Widths.{bit, holds, sound_width, cast_word}
 use Rattle.bit_values.proofs.BitsLemmas.{cast_of_small}
-use Rattle.p4_tree.specs.Tree.{Expr, path, binary, negation}
-use Rattle.p4_tree.specs.Operators.{class_of, operate}
-use Rattle.p4_tree.specs.declared.statement.Op.{Op}
-use Rattle.p4_tree.specs.declared.statement.Op.TheVariants.{Add, BitXor, Equal, Both}
+use Rattle.p4_tree.specs.Tree.{Expr, binary, negation}
+use Rattle.p4_tree.specs.Operators.{operate}
+use Rattle.p4_tree.specs.declared.statement.Op.TheVariants.{BitXor, Equal, Both}
 use Rattle.p4_meaning.specs.Store.{Store, read}
 use Rattle.p4_meaning.specs.Value.{value_of}
 use Rattle.linkage.specs.Linkage.{xor_with}
