@@ -5,3 +5,4 @@ pub mod Lookups
 pub mod States
 pub mod Entry
 pub mod Push
+pub mod Exit
