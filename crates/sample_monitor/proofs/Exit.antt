@@ -26,8 +26,8 @@ use Rattle.monitor_laws.specs.Trees.{number}
 use Rattle.monitor_laws.specs.Monitor.{fields_of}
 use Rattle.monitor_laws.specs.MonitorLaws.{Flags, MeansTops, StandsFor, Does, Others}
 use Rattle.monitor_laws.proofs.Frames.{others_same}
-use Rattle.sample_monitor.specs.Property.{Tele, pushed, byte_of, first_of, is_member, cell_of, counted, sample_property, IsFit}
-use Rattle.sample_monitor.specs.Sample.{kind_path, five_path, tele_path, counter_name, cell_name, checks, variable, apply, cell_index, read_cell, turn_cell, next_cell, write_cell, tell_cell, tell_count, push, reject, check, sample, kept_cell, SampleKeeps}
+use Rattle.sample_monitor.specs.Property.{Tele, pushed, byte_of, first_of, is_member, is_known, cell_of, counted, sample_property, IsFit}
+use Rattle.sample_monitor.specs.Sample.{kind_path, five_path, tele_path, counter_name, cell_name, checks, variable, apply, lookup, cell_index, read_cell, turn_cell, next_cell, write_cell, tell_cell, tell_count, push, reject, check, sample, kept_cell, SampleKeeps}
 use Rattle.sample_monitor.proofs.Steps.{report_of, Ends, ends_with, step, nothing_more, chosen}
 use Rattle.sample_monitor.proofs.Cells.{turned_low, cell_is, cell_set_is, set_low, get_low}
 use Rattle.sample_monitor.proofs.Tests.{rejects_is, turned_is, next_is}
@@ -147,3 +147,128 @@ module _ (calls : Calls) (held : Tables) (means : MeansTops sample IsFit SampleK
       (ap (λ u. (record q { digests = q.digests ++ report_of (word 16 1 ∷ u ∷ []) ∷ [] }, Go))
       (field_read a s.tele.plain s.tele.valid q (codes "count") pushed_tele.count i.others i.words.1.1.0))
       (record { run = at_told exit_fields a pushed_tele _ (counted z (cell_of t)) told_cell q _ i; goes = refl })
+
+  -- the checker's lookup
+  clears : (q : Run) → Told false (word 8 0) (word 1 0) q → Ends (Told false (word 8 0) (word 1 0)) (meaning_of_stmt calls (assign 0 (checks.found ∷ []) (number 1 0)) q)
+  clears q i =
+      sets_variable a s.tele.plain s.tele.valid calls (Told false (word 8 0) (word 1 0)) q checks.found (number 1 0) (word 1 0) (word 1 0) i.others i.variables.1.1.1.0 refl
+      (at_set exit_fields a pushed_tele pushed_tele _ (bit false ∷ word 8 cell ∷ word 8 0 ∷ word 1 0 ∷ []) (counted z (cell_of t)) told_both q (checks.found ∷ []) (word 1 0) refl i i.words
+      (i.variables.0, (i.variables.1.0, (i.variables.1.1.0, (refl, tt)))))
+
+  keys : (q : Run) → Told false (word 8 0) (word 1 0) q → Ends (Told false (byte_of kind.value) (word 1 0)) (meaning_of_stmt calls (assign 0 (checks.key ∷ []) (path 0 kind_path)) q)
+  keys q i =
+      sets_variable a s.tele.plain s.tele.valid calls (Told false (byte_of kind.value) (word 1 0)) q checks.key (path 0 kind_path) (word 8 0) kind i.others i.variables.1.1.0 (kind_read a s.tele.plain s.tele.valid q i.others)
+      (at_set exit_fields a pushed_tele pushed_tele _ (bit false ∷ word 8 cell ∷ byte_of kind.value ∷ word 1 0 ∷ []) (counted z (cell_of t)) told_both q (checks.key ∷ []) (byte_of kind.value) refl i i.words
+      (i.variables.0, (i.variables.1.0, (refl, i.variables.1.1.1))))
+
+  found : (q : Run) (b : Bool) → Told false (byte_of kind.value) (word 1 0) q → Told false (byte_of kind.value) (bit b) (found_in checks b q)
+  found q true i =
+      at_set exit_fields a pushed_tele pushed_tele _ (bit false ∷ word 8 cell ∷ byte_of kind.value ∷ word 1 1 ∷ []) (counted z (cell_of t)) told_both q (checks.found ∷ []) (word 1 1) refl i i.words
+      (i.variables.0, (i.variables.1.0, (i.variables.1.1.0, (refl, tt))))
+  found q false i = i
+
+  looks : (q : Run) → Told false (byte_of kind.value) (word 1 0) q → Ends (Told false (byte_of kind.value) (bit known)) (meaning_of_stmt calls (apply checks) q)
+  looks q i =
+      applies_it calls (Told false (byte_of kind.value) (bit known)) checks q known
+      (means.tables checks.table q refl
+      ∙ applied_is checks sample.actions refl refl sample.tables held (h.contents 0) (byte_of kind.value) q (word 1 0) refl s.keeps.checked (no_header a s.tele.plain s.tele.valid q i.others)
+      (variable_read a s.tele.plain s.tele.valid q checks.key (byte_of kind.value) i.others i.variables.1.1.0) i.variables.1.1.1.0 refl)
+      (found q known i)
+
+  -- the verdict
+  abbrev verdict : Bool
+  verdict = not known && not h.first
+
+  abbrev Judged : Bool → Run → Type 0
+  Judged b = Told b (byte_of kind.value) (bit known)
+
+  sets_it : (q : Run) → Judged false q → Ends (Judged true) (meaning_of_stmt calls (assign 0 (rejected_name ∷ []) (flag 0 true)) q)
+  sets_it q i =
+      sets_variable a s.tele.plain s.tele.valid calls (Judged true) q rejected_name (flag 0 true) (bit false) (bit true) i.others i.variables.0 refl
+      (at_set exit_fields a pushed_tele pushed_tele _ (bit true ∷ word 8 cell ∷ byte_of kind.value ∷ bit known ∷ []) (counted z (cell_of t)) told_both q (rejected_name ∷ []) (bit true) refl i i.words
+      (refl, i.variables.1))
+
+  judges : (q : Run) → Judged false q → Ends (Judged verdict) (meaning_of_stmt calls reject q)
+  judges q i =
+      chosen calls (Judged verdict) 0 (binary 0 Both (binary 0 Equal (variable checks.found) (number 1 0)) (negation 0 (variable first_name))) (block 0 (next (assign 0 (rejected_name ∷ []) (flag 0 true)) done)) without q verdict refl
+      (rejects_is q.store checks.found first_name known h.first
+      (variable_read a s.tele.plain s.tele.valid q checks.found (bit known) i.others i.variables.1.1.1.0)
+      (flag_read q first_name h.first refl i.others flags.is_first))
+      (λ is. subst (λ b. Ends (Judged b) (meaning_of calls (next (assign 0 (rejected_name ∷ []) (flag 0 true)) done) q)) (sym is)
+      (step calls (Judged true) (Judged true) (assign 0 (rejected_name ∷ []) (flag 0 true)) done q (sets_it q i) (λ p j. nothing_more calls (Judged true) p j)))
+      (λ is. (let e : Ended = (q, Go) in let here : Ends (Judged false) e = record { run = i; goes = refl } in subst (λ b. Ends (Judged b) e) (sym is) here))
+
+  checks_it : (q : Run) → Told false (word 8 0) (word 1 0) q → Ends (Judged verdict) (meaning_of calls (lookup checks (next reject done)) q)
+  checks_it q i =
+      let S0 : Run → Type 0 = Told false (word 8 0) (word 1 0) in
+      let S1 : Run → Type 0 = Told false (byte_of kind.value) (word 1 0) in
+      step calls S0 (Judged verdict) (assign 0 (checks.found ∷ []) (number 1 0)) (next (assign 0 (checks.key ∷ []) (path 0 kind_path)) (next (apply checks) (next reject done))) q (clears q i)
+      (λ p i. step calls S1 (Judged verdict) (assign 0 (checks.key ∷ []) (path 0 kind_path)) (next (apply checks) (next reject done)) p (keys p i)
+      (λ p i. step calls (Judged false) (Judged verdict) (apply checks) (next reject done) p (looks p i)
+      (λ p i. step calls (Judged verdict) (Judged verdict) reject done p (judges p i)
+      (λ p i. nothing_more calls (Judged verdict) p i))))
+
+  -- what holds at the end, at the last hop and elsewhere
+  abbrev Final : Bool → Run → Type 0
+  Final true = Judged verdict
+  Final false = Told false (word 8 0) (word 1 0)
+
+  checks_last : (q : Run) → Told false (word 8 0) (word 1 0) q → Ends (Final h.last) (meaning_of_stmt calls check q)
+  checks_last q i =
+      chosen calls (Final h.last) 0 (variable last_name) (block 0 (lookup checks (next reject done))) without q h.last refl (flag_read q last_name h.last refl i.others flags.is_last)
+      (λ is. subst (λ b. Ends (Final b) (meaning_of calls (lookup checks (next reject done)) q)) (sym is) (checks_it q i))
+      (λ is. (let e : Ended = (q, Go) in let here : Ends (Final false) e = record { run = i; goes = refl } in subst (λ b. Ends (Final b) e) (sym is) here))
+
+  pub ran : Ends (Final h.last) (meaning_of calls (sample.exit h.switch) a)
+  ran =
+      let R = Final h.last in
+      let H6 : Run → Type 0 = Told false (word 8 0) (word 1 0) in
+      step calls H1 R read_cell (next turn_cell (next tell_cell (next write_cell (next (push h.switch) (next tell_count (next check done)))))) a (reads_it a start)
+      (λ p i. step calls H2 R turn_cell (next tell_cell (next write_cell (next (push h.switch) (next tell_count (next check done))))) p (turns_it p i)
+      (λ p i. step calls H3 R tell_cell (next write_cell (next (push h.switch) (next tell_count (next check done)))) p (tells_it p i)
+      (λ p i. step calls H4 R write_cell (next (push h.switch) (next tell_count (next check done))) p (writes_it p i)
+      (λ p i. step calls H5 R (push h.switch) (next tell_count (next check done)) p (pushes_it p i)
+      (λ p i. step calls H6 R tell_count (next check done) p (counts_it p i)
+      (λ p i. step calls R R check done p (checks_last p i)
+      (λ p i. nothing_more calls R p i)))))))
+
+  -- which is what the property's telemetry and checker do
+  abbrev told : Doing Tele (List ℕ)
+  told = record (sample_property.telemetry h (nothing_yet t z)) { rejected = false }
+
+  is_known_here : is_known h ≡ known
+  is_known_here = ap (λ ws. is_member (h.contents 0) (byte_of (first_of ws).value)) (sym s.view)
+
+  doing : (b : Bool) (c k f : Word) (e : Ended) (d : Doing Tele (List ℕ)) → Ends (Here pushed_tele b c k f (counted z (cell_of t)) told_both) e → d ≡ record told { rejected = d.rejected } → Does sample IsFit SampleKeeps held a e h.contents d
+  doing b c k f e d r is =
+      let done_it : Does sample IsFit SampleKeeps held a e h.contents (record told { rejected = d.rejected }) =
+      record {
+        words = r.run.words;
+        fits = pushed_fits (byte_of h.switch) t (byte_fits h.switch) s.tele.fits;
+        keeps =
+          record {
+            cells = r.run.cells;
+            count = length-set z (cell_of t) (add 8 cell 1) ∙ s.keeps.count;
+            bytes = set_low z (cell_of t) (add 8 cell 1) (mod-lt (cell + 1) (pow_pos 8)) s.keeps.bytes;
+            checked = s.keeps.checked;
+            started = s.keeps.started;
+          };
+        others = r.run.others;
+        reports = r.run.reports;
+        goes = r.goes;
+      } in
+      subst (λ d. Does sample IsFit SampleKeeps held a e h.contents d) (sym is) done_it
+
+  pub exit_does : Does sample IsFit SampleKeeps held a (meaning_of calls (sample.exit h.switch) a) h.contents (exit_part sample_property h t z)
+  exit_does = by_last h.last (meaning_of calls (sample.exit h.switch) a) ran
+    where
+      by_last : (l : Bool) (e : Ended) → Ends (Final l) e → Does sample IsFit SampleKeeps held a e h.contents (if l then sample_property.checker h told else told)
+      by_last true e r = doing verdict (word 8 cell) (byte_of kind.value) (bit known) e (sample_property.checker h told) r refl
+      by_last false e r = doing false (word 8 cell) (word 8 0) (word 1 0) e told r refl
+
+  pub exit_verdict : h.last ≡ true → (meaning_of calls (sample.exit h.switch) a).0.store.values (rejected_name ∷ []) ≡ bit (exit_part sample_property h t z).rejected
+  exit_verdict is = by_last h.last is (meaning_of calls (sample.exit h.switch) a) ran
+    where
+      by_last : (l : Bool) → l ≡ true → (e : Ended) → Ends (Final l) e → e.0.store.values (rejected_name ∷ []) ≡ bit (if l then sample_property.checker h told else told).rejected
+      by_last true is e r = r.run.variables.0 ∙ ap (λ b. bit (not b && not h.first)) (sym is_known_here)
+      by_last false is e r = absurd (cc)
