@@ -6,3 +6,4 @@ pub mod States
 pub mod Entry
 pub mod Push
 pub mod Exit
+pub mod SampleLaws

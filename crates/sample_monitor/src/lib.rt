@@ -1,8 +1,17 @@
 //! A monitor made by hand, of a property made by hand.
 //!
-//! The crate has definitions and one law, and no code. It shows that `MonitorLaws` can be kept by a
-//! monitor with a header variable, a list, a sensor array, reports and a control variable that two
-//! tables hold.
+//! The crate has definitions and one law, and no code. The law says that `MonitorLaws` are kept by a
+//! monitor with a header variable, a list, a sensor array, reports, and a control variable that two
+//! tables hold, so that none of these laws is about nothing.
 //!
 //! Follows: P4_16 and v1model, this project's subset.
 #![tactic(auto)]
+
+ghost use Rattle.monitor_laws.specs.MonitorLaws.{MonitorLaws};
+ghost use Rattle.sample_monitor.specs.Property.{IsFit, OnlyZero, AreBytes};
+ghost use Rattle.sample_monitor.specs.Sample.{sample, SampleKeeps};
+
+/// The monitor keeps the laws.
+pub fn sample_keeps_the_laws()
+    ensures { MonitorLaws sample IsFit SampleKeeps OnlyZero AreBytes }
+{}
