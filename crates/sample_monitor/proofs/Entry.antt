@@ -89,6 +89,7 @@ module _ (calls : Calls) (held : Tables) (means : MeansTops sample IsFit SampleK
           step calls (Here (taken true) (byte_of kind.value ∷ bit true ∷ [])) (Here (taken true) (byte_of kind.value ∷ bit true ∷ [])) (assign 0 five_path (slice 0 (path 0 kind_path) 4 0)) done q (takes_true q i)
           (λ p j. nothing_more calls (Here (taken true) (byte_of kind.value ∷ bit true ∷ [])) p j)
       held_true false is i = absurd (cc)
+
       held_false : (b : Bool) → b ≡ false → Here t (byte_of kind.value ∷ bit b ∷ []) q → Ends (Here (taken b) (byte_of kind.value ∷ bit b ∷ [])) (q, Go)
       held_false true is i = absurd (cc)
       held_false false is i = record { run = i; goes = refl }

@@ -1,7 +1,7 @@
 -- The exit part: the counter, the reports and the push, and at the last hop a lookup and the verdict.
-use Rattle.std.proofs.Common.{◌≡◌, codes, ℕ, ◌+◌, ◌<◌, ◌^◌, List, [], ◌∷◌, ◌++◌, map, length, get_or, slice_set, Bool, true, false, ◌&&◌, not, None, Some, refl, sym, ap, ap₂, ◌∙◌, subst, append-nil, arith}
+use Rattle.std.proofs.Common.{◌≡◌, codes, ℕ, ◌+◌, ◌<◌, ◌^◌, List, [], ◌∷◌, ◌++◌, map, length, get_or, Bool, true, false, ◌&&◌, not, refl, sym, ap, ap₂, ◌∙◌, subst, append-nil}
 use Rattle.std.specs.Prelude.{if◌then◌else◌}
-use Rattle.std.specs.List.{AllByRecursion, filter}
+use Rattle.std.specs.List.{filter}
 use Rattle.std.proofs.Math.Nat.{mod-lt}
 use Rattle.std.proofs.lemmas.Nat.{pow_pos}
 use Rattle.std.proofs.lemmas.List.{length-set}
@@ -10,24 +10,23 @@ use Rattle.bit_values.specs.Bits as bits
 use Rattle.bit_values.proofs.BitsLemmas.{cast_of_small}
 use Rattle.linkage.specs.Linkage.{xor_with}
 use Rattle.p4_meaning.specs.Value.{value_of}
-use Rattle.bit_values.specs.Widths.{bit, sound_width, cast_word}
-use Rattle.p4_tree.specs.Tree.{path, flag, binary, negation, Stmt, Stmts, block, assign, done, next, without}
+use Rattle.bit_values.specs.Widths.{bit, cast_word}
+use Rattle.p4_tree.specs.Tree.{path, flag, binary, negation, block, assign, done, next, without}
 use Rattle.p4_tree.specs.declared.statement.Op.TheVariants.{BitXor, Equal, Both}
 use Rattle.p4_tree.specs.declared.statement.PTy.TheVariants as type
 use Rattle.p4_meaning.specs.Store.{read, set_value}
-use Rattle.p4_meaning.specs.Statements.{Go, Digest, Run, Ended, in_store, put_cells, cell_at, cell_set, index_of, Calls, meaning_of_stmt, meaning_of}
+use Rattle.p4_meaning.specs.Statements.{Go, Digest, Run, Ended, in_store, cell_at, cell_set, index_of, Calls, meaning_of_stmt, meaning_of}
 use Rattle.p4_meaning.specs.Parsing.{Field}
 use Rattle.p4_meaning.specs.Tables.{Tables}
 use Rattle.network_run.specs.PathMeaning.{Reads, Doing, nothing_yet, exit_part}
 use Rattle.own_code.specs.Relations.{is_report}
 use Rattle.monitor_laws.specs.Names.{first_name, last_name, rejected_name, is_lowered}
-use Rattle.monitor_laws.specs.Telemetry.{HasWords}
 use Rattle.monitor_laws.specs.Trees.{number}
 use Rattle.monitor_laws.specs.Monitor.{fields_of}
 use Rattle.monitor_laws.specs.MonitorLaws.{Flags, MeansTops, StandsFor, Does, Others}
 use Rattle.monitor_laws.proofs.Frames.{others_same}
 use Rattle.sample_monitor.specs.Property.{Tele, pushed, byte_of, first_of, is_member, is_known, cell_of, counted, sample_property, IsFit}
-use Rattle.sample_monitor.specs.Sample.{kind_path, five_path, tele_path, counter_name, cell_name, checks, variable, apply, lookup, cell_index, read_cell, turn_cell, next_cell, write_cell, tell_cell, tell_count, push, reject, check, sample, kept_cell, SampleKeeps}
+use Rattle.sample_monitor.specs.Sample.{kind_path, five_path, counter_name, cell_name, checks, variable, apply, lookup, cell_index, read_cell, turn_cell, next_cell, write_cell, tell_cell, tell_count, push, reject, check, sample, kept_cell, SampleKeeps}
 use Rattle.sample_monitor.proofs.Steps.{report_of, Ends, ends_with, step, nothing_more, chosen}
 use Rattle.sample_monitor.proofs.Cells.{turned_low, cell_is, cell_set_is, set_low, get_low}
 use Rattle.sample_monitor.proofs.Tests.{rejects_is, turned_is, next_is}
@@ -246,13 +245,13 @@ module _ (calls : Calls) (held : Tables) (means : MeansTops sample IsFit SampleK
         words = r.run.words;
         fits = pushed_fits (byte_of h.switch) t (byte_fits h.switch) s.tele.fits;
         keeps =
-          record {
-            cells = r.run.cells;
-            count = length-set z (cell_of t) (add 8 cell 1) ∙ s.keeps.count;
-            bytes = set_low z (cell_of t) (add 8 cell 1) (mod-lt (cell + 1) (pow_pos 8)) s.keeps.bytes;
-            checked = s.keeps.checked;
-            started = s.keeps.started;
-          };
+            record {
+              cells = r.run.cells;
+              count = length-set z (cell_of t) (add 8 cell 1) ∙ s.keeps.count;
+              bytes = set_low z (cell_of t) (add 8 cell 1) (mod-lt (cell + 1) (pow_pos 8)) s.keeps.bytes;
+              checked = s.keeps.checked;
+              started = s.keeps.started;
+            };
         others = r.run.others;
         reports = r.run.reports;
         goes = r.goes;

@@ -1,5 +1,5 @@
 -- The monitor keeps the laws.
-use Rattle.std.proofs.Common.{◌≡◌, ℕ, ◌<◌, ◌^◌, List, [], ◌∷◌, map, Bool, true, false, cond, Option, Some, None, refl, sym, ap, ◌∙◌, subst, arith}
+use Rattle.std.proofs.Common.{◌≡◌, ℕ, ◌<◌, ◌^◌, List, [], ◌∷◌, map, Bool, true, false, cond, Some, None, refl, sym, ap, ◌∙◌, subst, arith}
 use Rattle.std.specs.Prelude.{if◌then◌else◌, nat_eq, All}
 use Rattle.std.specs.List.{AllByRecursion}
 use Rattle.std.proofs.lemmas.List.Elements.{All-nil, All-cons}
@@ -30,6 +30,7 @@ either_table x t P one two is = go (same_text checks.table x) refl
     last : (b : Bool) → same_text starts.table x ≡ b → (if b then Some (table_for starts) else None) ≡ Some t → P x
     last true e is = subst P ((text_decides starts.table x).0 e) two
     last false e is = absurd (cc)
+
     go : (b : Bool) → same_text checks.table x ≡ b → P x
     go true e = subst P ((text_decides checks.table x).0 e) one
     go false e = last (same_text starts.table x) refl (ap (λ b. if b then Some (table_for checks) else if same_text starts.table x then Some (table_for starts) else None) (sym e) ∙ is)

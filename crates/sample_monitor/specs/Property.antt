@@ -67,11 +67,11 @@ sample_property =
       sensors = 7 ∷ 7 ∷ 7 ∷ 7 ∷ [];
       init = λ h d. if is_known h then record d { tele = record d.tele { five = five_of (first_of h.view) } } else d;
       telemetry = λ h d.
-        record d {
-          tele = pushed (byte_of h.switch) d.tele;
-          sensors = counted d.sensors (cell_of d.tele);
-          reports = d.reports ++ counter_report (get_or d.sensors (cell_of d.tele) 0) h.first ∷ length_report (pushed (byte_of h.switch) d.tele).count ∷ [];
-        };
+          record d {
+            tele = pushed (byte_of h.switch) d.tele;
+            sensors = counted d.sensors (cell_of d.tele);
+            reports = d.reports ++ counter_report (get_or d.sensors (cell_of d.tele) 0) h.first ∷ length_report (pushed (byte_of h.switch) d.tele).count ∷ [];
+          };
       checker = λ h d. record d { rejected = not (is_known h) && not h.first };
     }
 

@@ -163,8 +163,8 @@ sample =
     record {
       property = sample_property;
       fields =
-        record { name = codes "five"; width = 5 } ∷ record { name = codes "hydra_fill"; width = 3 } ∷ record { name = codes "count"; width = 8 }
-        ∷ record { name = codes "front"; width = 8 } ∷ record { name = codes "back"; width = 8 } ∷ [];
+          record { name = codes "five"; width = 5 } ∷ record { name = codes "hydra_fill"; width = 3 } ∷ record { name = codes "count"; width = 8 }
+          ∷ record { name = codes "front"; width = 8 } ∷ record { name = codes "back"; width = 8 } ∷ [];
       words = λ t. t.five ∷ word 3 0 ∷ t.count ∷ t.front ∷ t.back ∷ [];
       room = 4;
       registers = record { name = counter_name; width = 8; count = 4 } ∷ [];

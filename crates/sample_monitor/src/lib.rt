@@ -7,9 +7,13 @@
 //! Follows: P4_16 and v1model, this project's subset.
 #![tactic(auto)]
 
+mod rows;
+
 ghost use Rattle.monitor_laws.specs.MonitorLaws.{MonitorLaws};
 ghost use Rattle.sample_monitor.specs.Property.{IsFit, OnlyZero, AreBytes};
 ghost use Rattle.sample_monitor.specs.Sample.{sample, SampleKeeps};
+
+pub use rows::{a_packet_is_judged, statements_judge_it, telemetry_is_bytes};
 
 /// The monitor keeps the laws.
 pub fn sample_keeps_the_laws()
