@@ -7,3 +7,4 @@ pub mod Entry
 pub mod Push
 pub mod Exit
 pub mod SampleLaws
+pub mod Refused
