@@ -40,7 +40,7 @@ impl LinkedMonitor for SmallGrammar {
 
 /// What a small property lowers to keeps the laws of a monitor, whatever calls do and tables hold. So the
 /// entry statements do what `init` does, the exit statements do what the telemetry block does, and at the
-/// last hop the checker behind it, and neither write anything but the monitor's.
+/// last hop the checker behind it, and neither writes anything but the monitor's.
 pub fn small_grammar_keeps_the_laws()
     ensures { (p : Property) → IsSmall p → MonitorLaws (small_monitor p) (IsFitTele p.decls) NoneKept NoVariable NoContents }
 {}
