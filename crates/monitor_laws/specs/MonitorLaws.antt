@@ -1,6 +1,6 @@
 -- What a lowering has to show of what it gives. The laws on linked programs follow from this record alone. Read `Monitor`
 -- before it, `OwnCode` of `own_code` and `Lengths` of `packet_lengths`.
-use Rattle.std.specs.Prelude.{◌≡◌, codes, ℕ, ◌*◌, List, [], ◌∷◌, ◌++◌, map, Bool, true, false, ◌||◌, not, Option, Some, None, All}
+use Rattle.std.specs.Prelude.{◌≡◌, codes, ℕ, ◌*◌, List, [], ◌∷◌, ◌++◌, map, Bool, true, false, ◌||◌, not, Some, None, All}
 use Rattle.std.specs.List.{filter, AllByRecursion}
 use Rattle.bit_values.specs.Bits.{word}
 use Rattle.bit_values.specs.Widths.{bit}

@@ -20,6 +20,7 @@ use Rattle.indus_tree.specs.Law.{hop_for, law_of}
 use Rattle.indus_tree.specs.Small.{IsSmallStmt, IsSmallBlock, IsSmall}
 use Rattle.packet_lengths.specs.Lengths.{KeepsLength, KeepsElse, KeepLength}
 use Rattle.own_code.specs.Relations.{is_report}
+use Rattle.packet_lengths.proofs.Near.{both_keep}
 use Rattle.monitor_laws.specs.Names.{last_name, rejected_name}
 use Rattle.monitor_laws.specs.MonitorLaws.{report_digest, Flags, HasTele, Does, MonitorLaws}
 use Rattle.monitor_laws.proofs.Frames.{others_then, others_set, last_ended, open_by, assignment}
@@ -61,10 +62,6 @@ mutual
   low_keeps_else : (ss : indus.Stmts) → KeepsElse (lowered_else ss)
   low_keeps_else indus.done = tt
   low_keeps_else (indus.next s ss) = (low_keeps_one s, low_keeps ss)
-
-both_keep : (a b : Stmts) → KeepLength a → KeepLength b → KeepLength (and_then a b)
-both_keep done b h k = k
-both_keep (next s ss) b h k = (h.0, both_keep ss b h.1 k)
 
 module _ (p : Property) (small : IsSmall p) where
   abbrev ds : List Decl

@@ -13,8 +13,8 @@ use Rattle.indus_tree.specs.Reads.{scalar}
 use Rattle.lex_text.specs.Names.{same_text}
 use Rattle.indus_tree.specs.Small.{IsByteDecl, IsSmall}
 use Rattle.indus_tree.specs.declared.tree.DeclKind.TheVariants.{Tele}
-use Rattle.linked_halves.specs.Telemetry as linked
-use Rattle.linked_halves.specs.Telemetry.{tele_word, IsByteCell, IsFitTele}
+use Rattle.small_monitor.specs.Telemetry as linked
+use Rattle.small_monitor.specs.Telemetry.{tele_word, IsByteCell, IsFitTele}
 use Rattle.indus_values.proofs.SeatLemmas.{same_text_decides}
 use Rattle.tele_layout.specs.Telemetry.{numbers_bits, slot_bits, variables_bits, first_byte, whole_bytes, filled, tele_bytes}
 

@@ -9,8 +9,8 @@ use Rattle.indus_tree.specs.declared.tree.DeclKind.TheVariants.{Tele}
 use Rattle.indus_rules.specs.Rules.{IsWellTyped}
 use Rattle.indus_values.specs.View.{seats, tele_of}
 use Rattle.indus_values.specs.declared.state.TeleState.{TeleState}
-use Rattle.linked_halves.specs.Telemetry as linked
-use Rattle.linked_halves.specs.Telemetry.{IsFitTele}
+use Rattle.small_monitor.specs.Telemetry as linked
+use Rattle.small_monitor.specs.Telemetry.{IsFitTele}
 use Rattle.tele_layout.specs.Telemetry.{tele_bytes}
 use Rattle.tele_layout.specs.Layouts.{layout_bytes, lists_of, FitSlots, IsLayout, IsLayoutOf}
 use Rattle.tele_layout.specs.declared.slots.Layout.{Layout}
