@@ -1,0 +1,12 @@
+pub mod Names
+pub mod Places
+pub mod Calls
+pub mod Blocks
+pub mod Controls
+pub mod Fields
+pub mod Params
+pub mod Programs
+pub mod Forwarding
+pub mod Weaker
+pub mod Without
+pub mod Rows
