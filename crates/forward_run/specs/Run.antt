@@ -1,4 +1,4 @@
--- The run of a job: the network's run of its program alone. Read `Job` before it, `Programs` of path_runner, and `World` of
+-- The run of a job: the network's run of its program alone. Read `Job` before it, `Programs` of switch_machines, and `World` of
 -- the network's run.
 use Rattle.std.specs.Prelude.{[], get_or}
 use Rattle.p4_meaning.specs.Parts.{parts_of}

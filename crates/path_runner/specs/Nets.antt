@@ -1,4 +1,4 @@
--- What a net holds, and the networks of the definition that it stands for. Read `Programs` before it, and `Network` and
+-- What a net holds, and the networks of the definition that it stands for. Read `Programs` of switch_machines before it, and `Network` and
 -- `NetworkRun` of the network's run.
 use Rattle.std.specs.Prelude.{◌≡◌, ℕ, List, [], length, map, get_or, slice_get, Some}
 use Rattle.p4_tree.specs.Tree.{Program}

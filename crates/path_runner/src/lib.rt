@@ -6,8 +6,8 @@
 //! registers, the packets' places, and what has happened so far. `Shows` says for which networks of the
 //! run's definition it stands, which has a log of halves and the contents of control variables besides;
 //! `RunsTo` says that an event of the program is the event of the definition, on each of them, whatever
-//! the property reads. `specs/Programs` is what the programs are there, `Conditions` what is asked of
-//! what is handed in.
+//! the property reads. `switch_machines` says what the programs are there, `specs/Conditions` what is
+//! asked of what is handed in.
 //!
 //! No table holds a control variable yet, so that new contents change no switch. After want of memory a
 //! net is given up. Speed is not promised.
