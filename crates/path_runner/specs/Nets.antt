@@ -1,5 +1,5 @@
--- What a net holds, and the networks of the definition that it stands for. Read `Programs` of switch_machines before it, and `Network` and
--- `NetworkRun` of the network's run.
+-- What a net holds, and the networks of the definition that it stands for. Read `Programs` of switch_machines before
+-- it, and `Network` and `NetworkRun` of the network's run.
 use Rattle.std.specs.Prelude.{◌≡◌, ℕ, List, [], length, map, get_or, slice_get, Some}
 use Rattle.p4_tree.specs.Tree.{Program}
 use Rattle.p4_meaning.specs.Parts.{parts_of}
