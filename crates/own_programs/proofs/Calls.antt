@@ -1,7 +1,6 @@
 -- Calls of a well-typed program are own: they make headers of the struct of headers valid, write where they may, and tell
 -- no reports.
 use Rattle.std.proofs.Common.{◌≡◌, ◌⊎◌, inl, inr, ℕ, List, [], ◌∷◌, map, Bool, true, false, cond, not, ◌||◌, nat_eq, codes, Option, Some, None, refl, sym, ap, ◌∙◌, subst}
-use Rattle.std.specs.List.{list_any}
 use Rattle.bit_values.specs.Bits.{Word}
 use Rattle.lex_text.specs.Names.{same_text}
 use Rattle.rule_tests.specs.Tests.{IsFine}
@@ -20,6 +19,7 @@ use Rattle.p4_statement_rules.specs.Calls.{is_known, digest_tests, cell_read, fi
 use Rattle.p4_rule_laws.specs.Old.{OldPath, OldExpr, OldExprs, OldArgs}
 use Rattle.p4_typing_laws.proofs.Fine.{twice_not, neither}
 use Rattle.p4_typing_laws.proofs.CallCounts.{text_is}
+use Rattle.exit_programs.specs.Names.{has_point}
 use Rattle.own_code.specs.Regions.{is_writable}
 use Rattle.own_code.specs.Forwarding.{IsOwnAct}
 use Rattle.own_programs.specs.OwnPrograms.{is_own, act_tells_report}
@@ -28,20 +28,20 @@ use Rattle.own_programs.proofs.Places.{is_held_header, IsPlace, header_own, targ
 
 -- ---- functions of the architecture's own go by their names
 
-pub full_point : (c x : List ℕ) → list_any (λ b. nat_eq b 46) (full c x) ≡ true
+pub full_point : (c x : List ℕ) → has_point (full c x) ≡ true
 full_point c [] = refl
 full_point c (b ∷ x) = go (nat_eq b 46) (full_point c x)
   where
-    go : (e : Bool) → list_any (λ b. nat_eq b 46) (full c x) ≡ true → (e || list_any (λ b. nat_eq b 46) (full c x)) ≡ true
+    go : (e : Bool) → has_point (full c x) ≡ true → (e || has_point (full c x)) ≡ true
     go true k = refl
     go false k = k
 
 -- a name without a point is no full name
-plain_is : (sc : meaning.Scope) (x n : List ℕ) → list_any (λ b. nat_eq b 46) n ≡ false → full_name sc x ≡ n → x ≡ n
+plain_is : (sc : meaning.Scope) (x n : List ℕ) → has_point n ≡ false → full_name sc x ≡ n → x ≡ n
 plain_is sc x n plain e = go (is_among sc.own x) e
   where
     go : (b : Bool) → cond b (full sc.control x) x ≡ n → x ≡ n
-    go true k = broken (sym (full_point sc.control x) ∙ ap (λ (y : List ℕ). list_any (λ b. nat_eq b 46) y) k ∙ plain)
+    go true k = broken (sym (full_point sc.control x) ∙ ap has_point k ∙ plain)
     go false k = k
 
 core_is : (x : List ℕ) → core (x ∷ []) ≡ core_name x
@@ -85,7 +85,7 @@ module _ (s : Scope) (sc : meaning.Scope) (b : IsPlace s sc) where
   -- ---- calls by one name
 
   -- a function's own name stands for it
-  function_form : (p : ℕ) (x n : List ℕ) (args : List Arg) → list_any (λ b. nat_eq b 46) n ≡ false → is_missing (core_name n) ≡ false → same_text (full_name sc x) n ≡ true → IsFine (form_tests p s (plain_form (s (x ∷ []))) args) → (x ≡ n) × IsFine (form_tests p s (plain_form (core_name n)) args)
+  function_form : (p : ℕ) (x n : List ℕ) (args : List Arg) → has_point n ≡ false → is_missing (core_name n) ≡ false → same_text (full_name sc x) n ≡ true → IsFine (form_tests p s (plain_form (s (x ∷ []))) args) → (x ≡ n) × IsFine (form_tests p s (plain_form (core_name n)) args)
   function_form p x n args plain there e f =
       (let same = plain_is sc x n plain (text_is (full_name sc x) n e) in
       (same, subst (λ (st : Stands). IsFine (form_tests p s (plain_form st) args)) (ap (λ (y : List ℕ). s (y ∷ [])) same ∙ stands_there n there) f))

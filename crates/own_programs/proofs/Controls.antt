@@ -1,5 +1,5 @@
 -- The declarations of a control: its variables, actions and tables are own.
-use Rattle.std.proofs.Common.{◌≡◌, ℕ, List, [], ◌∷◌, ◌++◌, map, Bool, false, cond, nat_eq, codes, Some, None, refl, sym, ap, ◌∙◌}
+use Rattle.std.proofs.Common.{◌≡◌, ℕ, List, [], ◌∷◌, ◌++◌, map, Bool, false, cond, codes, Some, None, refl, sym, ap, ◌∙◌}
 use Rattle.std.specs.List.{list_any, AllByRecursion}
 use Rattle.lex_text.specs.Names.{same_text}
 use Rattle.rule_tests.specs.Tests.{IsFine}
@@ -21,6 +21,7 @@ use Rattle.p4_typing_laws.proofs.Fine.{neither}
 use Rattle.p4_typing_laws.proofs.FullNames.{among_head, other_text, Knows, knows_rest}
 use Rattle.exit_statements.specs.Without.{no_exits, stmts_leave}
 use Rattle.exit_programs.specs.Laws.{local_leaves}
+use Rattle.exit_programs.specs.Names.{has_point}
 use Rattle.own_code.specs.Regions.{is_mine}
 use Rattle.own_code.specs.Forwarding.{IsOwnExpr, AreOwnStmts, AreVars, IsOwnAction, IsOwnTable}
 use Rattle.own_programs.specs.OwnPrograms.{is_own, stmts_tell_reports, local_tells_reports}
@@ -101,7 +102,7 @@ actions_own h (local_var p u x e ∷ ls) s sd outer b o l t f = actions_own h ls
 
 -- none is called `NoAction`, since a point stands in each full name
 no_action_name : (c x : List ℕ) → same_text (full c x) (codes "NoAction") ≡ false
-no_action_name c x = other_text (full c x) (codes "NoAction") (λ e. broken (sym (full_point c x) ∙ ap (λ (y : List ℕ). list_any (λ b. nat_eq b 46) y) e))
+no_action_name c x = other_text (full c x) (codes "NoAction") (λ e. broken (sym (full_point c x) ∙ ap has_point e))
 
 pub no_action_in : (c : List ℕ) (ls : List Local) (sd : meaning.Scope) → Knows c sd ls → (rest : List Action) → action_named (actions_in sd ls ++ rest) (codes "NoAction") ≡ action_named rest (codes "NoAction")
 no_action_in c [] sd k rest = refl

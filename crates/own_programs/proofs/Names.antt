@@ -1,6 +1,6 @@
 -- Names under a scope are own where they are written so, and so are expressions.
 use Rattle.std.proofs.Common.{◌≡◌, ℕ, List, [], ◌∷◌, map, Bool, true, false, cond, not, ◌&&◌, ◌||◌, nat_eq, codes, Option, Some, None, refl, sym, ap, ap₂, ◌∙◌}
-use Rattle.std.specs.List.{list_any, AllByRecursion}
+use Rattle.std.specs.List.{AllByRecursion}
 use Rattle.std.specs.Option.{option_map}
 use Rattle.bit_values.specs.Bits.{Word}
 use Rattle.lex_text.specs.Names.{same_text}
@@ -11,6 +11,7 @@ use Rattle.p4_meaning.specs.Standard.{headers_root, metadata_root, standard_root
 use Rattle.p4_meaning.specs.Scope.{Roots, root_of, Inner, Scope, is_among, full, full_name, is_inner, inner_name, first_name, path_under, constant_at}
 use Rattle.p4_meaning.specs.Under.{constant_or_path, expr_under, arg_under}
 use Rattle.p4_rule_laws.specs.Old.{OldPath, OldExpr, OldExprs, OldStart, OldArgs}
+use Rattle.exit_programs.specs.Names.{has_point}
 use Rattle.own_code.specs.Regions.{is_mine, is_free}
 use Rattle.own_code.specs.Forwarding.{IsOwnExpr, IsOwnStart, IsOwnApplication, IsOwnTest}
 use Rattle.own_programs.specs.OwnPrograms.{is_own}
@@ -28,16 +29,16 @@ own_not x h = go (is_mine x) h
 -- ---- full names
 
 -- what follows a point tells nothing of how a name begins
-begins_full : (w x c : List ℕ) → list_any (λ b. nat_eq b 46) w ≡ false → begins w (full c x) ≡ begins w x
+begins_full : (w x c : List ℕ) → has_point w ≡ false → begins w (full c x) ≡ begins w x
 begins_full [] x c h = refl
 begins_full (b ∷ w) [] c h = go (nat_eq b 46) h
   where
-    go : (e : Bool) → (e || list_any (λ b. nat_eq b 46) w) ≡ false → (e && begins w c) ≡ false
+    go : (e : Bool) → (e || has_point w) ≡ false → (e && begins w c) ≡ false
     go true k = broken k
     go false k = refl
 begins_full (b ∷ w) (a ∷ x) c h = ap (λ (e : Bool). nat_eq b a && e) (begins_full w x c (go (nat_eq b 46) h))
   where
-    go : (e : Bool) → (e || list_any (λ b. nat_eq b 46) w) ≡ false → list_any (λ b. nat_eq b 46) w ≡ false
+    go : (e : Bool) → (e || has_point w) ≡ false → has_point w ≡ false
     go true k = broken k
     go false k = k
 

@@ -109,6 +109,7 @@ module _ (p : Program) (well : IsWellTyped p) where
     pub outer : sc.inner ≡ None
     pub all : after_tops s ts ≡ S
     pub within : (y : Top) → In y ts → In y p.tops
+    -- where the struct of metadata is not declared yet, its fields are single values behind all declarations
     pub fields : is_missing (s (R.metadata_type ∷ [])) ≡ true → all_fields is_scalar S (struct_fields ts R.metadata_type) ≡ true
 
   goes_on : (ts : List Top) (s : Scope) (sc : meaning.Scope) → IsAt ts s sc → IsFine (tops_tests p.main s ts) → GoesOn s S
@@ -165,7 +166,7 @@ module _ (p : Program) (well : IsWellTyped p) where
     ways : IsFine (ways_tests s c.params)
     ways = fine.1.0
 
-  -- what is found of it: its old names, that nothing leaves it, and that it tells no reports
+  -- what is known of it: its names are own, nothing leaves it, and it tells no reports
   pub record Stands (c : Control) : Type 0 where
     pub old : OldControl is_own c
     pub locals_stay : list_any local_leaves c.locals ≡ false

@@ -83,7 +83,7 @@ module _ (old more : Names) (weaker : (x : List ℕ) → old x ≡ true → more
   default_more None o = tt
   default_more (Some d) o = (weaker d.0 o.0, exprs_more d.1 o.1)
 
-  -- ---- declarations of controls, but for actions
+  -- ---- declarations of controls
 
   pub local_more : (l : Local) → OldLocal old l → OldLocal more l
   local_more (local_action p a) o = (weaker a.name o.0, fields_more a.params o.1, stmts_more a.body o.2)

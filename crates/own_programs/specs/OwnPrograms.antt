@@ -22,7 +22,7 @@ pub record HasOwnNames (p : Program) : Type 0 where
 
 -- ---- reports
 
--- a digest that the receiver of reports takes
+-- a digest to the receiver of reports. In a well-typed program a receiver is a written number, and no constant
 abbrev pub act_tells_report : Act → Bool
 act_tells_report (makes h b) = false
 act_tells_report drops = false
