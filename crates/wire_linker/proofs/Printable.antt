@@ -1,5 +1,5 @@
 -- The linked programs of a small property can be printed: the monitor's names are names, since a variable's is one.
-use Rattle.std.proofs.Common.{◌≡◌, ℕ, ◌≤◌, ◌<◌, ◌^◌, Bool, true, false, ◌&&◌, ◌||◌, List, [], ◌∷◌, ◌++◌, map, refl, sym, ap, ◌∙◌, arith, inl, inr}
+use Rattle.std.proofs.Common.{◌≡◌, ℕ, zero, suc, ◌≤◌, ◌<◌, ◌^◌, Bool, true, false, ◌&&◌, ◌||◌, List, [], ◌∷◌, ◌++◌, length, map, refl, sym, ap, ◌∙◌, arith, inl, inr}
 use Rattle.std.specs.List.{list_all, All}
 use Rattle.std.proofs.lemmas.List.Elements.{All-head, All-tail}
 use Rattle.std.specs.Cmp.Lexicographic.{same_text as texts_same}
@@ -13,12 +13,14 @@ use Rattle.indus_tree.specs.Tree as indus
 use Rattle.indus_tree.specs.Tree.{Decl, Property}
 use Rattle.indus_tree.specs.Names.{is_declared}
 use Rattle.indus_tree.specs.Small.{IsByteDecl, IsSmallSum, IsSmallTest, IsSmallStmt, IsSmallBlock, IsSmall}
-use Rattle.linked_halves.specs.Monitor.{tele_name, tele_path, lowered, lowered_stmt, lowered_block, lowered_else, is_port_of, only_if, entry_stmts, entry_stmt, check_stmts, check_stmt, exit_stmts, exit_stmt, end_stmts, reject_stmts}
-use Rattle.linked_halves.specs.ParserStates.{link_cases}
+use Rattle.small_monitor.specs.Lowered.{tele_name, tele_path, lowered, lowered_stmt, lowered_block, lowered_else}
+use Rattle.small_monitor.specs.Small.{checker_of}
+use Rattle.linked_halves.specs.Statements.{port_test, joined_pairs, joined, any_of, is_port_of, reject_stmts, end_stmts, last_test}
+use Rattle.linked_halves.specs.ParserStates.{link_cases, first_state, taken_state}
 use Rattle.wire_program.specs.WireProgram.{wire_ingress, two_params, three_params}
 use Rattle.p4_meaning.specs.Standard.{ingress_port, egress_port}
-use Rattle.p4_printer.specs.CanSpell.{IsName, EachCan, SomeCan, CanSpellPath, CanSpellExpr, CanSpellStmt, CanSpellStmts, CanSpellCase, CanSpellState, CanSpellParam, CanSpellField, CanSpell}
-use Rattle.wire_linker.specs.Linked.{tele_field, linked_states, linked_wire}
+use Rattle.p4_printer.specs.CanSpell.{IsName, EachCan, SomeCan, CanSpellPath, CanSpellExpr, CanSpellStmt, CanSpellStmts, CanSpellCase, CanSpellState, CanSpellParam, CanSpellLocal, CanSpellField, CanSpell}
+use Rattle.wire_linker.specs.Linked.{tele_field, linked_states, linked_locals, entry_stmt, exit_stmt, linked_wire}
 use Rattle.wire_linker.specs.Laws.{LinkedCanBePrinted}
 
 -- ---- names
@@ -72,9 +74,26 @@ then_can (next s ss) b c d = (c.0, then_can ss b c.1 d)
 
 -- ---- ports
 
+tests_can : (p : List (List ℕ)) → CanSpellPath p → (ns : List ℕ) → All (λ n. n < 2 ^ 16) ns → EachCan CanSpellExpr (map (port_test p) ns)
+tests_can p c [] low = tt
+tests_can p c (n ∷ ns) low = ((c, (omega arith, omega (arith, All-head (λ n. n < 2 ^ 16) n ns low))), tests_can p c ns (All-tail (λ n. n < 2 ^ 16) n ns low))
+
+pairs_can : (es : List Expr) → EachCan CanSpellExpr es → EachCan CanSpellExpr (joined_pairs es)
+pairs_can [] c = tt
+pairs_can (a ∷ []) c = c
+pairs_can (a ∷ b ∷ es) c = ((c.0, c.1.0), pairs_can es c.1.1)
+
+joined_can : (times : ℕ) (es : List Expr) → EachCan CanSpellExpr es → EachCan CanSpellExpr (joined times es)
+joined_can zero es c = c
+joined_can (suc n) es c = joined_can n (joined_pairs es) (pairs_can es c)
+
+any_can : (es : List Expr) → EachCan CanSpellExpr es → CanSpellExpr (any_of es)
+any_can [] c = tt
+any_can (a ∷ []) c = c.0
+any_can (a ∷ b ∷ es) c = (c.0, any_can (b ∷ es) c.1)
+
 ports_can : (p : List (List ℕ)) → CanSpellPath p → (ns : List ℕ) → All (λ n. n < 2 ^ 16) ns → CanSpellExpr (is_port_of p ns)
-ports_can p c [] low = tt
-ports_can p c (n ∷ ns) low = ((c, (omega arith, omega (arith, All-head (λ n. n < 2 ^ 16) n ns low))), ports_can p c ns (All-tail (λ n. n < 2 ^ 16) n ns low))
+ports_can p c ns low = any_can (joined 9 (map (port_test p) ns)) (joined_can 9 (map (port_test p) ns) (tests_can p c ns low))
 
 cases_can : (ns : List ℕ) → All (λ n. n < 2 ^ 16) ns → EachCan CanSpellCase (link_cases ns)
 cases_can [] low = (((tt, tt), (refl, refl)), tt)
@@ -98,21 +117,53 @@ end_can = (inl (((refl, refl), ((refl, refl), ((refl, refl), tt))), tt), (inl ((
 entry_can : (p : Property) (ns : List ℕ) → IsSmall p → All (λ n. n < 2 ^ 16) ns → CanSpellStmt false (entry_stmt p ns)
 entry_can p ns s low = (ports_can ingress_port ingress_can ns low, (inl (((refl, refl), ((refl, refl), ((refl, refl), tt))), tt), (inl (((refl, refl), ((refl, refl), ((refl, refl), tt))), (omega arith, omega arith)), block_can p.decls s.decls false p.init s.init)), refl)
 
-check_can : (p : Property) (ns : List ℕ) → IsSmall p → All (λ n. n < 2 ^ 16) ns → CanSpellStmt false (check_stmt p ns)
-check_can p ns s low =
-    (ports_can egress_port egress_can ns low, (inr (tt, (refl, refl), tt), then_can (lowered_block p.check) end_stmts (block_can p.decls s.decls true p.check s.check) end_can), refl)
+last_can : CanSpellStmts last_test
+last_can = (inl (((refl, refl), tt), end_can, refl), tt)
+
+check_can : (p : Property) → IsSmall p → CanSpellStmt false (checker_of p)
+check_can p s = (((refl, refl), tt), (inl (((refl, refl), tt), tt), block_can p.decls s.decls true p.check s.check), refl)
+
+property_can : (p : Property) → IsSmall p → CanSpellStmts (and_then (lowered_block p.tele) (next (checker_of p) done))
+property_can p s = then_can (lowered_block p.tele) (next (checker_of p) done) (block_can p.decls s.decls false p.tele s.tele) (inl (check_can p s), tt)
 
 exit_can : (p : Property) (ns : List ℕ) → IsSmall p → All (λ n. n < 2 ^ 16) ns → CanSpellStmt false (exit_stmt p ns)
 exit_can p ns s low =
-    ((((refl, refl), ((refl, refl), tt)), (omega arith, omega arith)), then_can (lowered_block p.tele) (next (check_stmt p ns) done) (block_can p.decls s.decls false p.tele s.tele) (inl (check_can p ns s low), tt), refl)
+    (
+      (((refl, refl), ((refl, refl), tt)), (omega arith, omega arith)),
+      (
+        inl (((refl, refl), tt), ports_can ingress_port ingress_can ns low),
+        (
+          inl (((refl, refl), tt), ports_can egress_port egress_can ns low),
+          then_can (and_then (lowered_block p.tele) (next (checker_of p) done)) last_test (property_can p s) last_can,
+        ),
+      ),
+      refl,
+    )
 
 wire_can : CanSpellStmts wire_ingress
 wire_can = (inl ((((refl, refl), ((refl, refl), tt)), (omega arith, omega arith)), (inl (((refl, refl), ((refl, refl), tt)), (omega arith, omega arith)), tt), (inl (((refl, refl), ((refl, refl), tt)), (omega arith, omega arith)), tt)), tt)
 
 -- ---- the program
 
-states_can : (ns : List ℕ) → All (λ n. n < 2 ^ 16) ns → EachCan CanSpellState (linked_states ns)
-states_can ns low = (((refl, refl), tt, ((((refl, refl), ((refl, refl), tt)), tt), cases_can ns low)), (((refl, refl), ((((refl, refl), ((refl, refl), tt)), ((refl, refl), ((refl, refl), tt))), tt), (refl, refl)), (((refl, refl), tt, (refl, refl)), tt)))
+first_can : (ns : List ℕ) → All (λ n. n < 2 ^ 16) ns → CanSpellState (first_state ns)
+first_can ns low = ((refl, refl), ((((refl, refl), ((refl, refl), tt)), ((refl, refl), ((refl, refl), tt))), tt), ((((refl, refl), ((refl, refl), tt)), tt), cases_can ns low))
+
+taken_can : (size : ℕ) → size < 2 ^ 128 → CanSpellState (taken_state size)
+taken_can size short =
+    (
+      (refl, refl),
+      (
+        (((refl, refl), ((refl, refl), tt)), ((refl, refl), ((refl, refl), tt))),
+        ((((refl, refl), ((refl, refl), tt)), (((refl, refl), ((refl, refl), tt)), (omega arith, short))), tt),
+      ),
+      (refl, refl),
+    )
+
+states_can : (p : Property) (ns : List ℕ) → IsSmall p → All (λ n. n < 2 ^ 16) ns → EachCan CanSpellState (linked_states p.decls ns)
+states_can p ns s low = (first_can ns low, (taken_can (suc (length p.decls)) (omega (arith, s.few)), (((refl, refl), tt, (refl, refl)), tt)))
+
+locals_can : EachCan CanSpellLocal linked_locals
+locals_can = ((refl, (tt, (refl, refl), tt)), ((refl, (tt, (refl, refl), tt)), ((refl, (tt, (refl, refl), tt)), tt)))
 
 three_can : SomeCan CanSpellParam three_params
 three_can = (((refl, refl), (refl, refl)), (((refl, refl), (refl, refl)), (((refl, refl), (refl, refl)), tt)))
@@ -127,17 +178,17 @@ linked_can_be_printed p ns s low = record {
     (
       (omega arith, omega arith, (refl, refl)),
       (
-        ((refl, refl), tt),
+        ((refl, refl), ((omega arith, (refl, refl)), tt)),
         (
           ((refl, refl), (((refl, refl), (refl, refl)), tt)),
           (
-            ((refl, refl), (((refl, refl), (refl, refl)), (((refl, refl), (refl, refl)), (((refl, refl), (refl, refl)), (((refl, refl), (refl, refl)), tt)))), states_can ns low),
+            ((refl, refl), (((refl, refl), (refl, refl)), (((refl, refl), (refl, refl)), (((refl, refl), (refl, refl)), (((refl, refl), (refl, refl)), tt)))), states_can p ns s low),
             (
               ((refl, refl), two_can, tt, tt),
               (
                 ((refl, refl), three_can, tt, (inl (entry_can p ns s low), wire_can)),
                 (
-                  ((refl, refl), three_can, tt, (inl (exit_can p ns s low), tt)),
+                  ((refl, refl), three_can, locals_can, (inl (exit_can p ns s low), tt)),
                   (
                     ((refl, refl), two_can, tt, tt),
                     (
