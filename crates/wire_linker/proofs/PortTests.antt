@@ -8,7 +8,7 @@ use Rattle.p4_tree.specs.View.{expr_of}
 use Rattle.p4_tree.specs.declared.statement.Expr as code
 use Rattle.p4_tree.specs.declared.statement.Op.TheVariants.{Either}
 use Rattle.p4_tree.specs.Height.{highest, expr_height}
-use Rattle.linked_halves.specs.Statements.{port_test, joined_pairs, joined, any_of, is_port_of}
+use Rattle.linked_halves.specs.Statements.{port_test, joined_pairs, joined, any_of}
 use Rattle.wire_linker.specs.Laws.{TestsAreLow}
 
 -- the last test, joined to what stands behind it

@@ -1,26 +1,25 @@
 -- The linked programs of a small property can be printed: the monitor's names are names, since a variable's is one.
-use Rattle.std.proofs.Common.{◌≡◌, ℕ, zero, suc, ◌≤◌, ◌<◌, ◌^◌, Bool, true, false, ◌&&◌, ◌||◌, List, [], ◌∷◌, ◌++◌, length, map, refl, sym, ap, ◌∙◌, arith, inl, inr}
-use Rattle.std.specs.List.{list_all, All}
+use Rattle.std.proofs.Common.{◌≡◌, ℕ, zero, suc, ◌<◌, ◌^◌, Bool, true, false, List, [], ◌∷◌, length, map, refl, sym, ap, ◌∙◌, arith, inl, inr}
+use Rattle.std.specs.List.{All}
 use Rattle.std.proofs.lemmas.List.Elements.{All-head, All-tail}
 use Rattle.std.specs.Cmp.Lexicographic.{same_text as texts_same}
 use Rattle.std.proofs.lemmas.Bool.{or_cases}
 use Rattle.lex_text.specs.Names.{same_text}
-use Rattle.lex_text.specs.NameToken.{is_name, is_name_byte}
+use Rattle.lex_text.specs.NameToken.{is_name}
 use Rattle.lex_text.proofs.NameFronts.{name_bytes}
-use Rattle.p4_tree.specs.Tree.{Expr, Stmt, Stmts, done, next, and_then, Case, ParserState}
-use Rattle.p4_tree.specs.declared.statement.PTy.{PTy}
+use Rattle.p4_tree.specs.Tree.{Expr, Stmts, done, next, and_then}
 use Rattle.indus_tree.specs.Tree as indus
 use Rattle.indus_tree.specs.Tree.{Decl, Property}
 use Rattle.indus_tree.specs.Names.{is_declared}
 use Rattle.indus_tree.specs.Small.{IsByteDecl, IsSmallSum, IsSmallTest, IsSmallStmt, IsSmallBlock, IsSmall}
-use Rattle.small_monitor.specs.Lowered.{tele_name, tele_path, lowered, lowered_stmt, lowered_block, lowered_else}
+use Rattle.small_monitor.specs.Lowered.{tele_name, tele_path, lowered, lowered_stmt, lowered_block}
 use Rattle.small_monitor.specs.Small.{checker_of}
 use Rattle.linked_halves.specs.Statements.{port_test, joined_pairs, joined, any_of, is_port_of, reject_stmts, end_stmts, last_test}
 use Rattle.linked_halves.specs.ParserStates.{link_cases, first_state, taken_state}
 use Rattle.wire_program.specs.WireProgram.{wire_ingress, two_params, three_params}
 use Rattle.p4_meaning.specs.Standard.{ingress_port, egress_port}
-use Rattle.p4_printer.specs.CanSpell.{IsName, EachCan, SomeCan, CanSpellPath, CanSpellExpr, CanSpellStmt, CanSpellStmts, CanSpellCase, CanSpellState, CanSpellParam, CanSpellLocal, CanSpellField, CanSpell}
-use Rattle.wire_linker.specs.Linked.{tele_field, linked_states, linked_locals, entry_stmt, exit_stmt, linked_wire}
+use Rattle.p4_printer.specs.CanSpell.{IsName, EachCan, SomeCan, CanSpellPath, CanSpellExpr, CanSpellStmt, CanSpellStmts, CanSpellCase, CanSpellState, CanSpellParam, CanSpellLocal, CanSpellField}
+use Rattle.wire_linker.specs.Linked.{tele_field, linked_states, linked_locals, entry_stmt, exit_stmt}
 use Rattle.wire_linker.specs.Laws.{LinkedCanBePrinted}
 
 -- ---- names
@@ -127,18 +126,17 @@ property_can : (p : Property) → IsSmall p → CanSpellStmts (and_then (lowered
 property_can p s = then_can (lowered_block p.tele) (next (checker_of p) done) (block_can p.decls s.decls false p.tele s.tele) (inl (check_can p s), tt)
 
 exit_can : (p : Property) (ns : List ℕ) → IsSmall p → All (λ n. n < 2 ^ 16) ns → CanSpellStmt false (exit_stmt p ns)
-exit_can p ns s low =
+exit_can p ns s low = (
+  (((refl, refl), ((refl, refl), tt)), (omega arith, omega arith)),
+  (
+    inl (((refl, refl), tt), ports_can ingress_port ingress_can ns low),
     (
-      (((refl, refl), ((refl, refl), tt)), (omega arith, omega arith)),
-      (
-        inl (((refl, refl), tt), ports_can ingress_port ingress_can ns low),
-        (
-          inl (((refl, refl), tt), ports_can egress_port egress_can ns low),
-          then_can (and_then (lowered_block p.tele) (next (checker_of p) done)) last_test (property_can p s) last_can,
-        ),
-      ),
-      refl,
-    )
+      inl (((refl, refl), tt), ports_can egress_port egress_can ns low),
+      then_can (and_then (lowered_block p.tele) (next (checker_of p) done)) last_test (property_can p s) last_can,
+    ),
+  ),
+  refl,
+)
 
 wire_can : CanSpellStmts wire_ingress
 wire_can = (inl ((((refl, refl), ((refl, refl), tt)), (omega arith, omega arith)), (inl (((refl, refl), ((refl, refl), tt)), (omega arith, omega arith)), tt), (inl (((refl, refl), ((refl, refl), tt)), (omega arith, omega arith)), tt)), tt)
@@ -149,15 +147,14 @@ first_can : (ns : List ℕ) → All (λ n. n < 2 ^ 16) ns → CanSpellState (fir
 first_can ns low = ((refl, refl), ((((refl, refl), ((refl, refl), tt)), ((refl, refl), ((refl, refl), tt))), tt), ((((refl, refl), ((refl, refl), tt)), tt), cases_can ns low))
 
 taken_can : (size : ℕ) → size < 2 ^ 128 → CanSpellState (taken_state size)
-taken_can size short =
-    (
-      (refl, refl),
-      (
-        (((refl, refl), ((refl, refl), tt)), ((refl, refl), ((refl, refl), tt))),
-        ((((refl, refl), ((refl, refl), tt)), (((refl, refl), ((refl, refl), tt)), (omega arith, short))), tt),
-      ),
-      (refl, refl),
-    )
+taken_can size short = (
+  (refl, refl),
+  (
+    (((refl, refl), ((refl, refl), tt)), ((refl, refl), ((refl, refl), tt))),
+    ((((refl, refl), ((refl, refl), tt)), (((refl, refl), ((refl, refl), tt)), (omega arith, short))), tt),
+  ),
+  (refl, refl),
+)
 
 states_can : (p : Property) (ns : List ℕ) → IsSmall p → All (λ n. n < 2 ^ 16) ns → EachCan CanSpellState (linked_states p.decls ns)
 states_can p ns s low = (first_can ns low, (taken_can (suc (length p.decls)) (omega (arith, s.few)), (((refl, refl), tt, (refl, refl)), tt)))
