@@ -12,6 +12,7 @@ use wire_machine::Switch;
 
 /// A property, and what becomes of a frame of the bytes 7 and 9: what stands before these on the two
 /// links, whether the frame leaves at the end, and what the last switch counts after two such packets.
+#[derive(Clone, Copy)]
 struct Row {
     property: &'static str,
     first: &'static [u8],
