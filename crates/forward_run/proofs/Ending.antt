@@ -27,7 +27,7 @@ use Rattle.forward_run.proofs.Starting.{start_of, before_are}
 pub edges_short : (j : Job) → All IsShort (run_of j).edges
 unfolding run_of
 edges_short j =
-    let m = machine_of (programs_of j) in
+    let m = machine_of {C = Contents} (programs_of j) in
     (run_short m (wiring_of j.network) (limits_of (world_of j) 0) (first_net m (world_of j)) (steps (world_of j)) (record { all = All-nil IsShort })).all
 
 -- and no more of them than there are packets

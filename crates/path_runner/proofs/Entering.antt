@@ -41,7 +41,7 @@ module _ (s : State) (i sw port n : ℕ) (frame : List ℕ) (x : Switch) where
   entered_shows p w there at unit h =
       let e = entry_at x port frame in
       let gives : Entered Kept Queued = entered_of p.reads (kept_of x).tables e in
-      let same : (machine_of p).enter sw (w.switches sw) port frame ≡ gives = entry_is p.reads (p.program sw) (w.switches sw) x port frame (h.switches.programs sw x unit) (h.switches.kept sw x unit) in
+      let same : (machine_of {C = Contents} p).enter sw (w.switches sw) port frame ≡ gives = entry_is p.reads (p.program sw) (w.switches sw) x port frame (h.switches.programs sw x unit) (h.switches.kept sw x unit) in
       let shown : Shows p entered_state (entered (wiring_of s.network) s.limits w i sw port n gives) =
       record {
         switches = switches_after p w.switches s.switches sw x e.registers unit h.switches;

@@ -62,7 +62,7 @@ module _ (s : State) (i sw : ℕ) (x : Switch) (q : Queued) where
     -- what is shown of what the machine gives is shown after the event
     shown_after : (port n : ℕ) → get_or s.places i Over ≡ Waiting sw port q n → slice_get s.switches sw ≡ Some x → Shows p s w → (t : State) → Shows p t (left (wiring_of s.network) s.limits w i sw port n gone) → Shows p t (leaves (machine_of p) (wiring_of s.network) s.limits w i (w.packets i))
     shown_after port n at unit h t shown =
-        let same : (machine_of p).leave sw (w.switches sw) q ≡ gone = exit_is p.reads (p.program sw) (w.switches sw) x q (h.switches.programs sw x unit) (h.switches.kept sw x unit) in
+        let same : (machine_of {C = Contents} p).leave sw (w.switches sw) q ≡ gone = exit_is p.reads (p.program sw) (w.switches sw) x q (h.switches.programs sw x unit) (h.switches.kept sw x unit) in
         subst (λ (place : Place Queued). Shows p t (leaves (machine_of p) (wiring_of s.network) s.limits w i place)) (sym (h.packets i ∙ at))
         (subst (λ (l : Leaving Kept). Shows p t (left (wiring_of s.network) s.limits w i sw port n l)) (sym same) shown)
 
