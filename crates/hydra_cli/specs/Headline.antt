@@ -59,4 +59,4 @@ pub record Headline (p : Property) (frame out : List ℕ) (given : Out) : Type 0
       linked.edges ≡ filter (λ x. not (rejects path x.packet)) alone.edges)
   -- and with the forwarding registers, of the forwarding program alone.
   pub registers : InEveryWorld p programs (λ alone linked path.
-      (s : ℕ) → s < wire_line.switches → SameRegisters (registers_of (parts_of wire_program) []) (alone.switches s) (linked.switches s))
+      (s : ℕ) → s < wire_line.switches → SameRegisters {Z = Held} (registers_of (parts_of wire_program) []) (alone.switches s) (linked.switches s))
