@@ -1,13 +1,15 @@
 -- What the walk over a table's entries finds is the choice, whatever the actions are called.
 use Rattle.std.proofs.Common.{◌≡◌, ℕ, List, [], ◌∷◌, map, Bool, true, false, cond, Option, Some, None, refl, ap, subst, ◌∙◌}
 use Rattle.std.specs.Prelude.{nat_lt}
+use Rattle.std.specs.Bool.{OnTrue, OnFalse}
 use Rattle.std.specs.Option.{option_map}
+use Rattle.std.proofs.lemmas.Bool.{false≢true}
 use Rattle.bit_values.specs.Bits.{Word}
 use Rattle.p4_meaning.specs.Choice as choice
 use Rattle.p4_meaning.specs.Choice.{fits_keys, higher, IsChoice, choice_of}
 use Rattle.p4_meaning.proofs.Choices.{choice_is}
 use Rattle.p4_tables.specs.Shapes.{has_ternary}
-use Rattle.p4_tables.specs.Entries.{Entry, Act, named}
+use Rattle.p4_tables.specs.Entries.{Entry, Act, act_in, named}
 use Rattle.p4_tables.specs.State.{Held}
 use Rattle.p4_tables.specs.Answers.{IsHit, IsMiss}
 use Rattle.p4_tables.specs.Walk.{rank_in, higher_in, found_in}
@@ -38,3 +40,25 @@ hit h ks e a is action args = record { entry = e; action = action; args = args; 
 
 pub miss : (h : Held) (ks : List Word) (a : Act) → found_in (has_ternary h.shape.keys) h.listed ks ≡ None → a ≡ h.default → IsMiss h ks a
 miss h ks a is default = record { default = default; chosen = λ name. found_is name (has_ternary h.shape.keys) h.listed ks None is }
+
+-- an act is that of an entry that is found
+pub record IsOfEntry (o : Option Entry) (a : Act) : Type 0 where
+  pub entry : Entry
+  pub found : o ≡ Some entry
+  pub runs : act_in entry ≡ a
+
+pub some_entry : (o : Option Entry) (a : Act) → option_map act_in o ≡ Some a → IsOfEntry o a
+some_entry None a is = absurd (cc is)
+some_entry (Some e) a is = record { entry = e; found = refl; runs = cc is }
+
+pub no_act : (o : Option Entry) → option_map act_in o ≡ None → o ≡ None
+no_act None is = refl
+no_act (Some e) is = absurd (cc is)
+
+pub on_true : {X : Type 0} (b : Bool) → X → OnTrue b X
+on_true true x = x
+on_true false x = tt
+
+pub not_false : (X : Type 0) (b : Bool) → b ≡ true → OnFalse b X
+not_false X true is = tt
+not_false X false is = absurd (false≢true is)

@@ -7,7 +7,7 @@ use Rattle.p4_tables.specs.declared.shape.KeyShape.{KeyShape}
 use Rattle.value_shapes.specs.declared.values.ValueShape.{ValueShape}
 use Rattle.p4_tables.specs.Shapes.{are_for_keys, have_widths}
 use Rattle.p4_tables.specs.Entries.{same_keys}
-use Rattle.p4_tables.specs.Index.{wanted}
+use Rattle.p4_tables.specs.Signs.{wanted}
 use Rattle.p4_tables.specs.View.{match_of}
 
 -- matches are left, and no keys

@@ -1,5 +1,5 @@
 -- An index notes where one more entry stands.
-use Rattle.std.proofs.Common.{◌≡◌, ℕ, suc, ◌<◌, List, [], ◌∷◌, ◌++◌, length, get_or, Bool, true, false, cond, Option, Some, None, refl, sym, ap, subst, ◌∙◌, arith}
+use Rattle.std.proofs.Common.{◌≡◌, ℕ, suc, ◌<◌, List, [], ◌∷◌, ◌++◌, length, get_or, Bool, true, false, cond, Option, Some, None, refl, sym, ap, subst, ◌∙◌, arith, Bor}
 use Rattle.std.specs.Prelude.{nat_eq, nat_lt, is_some, if◌then◌else◌}
 use Rattle.std.specs.Option.{option_map, option_or}
 use Rattle.std.specs.Global.{Vec}
@@ -13,8 +13,13 @@ use Rattle.std.specs.Map.{lookup, IsKeyTest, AreApart, KeepsOthers}
 use Rattle.std.specs.declared.cmp.Reverse.{Reverse}
 use Rattle.std.proofs.lemmas.Bool.{false≢true, eqb-true}
 use Rattle.std.proofs.lemmas.Cmp.{nat_eq_equiv}
-use Rattle.p4_tables.specs.Entries.{Entry}
-use Rattle.p4_tables.specs.Index.{signs_of, place_in, asks, has_rank, sign_place, priority_place}
+use Rattle.p4_tables.specs.Entries.{Entry, Act, act_in}
+use Rattle.p4_tables.specs.View.{act_of}
+use Rattle.p4_tables.specs.Walk.{lent}
+use Rattle.p4_tables.specs.Signs.{signs_of, number_act, list_act, sign_act}
+use Rattle.p4_tables.specs.Index.{place_in, asks, has_rank, first_act, priority_place}
+use Rattle.p4_tables.specs.declared.entry.Act as code_act
+use Rattle.p4_tables.specs.declared.signs.Signs.{Signs}
 
 -- ---- where something stands
 
@@ -57,13 +62,33 @@ place_push p (y ∷ ys) x = ap (λ (o : Option ℕ). if p y then Some 0 else opt
     go false None true = refl
     go false None false = refl
 
+-- ---- what the first one runs
+
+pub lent_some : {A : Type 0} (o : Option (Bor A)) (p : Option A) → lent o ≡ p → is_some o ≡ is_some p
+lent_some None p is = ap is_some is
+lent_some (Some x) p is = ap is_some is
+
+-- something is told exactly where some entry passes
+pub seen_some : (o : Option code_act.Act) (p : Option Act) → option_map act_of o ≡ p → is_some o ≡ is_some p
+seen_some None p is = ap is_some is
+seen_some (Some a) p is = ap is_some is
+
+pub some_stands : (p : Entry → Bool) (es : List Entry) → is_some (first_act p es) ≡ is_some (place_in p es)
+some_stands p [] = refl
+some_stands p (e ∷ es) = go (p e) (place_in p es) (some_stands p es)
+  where
+    go : (b : Bool) (o : Option ℕ) → is_some (first_act p es) ≡ is_some o → is_some (if b then Some (act_in e) else first_act p es) ≡ is_some (if b then Some 0 else option_map suc o)
+    go true o is = refl
+    go false None is = is
+    go false (Some i) is = is
+
 -- ---- what maps note
 
 pub no_one : {X : Type 0} (b : Bool) (o : Option X) → is_some o ≡ b → b ≡ false → o ≡ None
 no_one b None h f = refl
 no_one b (Some x) h f = absurd (false≢true (sym f ∙ sym h))
 
-or_none : {X : Type 0} (o : Option X) → o ≡ option_or o None
+pub or_none : {X : Type 0} (o : Option X) → o ≡ option_or o None
 or_none None = refl
 or_none (Some x) = refl
 
@@ -72,30 +97,32 @@ kept_by : {K X : Type 0} (eq : K → K → Bool) (test other : K → Bool) (old 
 unfolding KeepsOthers
 kept_by eq test other old new keeps is apart = keeps other is apart
 
-module _ {S : Type 0} (m n : hash.HashMap (Vec ℕ) ℕ S) (sign : Vec ℕ) (place : ℕ) where
+module _ {S : Type 0} (m n : hash.HashMap ℕ code_act.Act S) (number : ℕ) (act : code_act.Act) where
+  pub number_noted : number_act m number ≡ None → hash.Updates nat_eq m n number (Some act) → (q : ℕ) → number_act n q ≡ option_or (number_act m q) (if nat_eq q number then Some act else None)
+  number_noted none up q = up.0 q ∙ ap (λ (b : Bool). cond b (Some act) (number_act m q)) (nat_eq_equiv.symm number q) ∙ go (nat_eq q number) refl (number_act m q) refl
+    where
+      go : (b : Bool) → nat_eq q number ≡ b → (o : Option code_act.Act) → number_act m q ≡ o → cond b (Some act) o ≡ option_or o (if b then Some act else None)
+      go true e None at = refl
+      go true e (Some other) at = absurd (cc (sym none ∙ sym (ap (number_act m) (eqb-true q number e)) ∙ at))
+      go false e None at = refl
+      go false e (Some other) at = refl
+
+module _ {S : Type 0} (m n : hash.HashMap (Vec ℕ) code_act.Act S) (sign : Vec ℕ) (act : code_act.Act) where
   abbrev eq : Vec ℕ → Vec ℕ → Bool
   eq x y = pointwise nat_eq x.items y.items
 
-  pub sign_noted : hash.get_by (λ k. pointwise nat_eq sign.items k.items) m ≡ None → hash.Updates eq m n sign (Some place) → (s : List ℕ) → sign_place n s ≡ option_or (sign_place m s) (if pointwise nat_eq s sign.items then Some place else None)
-  sign_noted none up s = go (pointwise nat_eq s sign.items) refl
+  pub list_noted : list_act m sign.items ≡ None → hash.Updates eq m n sign (Some act) → (s : List ℕ) → list_act n s ≡ option_or (list_act m s) (if pointwise nat_eq s sign.items then Some act else None)
+  list_noted none up s = go (pointwise nat_eq s sign.items) refl
     where
-      go : (b : Bool) → pointwise nat_eq s sign.items ≡ b → sign_place n s ≡ option_or (sign_place m s) (if b then Some place else None)
+      go : (b : Bool) → pointwise nat_eq s sign.items ≡ b → list_act n s ≡ option_or (list_act m s) (if b then Some act else None)
       go true e =
           let is : s ≡ sign.items = (bytes_decides s sign.items).0 e in
-          ap (sign_place n) is ∙ up.1 ∙ sym (ap (λ (o : Option ℕ). option_or o (Some place)) (ap (sign_place m) is ∙ none))
+          ap (list_act n) is ∙ up.1 ∙ sym (ap (λ (o : Option code_act.Act). option_or o (Some act)) (ap (list_act m) is ∙ none))
       go false e =
           kept_by eq (eq sign) (λ k. pointwise nat_eq s k.items) m.entries n.entries up.3
           (λ x y h. (lists_equiv nat_eq_equiv).congr s x.items y.items h)
           (λ k h. ap (λ (l : List ℕ). pointwise nat_eq s l) (sym ((bytes_decides sign.items k.items).0 h)) ∙ e)
-          ∙ or_none (sign_place m s)
-
-  pub sign_there : (i : ℕ) → hash.get_by (λ k. pointwise nat_eq sign.items k.items) m ≡ Some i → (s : List ℕ) → sign_place m s ≡ option_or (sign_place m s) (if pointwise nat_eq s sign.items then Some place else None)
-  sign_there i is s = go (pointwise nat_eq s sign.items) refl (sign_place m s) refl
-    where
-      go : (b : Bool) → pointwise nat_eq s sign.items ≡ b → (o : Option ℕ) → sign_place m s ≡ o → o ≡ option_or o (if b then Some place else None)
-      go b e (Some j) at = refl
-      go false e None at = refl
-      go true e None at = absurd (cc (sym at ∙ ap (sign_place m) ((bytes_decides s sign.items).0 e) ∙ is))
+          ∙ or_none (list_act m s)
 
 pub equal_ranks : (p q : ℕ) → is_eq (nat_cmp p q) ≡ nat_eq p q
 equal_ranks p q = go (nat_lt p q) (nat_eq p q) refl refl
@@ -116,26 +143,33 @@ module _ (m n : tree.BTreeMap (Reverse ℕ) ℕ) (rank : Reverse ℕ) (place : �
       go false e None at = refl
       go false e (Some j) at = refl
 
-  pub priority_there : (i : ℕ) → tree.get cmp m rank ≡ Some i → (p : ℕ) → priority_place m p ≡ option_or (priority_place m p) (if nat_eq p rank.0 then Some place else None)
-  priority_there i is p = go (nat_eq p rank.0) refl (priority_place m p) refl
-    where
-      go : (b : Bool) → nat_eq p rank.0 ≡ b → (o : Option ℕ) → priority_place m p ≡ o → o ≡ option_or o (if b then Some place else None)
-      go b e (Some j) at = refl
-      go false e None at = refl
-      go true e None at = absurd (cc (sym at ∙ ap (priority_place m) (eqb-true p rank.0 e) ∙ is))
-
 -- ---- one more entry
 
-module _ {S : Type 0} (m n : hash.HashMap (Vec ℕ) ℕ S) (sign : List ℕ) (place : ℕ) (e : Entry) where
-  pub signs_pushed : sign ≡ signs_of e.keys → ((s : List ℕ) → sign_place n s ≡ option_or (sign_place m s) (if pointwise nat_eq s sign then Some place else None)) → (t : Bool) (es : List Entry) → (t ≡ false) × ((s : List ℕ) → sign_place m s ≡ place_in (asks s) es) → place ≡ length es → (t ≡ false) × ((s : List ℕ) → sign_place n s ≡ place_in (asks s) (es ++ e ∷ []))
-  signs_pushed is noted t es h at = (
+-- what the first one runs, behind which one more stands
+pub act_push : (p : Entry → Bool) (es : List Entry) (e : Entry) → first_act p (es ++ e ∷ []) ≡ option_or (first_act p es) (if p e then Some (act_in e) else None)
+act_push p [] e = refl
+act_push p (f ∷ fs) e = ap (λ (o : Option Act). if p f then Some (act_in f) else o) (act_push p fs e) ∙ go (p f)
+  where
+    go : (b : Bool) → (if b then Some (act_in f) else option_or (first_act p fs) (if p e then Some (act_in e) else None)) ≡ option_or (if b then Some (act_in f) else first_act p fs) (if p e then Some (act_in e) else None)
+    go true = refl
+    go false = refl
+
+seen_or : (o : Option code_act.Act) (b : Bool) (act : code_act.Act) → option_map act_of (option_or o (if b then Some act else None)) ≡ option_or (option_map act_of o) (if b then Some (act_of act) else None)
+seen_or None true act = refl
+seen_or None false act = refl
+seen_or (Some other) b act = refl
+
+module _ (m n : Signs) (sign : List ℕ) (act : code_act.Act) (e : Entry) where
+  pub signs_pushed : sign ≡ signs_of e.keys → act_of act ≡ act_in e → ((s : List ℕ) → sign_act n s ≡ option_or (sign_act m s) (if pointwise nat_eq s sign then Some act else None)) → (t : Bool) (es : List Entry) → (t ≡ false) × ((s : List ℕ) → option_map act_of (sign_act m s) ≡ first_act (asks s) es) → (t ≡ false) × ((s : List ℕ) → option_map act_of (sign_act n s) ≡ first_act (asks s) (es ++ e ∷ []))
+  signs_pushed is runs noted t es h = (
     h.0,
     λ s.
-        noted s
-        ∙ ap (λ (o : Option ℕ). option_or o (if pointwise nat_eq s sign then Some place else None)) (h.1 s)
-        ∙ ap (λ (l : List ℕ). option_or (place_in (asks s) es) (if pointwise nat_eq s l then Some place else None)) is
-        ∙ ap (λ (i : ℕ). option_or (place_in (asks s) es) (if asks s e then Some i else None)) at
-        ∙ sym (place_push (asks s) es e),
+        ap (option_map act_of) (noted s)
+        ∙ seen_or (sign_act m s) (pointwise nat_eq s sign) act
+        ∙ ap (λ (o : Option Act). option_or o (if pointwise nat_eq s sign then Some (act_of act) else None)) (h.1 s)
+        ∙ ap (λ (l : List ℕ). option_or (first_act (asks s) es) (if pointwise nat_eq s l then Some (act_of act) else None)) is
+        ∙ ap (λ (a : Act). option_or (first_act (asks s) es) (if asks s e then Some a else None)) runs
+        ∙ sym (act_push (asks s) es e),
   )
 
 module _ (m n : tree.BTreeMap (Reverse ℕ) ℕ) (place : ℕ) (e : Entry) where

@@ -13,7 +13,8 @@ use Rattle.p4_tables.specs.State.{Held}
 use Rattle.p4_tables.specs.Faults.{takes_entry}
 use Rattle.p4_tables.specs.Kept.{clash, AreApart, IsSound}
 use Rattle.p4_tables.specs.Walk.{clash_in}
-use Rattle.p4_tables.specs.Index.{signs_of, place_in, asks, has_rank}
+use Rattle.p4_tables.specs.Signs.{signs_of}
+use Rattle.p4_tables.specs.Index.{place_in, asks, has_rank}
 use Rattle.p4_tables.specs.declared.shape.KeyShape.{KeyShape}
 use Rattle.table_faults.specs.declared.entry.EntryFault.TheVariants.{SameEntry, SamePriority}
 use Rattle.p4_tables.proofs.Noted.{nowhere}

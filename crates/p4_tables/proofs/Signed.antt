@@ -1,22 +1,26 @@
 -- What the longest sign tells is what one walk over all entries finds.
-use Rattle.std.proofs.Common.{◌≡◌, ℕ, zero, suc, ◌-◌, ◌/◌, ◌^◌, ◌<◌, ◌≤◌, List, [], ◌∷◌, ◌++◌, get_or, length, map, max, Bool, true, false, Option, Some, None, refl, sym, ap, ap₂, subst, ◌∙◌, arith}
-use Rattle.std.specs.Prelude.{◌&&◌, nat_eq, nat_le}
-use Rattle.std.specs.Option.{option_or}
+use Rattle.std.proofs.Common.{◌≡◌, ℕ, zero, suc, ◌-◌, ◌/◌, ◌^◌, ◌<◌, ◌≤◌, List, [], ◌∷◌, ◌++◌, get_or, length, map, max, Bool, true, false, Option, Some, None, refl, sym, ap, ap₂, subst, ◌∙◌, arith, Bor}
+use Rattle.std.specs.Prelude.{◌&&◌, nat_eq, nat_le, is_some, if◌then◌else◌}
+use Rattle.std.specs.Option.{option_map, option_or}
 use Rattle.std.specs.List.{Contains}
 use Rattle.std.specs.Cmp.Lexicographic.{pointwise}
 use Rattle.std.proofs.lemmas.Bool.{and_parts, or_parts, eqb-true, eq-eqb, false≢true, leb-true}
 use Rattle.bit_values.specs.Bits.{Word}
 use Rattle.p4_meaning.specs.Choice.{Match, exact, lpm, ternary, fits_key, fits_keys, prefix_of}
 use Rattle.p4_tables.specs.Shapes.{is_exact, is_lpm, is_ternary, has_ternary, has_lpm, has_two_prefixes, is_for_key, are_for_keys, takes, have_widths}
-use Rattle.p4_tables.specs.Entries.{Entry}
+use Rattle.p4_tables.specs.Entries.{Entry, Act, act_in}
 use Rattle.p4_tables.specs.State.{Held}
 use Rattle.p4_tables.specs.Faults.{takes_entry}
 use Rattle.p4_tables.specs.Kept.{AreApart, IsSound}
-use Rattle.p4_tables.specs.Walk.{found_in}
-use Rattle.p4_tables.specs.Index.{signs_of, wanted_of, wanted, longest_of, longest, first_told, place_in, asks}
+use Rattle.p4_tables.specs.View.{act_of}
+use Rattle.p4_tables.specs.Walk.{lent, found_in}
+use Rattle.p4_tables.specs.Signs.{signs_of, wanted_of, wanted, sign_act}
+use Rattle.p4_tables.specs.Index.{longest_of, longest, first_told, first_act, place_in, asks}
+use Rattle.p4_tables.specs.declared.signs.Signs.{Signs}
 use Rattle.p4_tables.specs.declared.shape.KeyKind.{KeyKind}
 use Rattle.p4_tables.specs.declared.shape.KeyKind.TheVariants.{Exact, Lpm, Ternary}
 use Rattle.p4_tables.specs.declared.shape.KeyShape.{KeyShape}
+use Rattle.p4_tables.proofs.Listed.{no_entry}
 use Rattle.p4_tables.proofs.Noted.{stands, nowhere}
 use Rattle.p4_tables.proofs.Ranked.{contains_at, highest_found, no_found}
 use Rattle.p4_tables.proofs.Same.{flip, and_assoc}
@@ -257,3 +261,54 @@ module _ (h : Held) (ws : List Word) (sound : IsSound h) (none : has_ternary h.s
   pub nothing_found : first_told at_length (longest h.shape.keys) ≡ None → found_in false h.listed ws ≡ None
   nothing_found is =
       no_found false ws h.listed (λ f cf ff. asked_for f cf ff (none_told at_length (longest h.shape.keys) is (prefix_of f.keys) (within_longest h.shape.keys f.keys sound.one_prefix (for_keys f cf))))
+
+-- ---- what the index tells
+
+-- nothing is told of one length, and so the first is that of the shorter ones
+pub shorter : {A : Type 0} (told : ℕ → Option A) (n : ℕ) (o : Option (Bor A)) → lent o ≡ told n → is_some o ≡ false → (n ≡ 0 → ⊥) → first_told told (n - 1) ≡ first_told told n
+shorter told zero o is none some = absurd (some refl)
+shorter told (suc n) (Some x) is none some = absurd (false≢true (sym none))
+shorter {A} told (suc n) None is none some =
+    let one_less : suc n - 1 ≡ n = omega arith in
+    ap (first_told told) one_less ∙ ap (λ (o : Option A). option_or o (first_told told n)) is
+
+first_seen : {A B : Type 0} (f : A → B) (told : ℕ → Option A) (most : ℕ) → option_map f (first_told told most) ≡ first_told (λ (n : ℕ). option_map f (told n)) most
+first_seen f told zero = refl
+first_seen {A} f told (suc n) = go (first_seen f told n) (told (suc n))
+  where
+    go : option_map f (first_told told n) ≡ first_told (λ (m : ℕ). option_map f (told m)) n → (o : Option A) → option_map f (option_or o (first_told told n)) ≡ option_or (option_map f o) (first_told (λ (m : ℕ). option_map f (told m)) n)
+    go rest None = rest
+    go rest (Some x) = refl
+
+first_same : {A : Type 0} (told other : ℕ → Option A) → ((n : ℕ) → told n ≡ other n) → (most : ℕ) → first_told told most ≡ first_told other most
+first_same told other is zero = is 0
+first_same told other is (suc n) = ap₂ option_or (is (suc n)) (first_same told other is n)
+
+-- what the first one runs is what the one runs that stands there
+act_there : (p : Entry → Bool) (es : List Entry) (d : Entry) → first_act p es ≡ option_map (λ (i : ℕ). act_in (get_or es i d)) (place_in p es)
+act_there p [] d = refl
+act_there p (e ∷ es) d = ap (λ (o : Option Act). if p e then Some (act_in e) else o) (act_there p es d) ∙ go (p e) (place_in p es)
+  where
+    go : (b : Bool) (o : Option ℕ) → (if b then Some (act_in e) else option_map (λ (i : ℕ). act_in (get_or es i d)) o) ≡ option_map (λ (i : ℕ). act_in (get_or (e ∷ es) i d)) (if b then Some 0 else option_map suc o)
+    go true o = refl
+    go false None = refl
+    go false (Some i) = refl
+
+-- the first act that is told is that of the entry that one walk finds
+module _ (h : Held) (ws : List Word) (sound : IsSound h) (none : has_ternary h.shape.keys ≡ false) (hw : have_widths (map (λ (k : KeyShape). k.value) h.shape.keys) ws ≡ true) (m : Signs) (tells : (s : List ℕ) → option_map act_of (sign_act m s) ≡ first_act (asks s) h.listed) where
+  abbrev there : ℕ → Act
+  there i = act_in (get_or h.listed i no_entry)
+
+  abbrev place : ℕ → Option ℕ
+  place n = place_in (asks (wanted h.shape.keys n ws)) h.listed
+
+  pub act_found : option_map act_of (first_told (λ (n : ℕ). sign_act m (wanted h.shape.keys n ws)) (longest h.shape.keys)) ≡ option_map act_in (found_in false h.listed ws)
+  act_found =
+      first_seen act_of (λ (n : ℕ). sign_act m (wanted h.shape.keys n ws)) (longest h.shape.keys)
+      ∙ first_same (λ (n : ℕ). option_map act_of (sign_act m (wanted h.shape.keys n ws))) (λ (n : ℕ). option_map there (place n)) (λ n. tells (wanted h.shape.keys n ws) ∙ act_there (asks (wanted h.shape.keys n ws)) h.listed no_entry) (longest h.shape.keys)
+      ∙ sym (first_seen there place (longest h.shape.keys))
+      ∙ go (first_told place (longest h.shape.keys)) refl
+    where
+      go : (o : Option ℕ) → first_told place (longest h.shape.keys) ≡ o → option_map there o ≡ option_map act_in (found_in false h.listed ws)
+      go None is = sym (ap (option_map act_in) (nothing_found h ws sound none hw (λ s. place_in (asks s) h.listed) (λ s. refl) is))
+      go (Some i) is = sym (ap (option_map act_in) (sign_found h ws sound none hw (λ s. place_in (asks s) h.listed) (λ s. refl) i no_entry is).1)

@@ -17,6 +17,10 @@ pub record Act : Type 0 where
   pub action : ℕ
   pub args : List Word
 
+-- what an entry runs
+abbrev pub act_in : Entry → Act
+act_in e = record { action = e.action; args = e.args }
+
 -- an entry of the meaning: with its action's name in the place of the number
 abbrev pub named : (ℕ → List ℕ) → Entry → choice.Entry
 named name e = record { keys = e.keys; action = name e.action; args = e.args; priority = e.priority }

@@ -1,49 +1,23 @@
--- Where the entries of a table stand: by what they ask of the keys, or in a table with a ternary key by their priority.
--- Read `Kept` before it.
-use Rattle.std.specs.Prelude.{◌≡◌, ℕ, suc, zero, ◌-◌, ◌/◌, ◌^◌, List, [], ◌∷◌, ◌++◌, map, Bool, true, false, nat_eq, bit_and, if◌then◌else◌, Option, Some, None, slice_get}
+-- What the entries of a table run, by what they ask of the keys; or in a table with a ternary key where they stand, by their
+-- priority. Read `Signs` before it.
+use Rattle.std.specs.Prelude.{◌≡◌, ℕ, suc, zero, List, [], ◌∷◌, map, Bool, true, false, nat_eq, if◌then◌else◌, Option, Some, None, slice_get}
 use Rattle.std.specs.Option.{option_map, option_or}
-use Rattle.std.specs.Global.{Vec}
 use Rattle.std.specs.Cmp.Lexicographic.{pointwise}
 use Rattle.std.specs.Ordering.{nat_cmp}
 use Rattle.std.specs.BTreeMap as tree
-use Rattle.std.specs.HashMap as hash
 use Rattle.std.specs.declared.cmp.Reverse.{Reverse}
 use Rattle.bit_values.specs.Bits.{Word}
-use Rattle.p4_meaning.specs.Choice.{Match, exact, lpm, ternary, fits_keys}
+use Rattle.p4_meaning.specs.Choice.{fits_keys}
 use Rattle.p4_tables.specs.Shapes.{has_ternary}
-use Rattle.p4_tables.specs.Entries.{Entry}
-use Rattle.p4_tables.specs.View.{entry_of}
+use Rattle.p4_tables.specs.Entries.{Entry, Act, act_in}
+use Rattle.p4_tables.specs.View.{entry_of, act_of}
+use Rattle.p4_tables.specs.Signs.{signs_of, sign_act}
 use Rattle.p4_tables.specs.declared.shape.KeyKind.{KeyKind}
 use Rattle.p4_tables.specs.declared.shape.KeyKind.TheVariants.{Exact, Lpm, Ternary}
 use Rattle.p4_tables.specs.declared.shape.KeyShape.{KeyShape}
 use Rattle.p4_tables.specs.declared.index.Index.{Index}
 use Rattle.p4_tables.specs.declared.index.Index.TheVariants.{Signs, Priorities}
 use Rattle.p4_tables.specs.declared.held.Held.TheInside.{Inside}
-
--- ---- what is asked, as numbers
-
--- what is asked of a key: a number; how many first bits, and these; or a mask, and the bits under it
-abbrev pub sign_of : Match → List ℕ
-sign_of (exact v) = v.value ∷ []
-sign_of (lpm v n) = n ∷ v.value / 2 ^ (v.width - n) ∷ []
-sign_of (ternary v m) = m.value ∷ bit_and v.value m.value ∷ []
-
--- what is asked of all keys
-abbrev pub signs_of : List Match → List ℕ
-signs_of [] = []
-signs_of (m ∷ ms) = sign_of m ++ signs_of ms
-
--- what asks for one key that is matched like this, with so many first bits where they count
-abbrev pub wanted_of : KeyKind → (length : ℕ) → Word → List ℕ
-wanted_of Exact n w = w.value ∷ []
-wanted_of Lpm n w = n ∷ w.value / 2 ^ (w.width - n) ∷ []
-wanted_of Ternary n w = w.value ∷ []
-
--- what asks for just these keys
-abbrev pub wanted : List KeyShape → (length : ℕ) → List Word → List ℕ
-wanted [] n ws = []
-wanted (k ∷ ks) n [] = []
-wanted (k ∷ ks) n (w ∷ ws) = wanted_of k.kind n w ++ wanted ks n ws
 
 -- ---- where something stands
 
@@ -58,16 +32,18 @@ asks s e = pointwise nat_eq s (signs_of e.keys)
 abbrev pub has_rank : ℕ → Entry → Bool
 has_rank p e = nat_eq p e.priority
 
--- where an entry stands that asks for this; where one of this priority stands
-abbrev pub sign_place : {S : Type 0} → hash.HashMap (Vec ℕ) ℕ S → List ℕ → Option ℕ
-sign_place m s = hash.get_by (λ k. pointwise nat_eq s k.items) m
+-- what the first one runs that passes
+abbrev pub first_act : (Entry → Bool) → List Entry → Option Act
+first_act p [] = None
+first_act p (e ∷ es) = if p e then Some (act_in e) else first_act p es
 
+-- where one of this priority stands
 abbrev pub priority_place : tree.BTreeMap (Reverse ℕ) ℕ → ℕ → Option ℕ
 priority_place m p = tree.get (λ x y. nat_cmp y.0 x.0) m (record { 0 = p })
 
--- the index tells where the first entry stands that asks for something, or that has a priority
+-- the index tells what the first entry runs that asks for something, or where the first one stands that has a priority
 abbrev pub IsIndex : (has_ternary : Bool) → List Entry → Index → Type 0
-IsIndex t es (Signs m) = (t ≡ false) × ((s : List ℕ) → sign_place m s ≡ place_in (asks s) es)
+IsIndex t es (Signs m) = (t ≡ false) × ((s : List ℕ) → option_map act_of (sign_act m s) ≡ first_act (asks s) es)
 IsIndex t es (Priorities m) = (t ≡ true) × ((p : ℕ) → priority_place m p ≡ place_in (has_rank p) es)
 
 -- the index of a table is one of its entries
@@ -87,7 +63,7 @@ longest [] = 0
 longest (k ∷ ks) = longest_of k.kind k.value.width (longest ks)
 
 -- the first that is told of prefixes of this length, and of each shorter one
-abbrev pub first_told : (ℕ → Option ℕ) → ℕ → Option ℕ
+abbrev pub first_told : {A : Type 0} → (ℕ → Option A) → ℕ → Option A
 first_told told zero = told 0
 first_told told (suc n) = option_or (told (suc n)) (first_told told n)
 

@@ -12,4 +12,5 @@ pub mod View
 -- What serves the proofs.
 pub mod Walk
 pub mod Kept
+pub mod Signs
 pub mod Index

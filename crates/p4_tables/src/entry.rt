@@ -1,7 +1,10 @@
 //! Entries of tables.
 
-ghost use Rattle.std.specs.Prelude.{◌≡◌, map, IfOk};
-ghost use Rattle.p4_tables.specs.View.{match_of, entry_of, act_of};
+ghost use Rattle.std.specs.Prelude.{◌≡◌, true, map, IfOk, IfSome};
+ghost use Rattle.std.specs.Option.{option_map};
+ghost use Rattle.p4_tables.specs.Entries.{act_in};
+ghost use Rattle.p4_tables.specs.View.{match_of, entry_of, act_of, chosen_act};
+ghost use Rattle.p4_tables.specs.Walk.{lent};
 
 use bit_values::Bits;
 use std::alloc::{AllocError, Global};
@@ -76,6 +79,17 @@ impl Entry {
             priority: self.priority,
         })
     }
+
+    /// What it runs.
+    pub(crate) fn act(&self, alloc: Global) -> Result<Act, AllocError>
+        ensures { IfOk result (λ a. act_of a ≡ act_in (entry_of self.now)) }
+    {
+        let args = copy_words(alloc, &self.args)?;
+        Ok(Act {
+            action: self.action,
+            args,
+        })
+    }
 }
 
 impl Act {
@@ -89,6 +103,32 @@ impl Act {
             args,
         })
     }
+}
+
+/// What is chosen where an entry runs.
+pub(crate) fn of_entry(found: Option<&Entry>) -> Option<Chosen<'_>>
+    ensures acts { option_map chosen_act result ≡ option_map act_in (option_map entry_of (lent found.entry)) }
+    ensures hit { IfSome result (λ c. c.hit ≡ true) }
+{
+    let e = found?;
+    Some(Chosen {
+        action: e.action,
+        args: &e.args,
+        hit: true,
+    })
+}
+
+/// What is chosen where an entry runs this.
+pub(crate) fn of_act(found: Option<&Act>) -> Option<Chosen<'_>>
+    ensures acts { option_map chosen_act result ≡ option_map act_of (lent found.entry) }
+    ensures hit { IfSome result (λ c. c.hit ≡ true) }
+{
+    let act = found?;
+    Some(Chosen {
+        action: act.action,
+        args: &act.args,
+        hit: true,
+    })
 }
 
 pub(crate) fn copy_entries(alloc: Global, list: &[Entry]) -> Result<Vec<Entry>, AllocError>

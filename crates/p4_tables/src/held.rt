@@ -1,21 +1,21 @@
 //! What one table holds.
 
-ghost use Rattle.std.specs.Prelude.{◌≡◌, ◌<◌, ◌∷◌, ◌++◌, [], map, length, true, IfOk, OnOk, OnErr};
+ghost use Rattle.std.specs.Prelude.{◌≡◌, ◌<◌, ◌∷◌, ◌++◌, [], map, length, true, IfOk, IfSome, OnOk, OnErr};
 ghost use Rattle.std.specs.Option.{option_map};
 ghost use Rattle.p4_tables.specs.Shapes.{has_ternary};
 ghost use Rattle.p4_tables.specs.State.{inserted, with_default, with_listed, replaced};
 ghost use Rattle.p4_tables.specs.Faults.{takes_entry, fault_in};
 ghost use Rattle.p4_tables.specs.Kept.{IsSound};
-ghost use Rattle.p4_tables.specs.View.{entry_of, act_of, given_act, shape_of};
-ghost use Rattle.p4_tables.specs.Walk.{lent, found_in, clash_in};
+ghost use Rattle.p4_tables.specs.View.{entry_of, act_of, given_act, chosen_act, shape_of};
+ghost use Rattle.p4_tables.specs.Entries.{act_in};
+ghost use Rattle.p4_tables.specs.Walk.{found_in, clash_in};
 
 use crate::choice::find;
 use crate::compare::{same_keys, takes_entry};
-use crate::entry::{Act, Entry, copy_entries};
-use crate::index::{
-    Index, first_fit, index_of, longest_place, priority_place, sign_of, sign_place,
-};
+use crate::entry::{Act, Chosen, Entry, copy_entries, of_act, of_entry};
+use crate::index::{Index, first_fit, index_of, longest_act, priority_place};
 use crate::shape::{Shape, copy_shape, has_action};
+use crate::signs::sign_of;
 use bit_values::Bits;
 use std::alloc::{AllocError, Global};
 use std::marker::Model;
@@ -95,18 +95,18 @@ impl Held {
         })
     }
 
-    /// The entry that one walk over all entries finds.
-    pub fn find(&self, keys: &[Bits]) -> Option<&Entry>
+    /// What the entry runs that one walk over all entries finds.
+    pub fn choose(&self, keys: &[Bits]) -> Option<Chosen<'_>>
         requires { IsSound self.now }
-        ensures { option_map entry_of (lent result)
-            ≡ found_in (has_ternary self.now.shape.keys) self.now.listed keys.now }
+        ensures acts { option_map chosen_act result
+            ≡ option_map act_in (found_in (has_ternary self.now.shape.keys) self.now.listed keys.now) }
+        ensures hit { IfSome result (λ c. c.hit ≡ true) }
     {
         match &self.index {
-            Index::Priorities(places) => first_fit(places, &self.listed, keys),
-            Index::Signs(places) => match longest_place(places, &self.shape.keys, keys) {
-                Some(Some(place)) => self.listed.get(place),
-                Some(None) => None,
-                None => find(false, &self.listed, keys),
+            Index::Priorities(places) => of_entry(first_fit(places, &self.listed, keys)),
+            Index::Signs(signs) => match longest_act(signs, &self.shape.keys, keys) {
+                Some(told) => of_act(told),
+                None => of_entry(find(false, &self.listed, keys)),
             },
         }
     }
@@ -118,9 +118,9 @@ impl Held {
         ensures { IfOk result (λ fault. fault ≡ clash_in self.now (entry_of e.now)) }
     {
         match &self.index {
-            Index::Signs(places) => {
+            Index::Signs(signs) => {
                 let sign = sign_of(*self.listed.allocator(), &e.keys)?;
-                if sign_place(places, sign.as_slice()).is_some() {
+                if signs.act(sign.as_slice()).is_some() {
                     Ok(Some(EntryFault::SameEntry))
                 } else {
                     Ok(None)

@@ -4,65 +4,33 @@ ghost use Rattle.std.specs.Prelude.{◌≡◌, [], ◌∷◌, ◌++◌, Some, No
 ghost use Rattle.std.specs.Bool.{OnTrue};
 ghost use Rattle.std.specs.Option.{option_map, option_or};
 ghost use Rattle.std.specs.BTreeMap.{IsOrdered};
-ghost use Rattle.std.specs.Cmp.Lexicographic.{pointwise};
 ghost use Rattle.std.specs.Ordering.{nat_cmp};
-ghost use Rattle.p4_tables.specs.Index.{sign_of, signs_of, wanted_of, wanted, sign_place, priority_place, IsIndex, longest, first_told, first_fit};
+ghost use Rattle.p4_tables.specs.Signs.{wanted_of, wanted, sign_act};
+ghost use Rattle.p4_tables.specs.Index.{priority_place, IsIndex, longest, first_told, first_fit};
 ghost use Rattle.p4_tables.specs.Shapes.{have_widths};
-ghost use Rattle.p4_tables.specs.View.{match_of, entry_of};
+ghost use Rattle.p4_tables.specs.View.{entry_of};
 ghost use Rattle.p4_tables.specs.Walk.{lent};
 
 use crate::choice::fits_keys;
 use crate::compare::first_bits;
-use crate::entry::{Entry, Match};
+use crate::entry::{Act, Entry};
 use crate::shape::{KeyKind, KeyShape};
+use crate::signs::{Signs, sign_of};
 use arrayvec::ArrayVec;
 use bit_values::Bits;
 use std::alloc::{AllocError, Global};
 use std::cmp::Reverse;
-use std::collections::{BTreeMap, HashMap};
+use std::collections::BTreeMap;
 
 /// What is looked for, where that is few numbers. It takes no memory.
 type Sign = ArrayVec<u128, 16>;
 
-/// Where each entry of a table stands: by what it asks of the keys, or in a table with a ternary key
-/// by its priority, the highest first.
+/// What each entry of a table runs, by what it asks of the keys; or in a table with a ternary key where
+/// each stands, by its priority, the highest first.
 #[derive(Debug, Drop)]
 pub(crate) enum Index {
-    Signs(HashMap<Vec<u128>, usize>),
+    Signs(Signs),
     Priorities(BTreeMap<Reverse<u32>, usize>),
-}
-
-/// Adds what is asked of a key.
-fn put_sign(sign: &mut Vec<u128>, m: &Match) -> Result<(), AllocError>
-    ensures { OnOk result (sign.new.items ≡ sign.old.items ++ sign_of (match_of m.now)) }
-{
-    match m {
-        Match::Exact(v) => {
-            sign.push(v.value)?;
-            Ok(())
-        }
-        Match::Lpm(v, n) => {
-            sign.push(*n as u128)?;
-            sign.push(first_bits(*v, *n))?;
-            Ok(())
-        }
-        Match::Ternary(v, mask) => {
-            sign.push(mask.value)?;
-            sign.push(v.value & mask.value)?;
-            Ok(())
-        }
-    }
-}
-
-/// What is asked of all keys.
-pub(crate) fn sign_of(alloc: Global, list: &[Match]) -> Result<Vec<u128>, AllocError>
-    ensures { IfOk result (λ v. v.items ≡ signs_of (map match_of list.now)) }
-{
-    let mut sign = Vec::new(alloc);
-    for m in list {
-        put_sign(&mut sign, m)?;
-    }
-    Ok(sign)
 }
 
 /// Adds what asks for a key, where there is room.
@@ -93,22 +61,6 @@ fn wanted(kinds: &[KeyShape], length: u8, keys: &[Bits]) -> Option<Sign>
     Some(sign)
 }
 
-/// Notes where an entry stands that asks for this, unless another one stands before it.
-fn note_sign(
-    places: &mut HashMap<Vec<u128>, usize>,
-    sign: Vec<u128>,
-    place: usize,
-) -> Result<(), AllocError>
-    ensures ok { OnOk result ((s : List ℕ) → sign_place places.new s
-        ≡ option_or (sign_place places.old s) (if pointwise nat_eq s sign.items then Some place else None)) }
-    ensures err { OnErr result ((s : List ℕ) → sign_place places.new s ≡ sign_place places.old s) }
-{
-    if !places.contains_key(sign.as_slice()) {
-        places.insert(sign, place)?;
-    }
-    Ok(())
-}
-
 /// Notes where an entry of a priority stands, unless another one stands before it.
 fn note_priority(
     places: &mut BTreeMap<Reverse<u32>, usize>,
@@ -134,7 +86,7 @@ impl Index {
         if has_ternary {
             Index::Priorities(BTreeMap::new(alloc))
         } else {
-            Index::Signs(HashMap::new(alloc))
+            Index::Signs(Signs::new(alloc))
         }
     }
 
@@ -145,9 +97,10 @@ impl Index {
         ensures err { OnErr result ((t : _) (es : List _) → IsIndex t es self.old → IsIndex t es self.new) }
     {
         match self {
-            Index::Signs(places) => {
+            Index::Signs(signs) => {
                 let sign = sign_of(alloc, &e.keys)?;
-                note_sign(places, sign, place)
+                let act = e.act(alloc)?;
+                signs.note(sign, act)
             }
             Index::Priorities(places) => note_priority(places, e.priority, place),
         }
@@ -200,13 +153,6 @@ fn longest(kinds: &[KeyShape]) -> u8
     0
 }
 
-/// Where the first entry stands that asks for this.
-pub(crate) fn sign_place(places: &HashMap<Vec<u128>, usize>, sign: &[u128]) -> Option<usize>
-    ensures { result ≡ sign_place places.now sign.now }
-{
-    places.get(sign).copied()
-}
-
 /// Where the entry of this priority stands.
 pub(crate) fn priority_place(places: &BTreeMap<Reverse<u32>, usize>, priority: u32) -> Option<usize>
     ensures { result ≡ priority_place places.now priority }
@@ -214,15 +160,42 @@ pub(crate) fn priority_place(places: &BTreeMap<Reverse<u32>, usize>, priority: u
     places.get(&Reverse(priority)).copied()
 }
 
-/// Where the entry of the longest prefix stands that asks for these keys, if one does. Not told where
-/// keys have other widths, or where they are many.
-pub(crate) fn longest_place(
-    places: &HashMap<Vec<u128>, usize>,
+/// What the first entry runs that asks for a key, with so many first bits where they count.
+fn act_for_key<'a>(signs: &'a Signs, k: &KeyShape, length: u8, key: Bits) -> Option<&'a Act>
+    ensures { lent result ≡ sign_act signs.now (wanted_of k.now.kind length key) }
+{
+    match k.kind {
+        KeyKind::Exact | KeyKind::Ternary => signs.of_number(key.value),
+        KeyKind::Lpm => signs.of_prefix(length, first_bits(key, length)),
+    }
+}
+
+/// What the first entry runs that asks for these keys, with so many first bits where they count. Not
+/// told where they are many.
+fn act_for<'a>(
+    signs: &'a Signs,
+    kinds: &[KeyShape],
+    length: u8,
+    keys: &[Bits],
+) -> Option<Option<&'a Act>>
+    ensures { IfSome result (λ told. lent told ≡ sign_act signs.now (wanted kinds.now length keys.now)) }
+{
+    if kinds.len() == 1 && keys.len() == 1 {
+        return Some(act_for_key(signs, &kinds[0], length, keys[0]));
+    }
+    let sign = wanted(kinds, length, keys)?;
+    Some(signs.act(sign.as_slice()))
+}
+
+/// What the entry of the longest prefix runs that asks for these keys, if one does. Not told where keys
+/// have other widths, or where they are many.
+pub(crate) fn longest_act<'a>(
+    signs: &'a Signs,
     kinds: &[KeyShape],
     keys: &[Bits],
-) -> Option<Option<usize>>
-    ensures told { IfSome result (λ told. told
-        ≡ first_told (λ n. sign_place places.now (wanted kinds.now n keys.now)) (longest kinds.now)) }
+) -> Option<Option<&'a Act>>
+    ensures told { IfSome result (λ told. lent told
+        ≡ first_told (λ n. sign_act signs.now (wanted kinds.now n keys.now)) (longest kinds.now)) }
     ensures wide { IfSome result (λ _. have_widths (map (λ k. k.value) kinds.now) keys.now ≡ true) }
 {
     if !have_key_widths(kinds, keys) {
@@ -230,10 +203,9 @@ pub(crate) fn longest_place(
     }
     let mut length = longest(kinds);
     loop {
-        let sign = wanted(kinds, length, keys)?;
-        let place = sign_place(places, sign.as_slice());
-        if place.is_some() || length == 0 {
-            return Some(place);
+        let act = act_for(signs, kinds, length, keys)?;
+        if act.is_some() || length == 0 {
+            return Some(act);
         }
         length -= 1;
     }

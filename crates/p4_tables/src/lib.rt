@@ -14,11 +14,11 @@
 //!
 //! Follows: P4_16 Language Specification and v1model, this project's subset.
 //!
-//! Speed: an index tells where the entries of a table stand that ask the same, or that have a
-//! priority. So an entry is compared with one other at most. A choice of exact keys takes one look, one
-//! of prefixes a look for each length from the longest on, and one under masks goes from the highest
-//! priority on. Where keys are more than 16 numbers, or have other widths than the table's, a choice is
-//! one walk over all entries.
+//! Speed: an index tells what the entry of a table runs that asks for given keys, or where the one of a
+//! priority stands. So an entry is compared with one other at most. A choice of exact keys takes one
+//! look, one of prefixes a look for each length from the longest on, and one under masks goes from the
+//! highest priority on. Where keys are more than 16 numbers, or have other widths than the table's, a
+//! choice is one walk over all entries.
 #![tactic(auto)]
 
 mod choice;
@@ -27,6 +27,7 @@ mod entry;
 mod held;
 mod index;
 mod shape;
+mod signs;
 mod start;
 mod state;
 

@@ -179,12 +179,8 @@ impl TableState {
             (IsMiss (held_at self.now table) keys.now (chosen_act result)) }
     {
         let held = &self.tables[table as usize];
-        match held.find(keys) {
-            Some(e) => Chosen {
-                action: e.action,
-                args: &e.args,
-                hit: true,
-            },
+        match held.choose(keys) {
+            Some(chosen) => chosen,
             None => {
                 let default = held.default();
                 Chosen {

@@ -1,6 +1,6 @@
 use Rattle.std.proofs.Common.{◌≡◌, [], ◌++◌, drop, sym, ap, ◌∙◌, append-nil, arith}
 use Rattle.std.proofs.Math.ListN.{drop_of_length-le}
-use Rattle.p4_tables.specs.Index.{wanted}
+use Rattle.p4_tables.specs.Signs.{wanted}
 use Rattle.p4_tables.proofs.Keys.{nothing_wanted}
 use Rattle.p4_tables.proofs.index.wanted.Goals as goal
 

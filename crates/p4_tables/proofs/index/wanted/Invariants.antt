@@ -1,5 +1,5 @@
 use Rattle.std.proofs.Common.{◌≡◌, ◌++◌, drop}
-use Rattle.p4_tables.specs.Index.{wanted}
+use Rattle.p4_tables.specs.Signs.{wanted}
 use Rattle.p4_tables.proofs.index.wanted.Given as goal
 
 abbrev pub invariant-loop-i : goal.invariant-loop-i

@@ -1,17 +1,18 @@
 use Rattle.std.proofs.Common.{◌≡◌, ◌<◌, ℕ, Bool, Some, None, true, false, map, get_or, sym, ap, ap₂, subst, ◌∙◌}
-use Rattle.std.specs.Prelude.{is_some, if◌then◌else◌}
+use Rattle.std.specs.Prelude.{if◌then◌else◌}
 use Rattle.std.proofs.lemmas.List.{get_or-map}
 use Rattle.p4_tables.specs.Shapes.{has_ternary}
 use Rattle.p4_tables.specs.Entries.{Entry, same_keys, has_same}
 use Rattle.p4_tables.specs.State.{Held}
 use Rattle.p4_tables.specs.Faults.{takes_entry}
-use Rattle.p4_tables.specs.Index.{IsIndex, signs_of, sign_place, place_in, has_rank}
+use Rattle.p4_tables.specs.Signs.{signs_of, sign_act}
+use Rattle.p4_tables.specs.Index.{IsIndex, asks, place_in, has_rank}
 use Rattle.p4_tables.specs.Kept.{IsSound}
 use Rattle.p4_tables.specs.Walk.{clash_in}
 use Rattle.p4_tables.specs.View.{match_of, entry_of, shape_of, act_of}
 use Rattle.table_faults.specs.declared.entry.EntryFault.TheVariants.{SameEntry, SamePriority}
 use Rattle.p4_tables.proofs.Listed.{no_entry, many_below, long}
-use Rattle.p4_tables.proofs.Noted.{stands}
+use Rattle.p4_tables.proofs.Noted.{stands, lent_some, seen_some, some_stands}
 use Rattle.p4_tables.proofs.Same.{same_stands, no_clash, clash_there, clash_same}
 use Rattle.p4_tables.proofs.held.Held.clash.Goals as goal
 
@@ -27,7 +28,9 @@ returns-then-is_some c =
     let sign : c.as_slice.result.now ≡ signs_of e.keys = c.as_slice.ensures.value ∙ c.in_ok-sign-in-Signs.ensures ∙ ap (λ l. signs_of (map match_of l)) c.deref.ensures.value in
     let told : c.is_some.result ≡ has_same false es e =
     c.is_some.ensures
-    ∙ ap is_some (c.sign_place.ensures ∙ ap (sign_place c.in-Signs.places) sign ∙ index.1 (signs_of e.keys))
+    ∙ lent_some c.act.result (sign_act c.in-Signs.signs (signs_of e.keys)) (c.act.ensures ∙ ap (sign_act c.in-Signs.signs) sign)
+    ∙ seen_some _ _ (index.1 (signs_of e.keys))
+    ∙ some_stands (asks (signs_of e.keys)) es
     ∙ same_stands h.shape es e index.0 sound.taken taken
     in
     ap (λ (b : Bool). if b then Some SameEntry else None) (sym c.if-is_some.true ∙ told)
@@ -46,7 +49,9 @@ returns-in-Signs c =
     let sign : c.as_slice.result.now ≡ signs_of e.keys = c.as_slice.ensures.value ∙ c.in_ok-sign-in-Signs.ensures ∙ ap (λ l. signs_of (map match_of l)) c.deref.ensures.value in
     let told : c.is_some.result ≡ has_same false es e =
     c.is_some.ensures
-    ∙ ap is_some (c.sign_place.ensures ∙ ap (sign_place c.in-Signs.places) sign ∙ index.1 (signs_of e.keys))
+    ∙ lent_some c.act.result (sign_act c.in-Signs.signs (signs_of e.keys)) (c.act.ensures ∙ ap (sign_act c.in-Signs.signs) sign)
+    ∙ seen_some _ _ (index.1 (signs_of e.keys))
+    ∙ some_stands (asks (signs_of e.keys)) es
     ∙ same_stands h.shape es e index.0 sound.taken taken
     in
     ap (λ (b : Bool). if b then Some SameEntry else None) (sym c.if-is_some.false ∙ told)

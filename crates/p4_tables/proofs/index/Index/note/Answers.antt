@@ -1,14 +1,15 @@
 use Rattle.std.proofs.Common.{◌≡◌, map, ap, subst, ◌∙◌}
 use Rattle.std.proofs.lemmas.Result.{on_ok_weaker}
-use Rattle.p4_tables.specs.Index.{IsIndex, signs_of}
+use Rattle.p4_tables.specs.Signs.{signs_of}
+use Rattle.p4_tables.specs.Index.{IsIndex}
 use Rattle.p4_tables.specs.View.{match_of, entry_of}
 use Rattle.p4_tables.proofs.Noted.{signs_pushed, priorities_pushed}
 use Rattle.p4_tables.proofs.index.Index.note.Goals as goal
 
-pub returns-in_ok-sign-in-Signs-clause-ok : goal.returns-in_ok-sign-in-Signs-clause-ok
-returns-in_ok-sign-in-Signs-clause-ok c =
+pub returns-in_ok-act-in-Signs-clause-ok : goal.returns-in_ok-act-in-Signs-clause-ok
+returns-in_ok-act-in-Signs-clause-ok c =
     let sign : c.in_ok-sign-in-Signs.sign.items ≡ signs_of (map match_of c.args.e.now.keys.items) = c.in_ok-sign-in-Signs.ensures ∙ ap (λ l. signs_of (map match_of l)) c.deref.ensures.value in
-    on_ok_weaker c.note_sign.result (λ noted t es h at. signs_pushed c.in-Signs.places c.note_sign.new.places c.in_ok-sign-in-Signs.sign.items c.args.place (entry_of c.args.e.now) sign noted t es (subst (IsIndex t es) c.in-Signs.is h) at) c.note_sign.ensures.ok
+    on_ok_weaker c.note.result (λ noted t es h at. signs_pushed c.in-Signs.signs c.note.new.self c.in_ok-sign-in-Signs.sign.items c.in_ok-act-in-Signs.act (entry_of c.args.e.now) sign c.in_ok-act-in-Signs.ensures noted t es (subst (IsIndex t es) c.in-Signs.is h)) c.note.ensures.ok
 
 pub returns-in-Priorities-clause-ok : goal.returns-in-Priorities-clause-ok
 returns-in-Priorities-clause-ok c =

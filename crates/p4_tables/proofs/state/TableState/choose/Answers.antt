@@ -1,13 +1,13 @@
-use Rattle.std.proofs.Common.{◌≡◌, Some, None, sym, ap, subst, ◌∙◌, refl}
+use Rattle.std.proofs.Common.{◌≡◌, None, sym, ap, subst, ◌∙◌}
 use Rattle.std.specs.Option.{option_map}
 use Rattle.p4_tables.specs.Shapes.{has_ternary}
 use Rattle.p4_tables.specs.Entries.{Act}
 use Rattle.p4_tables.specs.State.{held_at}
 use Rattle.p4_tables.specs.Answers.{IsHit, IsMiss}
-use Rattle.p4_tables.specs.View.{entry_of}
-use Rattle.p4_tables.specs.Walk.{lent, found_in}
+use Rattle.p4_tables.specs.View.{chosen_act}
+use Rattle.p4_tables.specs.Walk.{found_in}
 use Rattle.p4_tables.proofs.Changed.{read_at, within}
-use Rattle.p4_tables.proofs.Found.{hit, miss}
+use Rattle.p4_tables.proofs.Found.{hit, miss, some_entry, no_act, on_true, not_false}
 use Rattle.p4_tables.proofs.state.TableState.choose.Goals as goal
 
 pub returns-in-Some-clause-hit : goal.returns-in-Some-clause-hit
@@ -18,11 +18,12 @@ returns-in-Some-clause-hit c =
     read_at tables c.args.table h (within tables c.args.self.now c.args.table c.self.view_is c.requires) c.index-held.ensures
     ∙ ap (λ st. held_at st c.args.table) c.self.view_is
     in
-    let found : found_in (has_ternary h.shape.keys) h.listed c.args.keys.now ≡ Some (entry_of c.in-Some.e.now) =
-    sym c.find.ensures ∙ ap (λ o. option_map entry_of (lent o)) c.in-Some.is
-    in
-    let answer : Act = record { action = c.in-Some.e.now.action; args = c.deref.result.now } in
-    subst (λ g. IsHit g c.args.keys.now answer) is (hit h c.args.keys.now (entry_of c.in-Some.e.now) answer found refl c.deref.ensures.value)
+    let answer : Act = chosen_act c.in-Some.chosen in
+    let found = some_entry (found_in (has_ternary h.shape.keys) h.listed c.args.keys.now) answer (sym c.choose.ensures.acts ∙ ap (option_map chosen_act) c.in-Some.is) in
+    on_true c.in-Some.chosen.hit (subst (λ g. IsHit g c.args.keys.now answer) is (hit h c.args.keys.now found.entry answer found.found (sym (ap (λ (a : Act). a.action) found.runs)) (sym (ap (λ (a : Act). a.args) found.runs))))
+
+pub returns-in-Some-clause-miss : goal.returns-in-Some-clause-miss
+returns-in-Some-clause-miss c = not_false _ c.in-Some.chosen.hit c.in-Some.ensures.hit
 
 pub returns-in-None-clause-miss : goal.returns-in-None-clause-miss
 returns-in-None-clause-miss c =
@@ -33,10 +34,10 @@ returns-in-None-clause-miss c =
     ∙ ap (λ st. held_at st c.args.table) c.self.view_is
     in
     let found : found_in (has_ternary h.shape.keys) h.listed c.args.keys.now ≡ None =
-    sym c.find.ensures ∙ ap (λ o. option_map entry_of (lent o)) c.in-None.is
+    no_act _ (sym c.choose.ensures.acts ∙ ap (option_map chosen_act) c.in-None.is)
     in
-    let answer : Act = record { action = c.default-default.result.now.action; args = c.deref-in-None.result.now } in
+    let answer : Act = record { action = c.default-default.result.now.action; args = c.deref.result.now } in
     let default : answer ≡ h.default =
-    ap (λ ws. record { action = c.default-default.result.now.action; args = ws }) c.deref-in-None.ensures.value ∙ c.default-default.ensures
+    ap (λ ws. record { action = c.default-default.result.now.action; args = ws }) c.deref.ensures.value ∙ c.default-default.ensures
     in
     subst (λ g. IsMiss g c.args.keys.now answer) is (miss h c.args.keys.now answer found default)

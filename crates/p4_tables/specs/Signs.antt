@@ -1,0 +1,73 @@
+-- What entries ask of keys, as numbers, and what the first entry runs that asks for something. Read `Kept` before it and
+-- `Index` after it.
+use Rattle.std.specs.Prelude.{ℕ, ◌+◌, ◌-◌, ◌/◌, ◌^◌, List, [], ◌∷◌, ◌++◌, ◌&&◌, nat_eq, nat_lt, bit_and, if◌then◌else◌, Option, Some, None}
+use Rattle.std.specs.Global.{Vec}
+use Rattle.std.specs.Cmp.Lexicographic.{pointwise}
+use Rattle.std.specs.HashMap as hash
+use Rattle.bit_values.specs.Bits.{Word}
+use Rattle.p4_meaning.specs.Choice.{Match, exact, lpm, ternary}
+use Rattle.p4_tables.specs.declared.entry.Act as code_act
+use Rattle.p4_tables.specs.declared.shape.KeyKind.{KeyKind}
+use Rattle.p4_tables.specs.declared.shape.KeyKind.TheVariants.{Exact, Lpm, Ternary}
+use Rattle.p4_tables.specs.declared.shape.KeyShape.{KeyShape}
+use Rattle.p4_tables.specs.declared.signs.Signs.{Signs}
+use Rattle.p4_tables.specs.declared.signs.Slot.{Slot}
+use Rattle.p4_tables.specs.declared.signs.Slot.TheVariants as slot
+
+-- ---- what is asked, as numbers
+
+-- what is asked of a key: a number; how many first bits, and these; or a mask, and the bits under it
+abbrev pub sign_of : Match → List ℕ
+sign_of (exact v) = v.value ∷ []
+sign_of (lpm v n) = n ∷ v.value / 2 ^ (v.width - n) ∷ []
+sign_of (ternary v m) = m.value ∷ bit_and v.value m.value ∷ []
+
+-- what is asked of all keys
+abbrev pub signs_of : List Match → List ℕ
+signs_of [] = []
+signs_of (m ∷ ms) = sign_of m ++ signs_of ms
+
+-- what asks for one key that is matched like this, with so many first bits where they count
+abbrev pub wanted_of : KeyKind → (length : ℕ) → Word → List ℕ
+wanted_of Exact n w = w.value ∷ []
+wanted_of Lpm n w = n ∷ w.value / 2 ^ (w.width - n) ∷ []
+wanted_of Ternary n w = w.value ∷ []
+
+-- what asks for just these keys
+abbrev pub wanted : List KeyShape → (length : ℕ) → List Word → List ℕ
+wanted [] n ws = []
+wanted (k ∷ ks) n [] = []
+wanted (k ∷ ks) n (w ∷ ws) = wanted_of k.kind n w ++ wanted ks n ws
+
+-- ---- where it is kept
+
+-- a prefix as one number: a one, and behind it so many bits; none where there is no room for the one, or where the bits
+-- are more
+abbrev pub prefix_code : (length bits : ℕ) → Option ℕ
+prefix_code n b = if nat_lt n 128 && nat_lt b (2 ^ n) then Some (2 ^ n + b) else None
+
+abbrev pub coded : Option ℕ → Slot
+coded None = slot.List
+coded (Some c) = slot.Prefix c
+
+abbrev pub slot_of : List ℕ → Slot
+slot_of [] = slot.List
+slot_of (n ∷ []) = slot.Number n
+slot_of (n ∷ b ∷ []) = coded (prefix_code n b)
+slot_of (n ∷ b ∷ m ∷ s) = slot.List
+
+-- what is noted for a number, and for numbers
+abbrev pub number_act : {S : Type 0} → hash.HashMap ℕ code_act.Act S → ℕ → Option code_act.Act
+number_act m n = hash.get nat_eq m n
+
+abbrev pub list_act : {S : Type 0} → hash.HashMap (Vec ℕ) code_act.Act S → List ℕ → Option code_act.Act
+list_act m s = hash.get_by (λ k. pointwise nat_eq s k.items) m
+
+abbrev pub kept_at : Signs → List ℕ → Slot → Option code_act.Act
+kept_at m s (slot.Number n) = number_act m.numbers n
+kept_at m s (slot.Prefix c) = number_act m.prefixes c
+kept_at m s slot.List = list_act m.lists s
+
+-- what is noted for a sign
+abbrev pub sign_act : Signs → List ℕ → Option code_act.Act
+sign_act m s = kept_at m s (slot_of s)
