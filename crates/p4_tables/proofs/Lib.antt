@@ -9,7 +9,7 @@ pub mod Started
 pub mod Applied
 pub mod Rows
 pub mod Noted
-pub mod Slots
+pub mod Packed
 pub mod Listed
 pub mod Same
 pub mod Ranked

@@ -19,6 +19,7 @@ use Rattle.p4_tables.specs.Walk.{lent}
 use Rattle.p4_tables.specs.Signs.{signs_of, number_act, list_act, sign_act}
 use Rattle.p4_tables.specs.Index.{place_in, asks, has_rank, first_act, priority_place}
 use Rattle.p4_tables.specs.declared.entry.Act as code_act
+use Rattle.p4_tables.specs.declared.shape.KeyShape.{KeyShape}
 use Rattle.p4_tables.specs.declared.signs.Signs.{Signs}
 
 -- ---- where something stands
@@ -159,13 +160,13 @@ seen_or None true act = refl
 seen_or None false act = refl
 seen_or (Some other) b act = refl
 
-module _ (m n : Signs) (sign : List ℕ) (act : code_act.Act) (e : Entry) where
-  pub signs_pushed : sign ≡ signs_of e.keys → act_of act ≡ act_in e → ((s : List ℕ) → sign_act n s ≡ option_or (sign_act m s) (if pointwise nat_eq s sign then Some act else None)) → (t : Bool) (es : List Entry) → (t ≡ false) × ((s : List ℕ) → option_map act_of (sign_act m s) ≡ first_act (asks s) es) → (t ≡ false) × ((s : List ℕ) → option_map act_of (sign_act n s) ≡ first_act (asks s) (es ++ e ∷ []))
+module _ (ks : List KeyShape) (m n : Signs) (sign : List ℕ) (act : code_act.Act) (e : Entry) where
+  pub signs_pushed : sign ≡ signs_of e.keys → act_of act ≡ act_in e → ((s : List ℕ) → sign_act ks n s ≡ option_or (sign_act ks m s) (if pointwise nat_eq s sign then Some act else None)) → (t : Bool) (es : List Entry) → (t ≡ false) × ((s : List ℕ) → option_map act_of (sign_act ks m s) ≡ first_act (asks s) es) → (t ≡ false) × ((s : List ℕ) → option_map act_of (sign_act ks n s) ≡ first_act (asks s) (es ++ e ∷ []))
   signs_pushed is runs noted t es h = (
     h.0,
     λ s.
         ap (option_map act_of) (noted s)
-        ∙ seen_or (sign_act m s) (pointwise nat_eq s sign) act
+        ∙ seen_or (sign_act ks m s) (pointwise nat_eq s sign) act
         ∙ ap (λ (o : Option Act). option_or o (if pointwise nat_eq s sign then Some (act_of act) else None)) (h.1 s)
         ∙ ap (λ (l : List ℕ). option_or (first_act (asks s) es) (if pointwise nat_eq s l then Some (act_of act) else None)) is
         ∙ ap (λ (a : Act). option_or (first_act (asks s) es) (if asks s e then Some a else None)) runs

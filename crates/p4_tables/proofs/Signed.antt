@@ -295,17 +295,17 @@ act_there p (e ∷ es) d = ap (λ (o : Option Act). if p e then Some (act_in e) 
     go false (Some i) = refl
 
 -- the first act that is told is that of the entry that one walk finds
-module _ (h : Held) (ws : List Word) (sound : IsSound h) (none : has_ternary h.shape.keys ≡ false) (hw : have_widths (map (λ (k : KeyShape). k.value) h.shape.keys) ws ≡ true) (m : Signs) (tells : (s : List ℕ) → option_map act_of (sign_act m s) ≡ first_act (asks s) h.listed) where
+module _ (h : Held) (ws : List Word) (sound : IsSound h) (none : has_ternary h.shape.keys ≡ false) (hw : have_widths (map (λ (k : KeyShape). k.value) h.shape.keys) ws ≡ true) (m : Signs) (tells : (s : List ℕ) → option_map act_of (sign_act h.shape.keys m s) ≡ first_act (asks s) h.listed) where
   abbrev there : ℕ → Act
   there i = act_in (get_or h.listed i no_entry)
 
   abbrev place : ℕ → Option ℕ
   place n = place_in (asks (wanted h.shape.keys n ws)) h.listed
 
-  pub act_found : option_map act_of (first_told (λ (n : ℕ). sign_act m (wanted h.shape.keys n ws)) (longest h.shape.keys)) ≡ option_map act_in (found_in false h.listed ws)
+  pub act_found : option_map act_of (first_told (λ (n : ℕ). sign_act h.shape.keys m (wanted h.shape.keys n ws)) (longest h.shape.keys)) ≡ option_map act_in (found_in false h.listed ws)
   act_found =
-      first_seen act_of (λ (n : ℕ). sign_act m (wanted h.shape.keys n ws)) (longest h.shape.keys)
-      ∙ first_same (λ (n : ℕ). option_map act_of (sign_act m (wanted h.shape.keys n ws))) (λ (n : ℕ). option_map there (place n)) (λ n. tells (wanted h.shape.keys n ws) ∙ act_there (asks (wanted h.shape.keys n ws)) h.listed no_entry) (longest h.shape.keys)
+      first_seen act_of (λ (n : ℕ). sign_act h.shape.keys m (wanted h.shape.keys n ws)) (longest h.shape.keys)
+      ∙ first_same (λ (n : ℕ). option_map act_of (sign_act h.shape.keys m (wanted h.shape.keys n ws))) (λ (n : ℕ). option_map there (place n)) (λ n. tells (wanted h.shape.keys n ws) ∙ act_there (asks (wanted h.shape.keys n ws)) h.listed no_entry) (longest h.shape.keys)
       ∙ sym (first_seen there place (longest h.shape.keys))
       ∙ go (first_told place (longest h.shape.keys)) refl
     where

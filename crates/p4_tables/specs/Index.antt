@@ -42,13 +42,13 @@ abbrev pub priority_place : tree.BTreeMap (Reverse ℕ) ℕ → ℕ → Option �
 priority_place m p = tree.get (λ x y. nat_cmp y.0 x.0) m (record { 0 = p })
 
 -- the index tells what the first entry runs that asks for something, or where the first one stands that has a priority
-abbrev pub IsIndex : (has_ternary : Bool) → List Entry → Index → Type 0
-IsIndex t es (Signs m) = (t ≡ false) × ((s : List ℕ) → option_map act_of (sign_act m s) ≡ first_act (asks s) es)
-IsIndex t es (Priorities m) = (t ≡ true) × ((p : ℕ) → priority_place m p ≡ place_in (has_rank p) es)
+abbrev pub IsIndex : List KeyShape → (has_ternary : Bool) → List Entry → Index → Type 0
+IsIndex ks t es (Signs m) = (t ≡ false) × ((s : List ℕ) → option_map act_of (sign_act ks m s) ≡ first_act (asks s) es)
+IsIndex ks t es (Priorities m) = (t ≡ true) × ((p : ℕ) → priority_place m p ≡ place_in (has_rank p) es)
 
 -- the index of a table is one of its entries
 abbrev pub IsIndexed : Inside → Type 0
-IsIndexed h = IsIndex (has_ternary h.shape.keys.items) (map entry_of h.listed.items) h.index
+IsIndexed h = IsIndex h.shape.keys.items (has_ternary h.shape.keys.items) (map entry_of h.listed.items) h.index
 
 -- ---- what is found
 

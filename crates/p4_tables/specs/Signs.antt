@@ -1,6 +1,6 @@
 -- What entries ask of keys, as numbers, and what the first entry runs that asks for something. Read `Kept` before it and
 -- `Index` after it.
-use Rattle.std.specs.Prelude.{ℕ, ◌+◌, ◌-◌, ◌/◌, ◌^◌, List, [], ◌∷◌, ◌++◌, ◌&&◌, nat_eq, nat_lt, bit_and, if◌then◌else◌, Option, Some, None}
+use Rattle.std.specs.Prelude.{ℕ, suc, ◌+◌, ◌*◌, ◌-◌, ◌/◌, ◌^◌, List, [], ◌∷◌, ◌++◌, ◌&&◌, nat_eq, nat_lt, bit_and, if◌then◌else◌, Option, Some, None}
 use Rattle.std.specs.Global.{Vec}
 use Rattle.std.specs.Cmp.Lexicographic.{pointwise}
 use Rattle.std.specs.HashMap as hash
@@ -11,8 +11,6 @@ use Rattle.p4_tables.specs.declared.shape.KeyKind.{KeyKind}
 use Rattle.p4_tables.specs.declared.shape.KeyKind.TheVariants.{Exact, Lpm, Ternary}
 use Rattle.p4_tables.specs.declared.shape.KeyShape.{KeyShape}
 use Rattle.p4_tables.specs.declared.signs.Signs.{Signs}
-use Rattle.p4_tables.specs.declared.signs.Slot.{Slot}
-use Rattle.p4_tables.specs.declared.signs.Slot.TheVariants as slot
 
 -- ---- what is asked, as numbers
 
@@ -39,35 +37,50 @@ wanted [] n ws = []
 wanted (k ∷ ks) n [] = []
 wanted (k ∷ ks) n (w ∷ ws) = wanted_of k.kind n w ++ wanted ks n ws
 
--- ---- where it is kept
+-- ---- as one number
 
 -- a prefix as one number: a one, and behind it so many bits; none where there is no room for the one, or where the bits
 -- are more
 abbrev pub prefix_code : (length bits : ℕ) → Option ℕ
 prefix_code n b = if nat_lt n 128 && nat_lt b (2 ^ n) then Some (2 ^ n + b) else None
 
-abbrev pub coded : Option ℕ → Slot
-coded None = slot.List
-coded (Some c) = slot.Prefix c
+-- a number of so many bits behind another one, where both fit into one
+abbrev pub joined : (width number : ℕ) → (rest : Option ℕ) → Option ℕ
+joined w n None = None
+joined w n (Some r) = if nat_lt n (2 ^ w) && nat_lt (r * 2 ^ w + n) (2 ^ 128) then Some (r * 2 ^ w + n) else None
 
-abbrev pub slot_of : List ℕ → Slot
-slot_of [] = slot.List
-slot_of (n ∷ []) = slot.Number n
-slot_of (n ∷ b ∷ []) = coded (prefix_code n b)
-slot_of (n ∷ b ∷ m ∷ s) = slot.List
+abbrev pub joined_code : (width : ℕ) → (code rest : Option ℕ) → Option ℕ
+joined_code w None r = None
+joined_code w (Some c) r = joined w c r
 
--- what is noted for a number, and for numbers
+-- what is asked of one key is two numbers for a prefix, and else one
+abbrev pub by_kind : KeyKind → (one two : Option ℕ) → Option ℕ
+by_kind Exact one two = one
+by_kind Lpm one two = two
+by_kind Ternary one two = one
+
+-- a sign as one number, where it fits into one
+abbrev pub packed : List KeyShape → List ℕ → Option ℕ
+packed [] [] = Some 0
+packed [] (n ∷ s) = None
+packed (k ∷ ks) [] = None
+packed (k ∷ ks) (n ∷ []) = by_kind k.kind (joined k.value.width n (packed ks [])) None
+packed (k ∷ ks) (n ∷ b ∷ s) =
+    by_kind k.kind (joined k.value.width n (packed ks (b ∷ s))) (joined_code (suc k.value.width) (prefix_code n b) (packed ks s))
+
+-- ---- what is noted
+
+-- for a number, and for numbers
 abbrev pub number_act : {S : Type 0} → hash.HashMap ℕ code_act.Act S → ℕ → Option code_act.Act
 number_act m n = hash.get nat_eq m n
 
 abbrev pub list_act : {S : Type 0} → hash.HashMap (Vec ℕ) code_act.Act S → List ℕ → Option code_act.Act
 list_act m s = hash.get_by (λ k. pointwise nat_eq s k.items) m
 
-abbrev pub kept_at : Signs → List ℕ → Slot → Option code_act.Act
-kept_at m s (slot.Number n) = number_act m.numbers n
-kept_at m s (slot.Prefix c) = number_act m.prefixes c
-kept_at m s slot.List = list_act m.lists s
+abbrev pub kept_at : Signs → List ℕ → (code : Option ℕ) → Option code_act.Act
+kept_at m s (Some c) = number_act m.numbers c
+kept_at m s None = list_act m.lists s
 
--- what is noted for a sign
-abbrev pub sign_act : Signs → List ℕ → Option code_act.Act
-sign_act m s = kept_at m s (slot_of s)
+-- for a sign
+abbrev pub sign_act : List KeyShape → Signs → List ℕ → Option code_act.Act
+sign_act ks m s = kept_at m s (packed ks s)

@@ -85,7 +85,7 @@ impl Held {
     {
         let shape = copy_shape(alloc, &self.shape)?;
         let listed = copy_entries(alloc, &self.listed)?;
-        let index = index_of(alloc, shape.has_ternary(), &listed)?;
+        let index = index_of(alloc, &shape.keys, shape.has_ternary(), &listed)?;
         let default = self.default.copy(alloc)?;
         Ok(Held {
             shape,
@@ -120,7 +120,7 @@ impl Held {
         match &self.index {
             Index::Signs(signs) => {
                 let sign = sign_of(*self.listed.allocator(), &e.keys)?;
-                if signs.act(sign.as_slice()).is_some() {
+                if signs.act(&self.shape.keys, sign.as_slice()).is_some() {
                     Ok(Some(EntryFault::SameEntry))
                 } else {
                     Ok(None)
@@ -166,7 +166,10 @@ impl Held {
         let alloc = *self.listed.allocator();
         let place = self.listed.len();
         self.listed.push(e)?;
-        match self.index.note(alloc, &self.listed[place], place) {
+        match self
+            .index
+            .note(alloc, &self.shape.keys, &self.listed[place], place)
+        {
             Ok(()) => Ok(()),
             Err(error) => {
                 self.listed.pop();
@@ -181,7 +184,8 @@ impl Held {
         ensures err { OnErr result (self.new ≡ self.old) }
     {
         let alloc = *list.allocator();
-        let index = index_of(alloc, self.shape.has_ternary(), &list)?;
+        let has_ternary = self.shape.has_ternary();
+        let index = index_of(alloc, &self.shape.keys, has_ternary, &list)?;
         self.listed = list;
         self.index = index;
         Ok(())

@@ -1,11 +1,11 @@
-//! Where the entries of a table stand.
+//! What the entries of a table run, and where they stand.
 
 ghost use Rattle.std.specs.Prelude.{◌≡◌, [], ◌∷◌, ◌++◌, Some, None, true, List, ℕ, map, length, nat_eq, IfSome, IfOk, OnOk, OnErr, if◌then◌else◌};
 ghost use Rattle.std.specs.Bool.{OnTrue};
 ghost use Rattle.std.specs.Option.{option_map, option_or};
 ghost use Rattle.std.specs.BTreeMap.{IsOrdered};
 ghost use Rattle.std.specs.Ordering.{nat_cmp};
-ghost use Rattle.p4_tables.specs.Signs.{wanted_of, wanted, sign_act};
+ghost use Rattle.p4_tables.specs.Signs.{wanted_of, wanted, packed, sign_act};
 ghost use Rattle.p4_tables.specs.Index.{priority_place, IsIndex, longest, first_told, first_fit};
 ghost use Rattle.p4_tables.specs.Shapes.{have_widths};
 ghost use Rattle.p4_tables.specs.View.{entry_of};
@@ -15,7 +15,7 @@ use crate::choice::fits_keys;
 use crate::compare::first_bits;
 use crate::entry::{Act, Entry};
 use crate::shape::{KeyKind, KeyShape};
-use crate::signs::{Signs, sign_of};
+use crate::signs::{Signs, key_code, sign_of};
 use arrayvec::ArrayVec;
 use bit_values::Bits;
 use std::alloc::{AllocError, Global};
@@ -81,7 +81,7 @@ fn note_priority(
 impl Index {
     /// The index of no entries.
     pub fn new(alloc: Global, has_ternary: bool) -> Index
-        ensures { IsIndex has_ternary [] result }
+        ensures { (ks : List _) → IsIndex ks has_ternary [] result }
     {
         if has_ternary {
             Index::Priorities(BTreeMap::new(alloc))
@@ -91,16 +91,23 @@ impl Index {
     }
 
     /// Notes an entry that stands behind those of the index.
-    pub fn note(&mut self, alloc: Global, e: &Entry, place: usize) -> Result<(), AllocError>
-        ensures ok { OnOk result ((t : _) (es : List _) → IsIndex t es self.old → place ≡ length es
-            → IsIndex t (es ++ entry_of e.now ∷ []) self.new) }
-        ensures err { OnErr result ((t : _) (es : List _) → IsIndex t es self.old → IsIndex t es self.new) }
+    pub fn note(
+        &mut self,
+        alloc: Global,
+        kinds: &[KeyShape],
+        e: &Entry,
+        place: usize,
+    ) -> Result<(), AllocError>
+        ensures ok { OnOk result ((t : _) (es : List _) → IsIndex kinds.now t es self.old
+            → place ≡ length es → IsIndex kinds.now t (es ++ entry_of e.now ∷ []) self.new) }
+        ensures err { OnErr result ((t : _) (es : List _) → IsIndex kinds.now t es self.old
+            → IsIndex kinds.now t es self.new) }
     {
         match self {
             Index::Signs(signs) => {
                 let sign = sign_of(alloc, &e.keys)?;
                 let act = e.act(alloc)?;
-                signs.note(sign, act)
+                signs.note(kinds, sign, act)
             }
             Index::Priorities(places) => note_priority(places, e.priority, place),
         }
@@ -110,14 +117,15 @@ impl Index {
 /// The index of entries.
 pub(crate) fn index_of(
     alloc: Global,
+    kinds: &[KeyShape],
     has_ternary: bool,
     list: &[Entry],
 ) -> Result<Index, AllocError>
-    ensures { IfOk result (IsIndex has_ternary (map entry_of list.now)) }
+    ensures { IfOk result (IsIndex kinds.now has_ternary (map entry_of list.now)) }
 {
     let mut index = Index::new(alloc, has_ternary);
     for i in 0..list.len() {
-        index.note(alloc, &list[i], i)?;
+        index.note(alloc, kinds, &list[i], i)?;
     }
     Ok(index)
 }
@@ -160,13 +168,24 @@ pub(crate) fn priority_place(places: &BTreeMap<Reverse<u32>, usize>, priority: u
     places.get(&Reverse(priority)).copied()
 }
 
-/// What the first entry runs that asks for a key, with so many first bits where they count.
-fn act_for_key<'a>(signs: &'a Signs, k: &KeyShape, length: u8, key: Bits) -> Option<&'a Act>
-    ensures { lent result ≡ sign_act signs.now (wanted_of k.now.kind length key) }
+/// What asks for these keys, with so many first bits where they count, as one number, where it fits
+/// into one.
+fn wanted_code(kinds: &[KeyShape], length: u8, keys: &[Bits]) -> Option<u128>
+    ensures { result ≡ packed kinds.now (wanted kinds.now length keys.now) }
 {
-    match k.kind {
-        KeyKind::Exact | KeyKind::Ternary => signs.of_number(key.value),
-        KeyKind::Lpm => signs.of_prefix(length, first_bits(key, length)),
+    match kinds {
+        [] => Some(0),
+        [k, ks @ ..] => match keys {
+            [] => None,
+            [key, rest @ ..] => {
+                let rest = wanted_code(ks, length, rest)?;
+                let bits = match k.kind {
+                    KeyKind::Exact | KeyKind::Ternary => key.value,
+                    KeyKind::Lpm => first_bits(*key, length),
+                };
+                key_code(k, length as u128, bits, rest)
+            }
+        },
     }
 }
 
@@ -178,13 +197,16 @@ fn act_for<'a>(
     length: u8,
     keys: &[Bits],
 ) -> Option<Option<&'a Act>>
-    ensures { IfSome result (λ told. lent told ≡ sign_act signs.now (wanted kinds.now length keys.now)) }
+    ensures { IfSome result (λ told. lent told
+        ≡ sign_act kinds.now signs.now (wanted kinds.now length keys.now)) }
 {
-    if kinds.len() == 1 && keys.len() == 1 {
-        return Some(act_for_key(signs, &kinds[0], length, keys[0]));
+    match wanted_code(kinds, length, keys) {
+        Some(code) => Some(signs.of_code(code)),
+        None => {
+            let sign = wanted(kinds, length, keys)?;
+            Some(signs.of_list(sign.as_slice()))
+        }
     }
-    let sign = wanted(kinds, length, keys)?;
-    Some(signs.act(sign.as_slice()))
 }
 
 /// What the entry of the longest prefix runs that asks for these keys, if one does. Not told where keys
@@ -195,7 +217,8 @@ pub(crate) fn longest_act<'a>(
     keys: &[Bits],
 ) -> Option<Option<&'a Act>>
     ensures told { IfSome result (λ told. lent told
-        ≡ first_told (λ n. sign_act signs.now (wanted kinds.now n keys.now)) (longest kinds.now)) }
+        ≡ first_told (λ n. sign_act kinds.now signs.now (wanted kinds.now n keys.now))
+        (longest kinds.now)) }
     ensures wide { IfSome result (λ _. have_widths (map (λ k. k.value) kinds.now) keys.now ≡ true) }
 {
     if !have_key_widths(kinds, keys) {

@@ -17,8 +17,8 @@
 //! Speed: an index tells what the entry of a table runs that asks for given keys, or where the one of a
 //! priority stands. So an entry is compared with one other at most. A choice of exact keys takes one
 //! look, one of prefixes a look for each length from the longest on, and one under masks goes from the
-//! highest priority on. Where keys are more than 16 numbers, or have other widths than the table's, a
-//! choice is one walk over all entries.
+//! highest priority on. Where keys do not fit into one number of 128 bits and are more than 16, or have
+//! other widths than the table's, a choice is one walk over all entries.
 #![tactic(auto)]
 
 mod choice;

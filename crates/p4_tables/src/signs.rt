@@ -1,30 +1,23 @@
 //! What the entries of a table run, by what they ask of the keys.
 
-ghost use Rattle.std.specs.Prelude.{◌≡◌, [], ◌∷◌, ◌++◌, Some, None, List, ℕ, map, nat_eq, IfOk, OnOk, OnErr, if◌then◌else◌};
+ghost use Rattle.std.specs.Prelude.{◌≡◌, ◌++◌, Some, None, List, ℕ, suc, map, nat_eq, IfOk, OnOk, OnErr, if◌then◌else◌};
 ghost use Rattle.std.specs.Option.{option_or};
 ghost use Rattle.std.specs.Cmp.Lexicographic.{pointwise};
-ghost use Rattle.p4_tables.specs.Signs.{sign_of, signs_of, prefix_code, slot_of, number_act, list_act, sign_act};
+ghost use Rattle.p4_tables.specs.Signs.{sign_of, signs_of, prefix_code, joined, joined_code, by_kind, packed, number_act, list_act, sign_act};
 ghost use Rattle.p4_tables.specs.View.{match_of};
 ghost use Rattle.p4_tables.specs.Walk.{lent};
 
 use crate::compare::first_bits;
 use crate::entry::{Act, Match};
+use crate::shape::{KeyKind, KeyShape};
 use std::alloc::{AllocError, Global};
 use std::collections::HashMap;
 
-/// Where a sign is kept: one number, a prefix as one number, or more numbers.
-pub(crate) enum Slot {
-    Number(u128),
-    Prefix(u128),
-    List,
-}
-
-/// What the first entry runs that asks for a sign. Signs that are one number are kept by that, so that
-/// a look touches little memory.
+/// What the first entry runs that asks for a sign. Signs that fit into one number are kept by that, so
+/// that a look touches little memory.
 #[derive(Debug, Drop)]
 pub(crate) struct Signs {
     pub numbers: HashMap<u128, Act>,
-    pub prefixes: HashMap<u128, Act>,
     pub lists: HashMap<Vec<u128>, Act>,
 }
 
@@ -73,17 +66,52 @@ fn prefix_code(length: u128, bits: u128) -> Option<u128>
     }
 }
 
-/// Where a sign is kept.
-fn slot_of(sign: &[u128]) -> Slot
-    ensures { result ≡ slot_of sign.now }
+/// A number of so many bits behind another one, where both fit into one.
+fn joined(width: u32, number: u128, rest: u128) -> Option<u128>
+    ensures { result ≡ joined width number (Some rest) }
 {
-    match sign {
-        [number] => Slot::Number(*number),
-        [length, bits] => match prefix_code(*length, *bits) {
-            Some(code) => Slot::Prefix(code),
-            None => Slot::List,
+    if width >= 128 {
+        return if rest == 0 { Some(number) } else { None };
+    }
+    let end = 1u128 << width;
+    if number >= end {
+        None
+    } else if rest == 0 {
+        Some(number)
+    } else {
+        rest.checked_mul(end)?.checked_add(number)
+    }
+}
+
+/// What is asked of one key, with so many first bits where they count, in front of what is asked of the
+/// others, as one number.
+pub(crate) fn key_code(k: &KeyShape, length: u128, bits: u128, rest: u128) -> Option<u128>
+    ensures { result ≡ by_kind k.now.kind (joined k.now.value.width bits (Some rest))
+        (joined_code (suc k.now.value.width) (prefix_code length bits) (Some rest)) }
+{
+    let width = k.value.width as u32;
+    match k.kind {
+        KeyKind::Exact | KeyKind::Ternary => joined(width, bits, rest),
+        KeyKind::Lpm => joined(width + 1, prefix_code(length, bits)?, rest),
+    }
+}
+
+/// A sign as one number, where it fits into one.
+fn packed(kinds: &[KeyShape], sign: &[u128]) -> Option<u128>
+    ensures { result ≡ packed kinds.now sign.now }
+{
+    match kinds {
+        [] => { if sign.is_empty() { Some(0) } else { None } }
+        [k, ks @ ..] => match k.kind {
+            KeyKind::Exact | KeyKind::Ternary => match sign {
+                [] => None,
+                [number, rest @ ..] => key_code(k, 0, *number, packed(ks, rest)?),
+            },
+            KeyKind::Lpm => match sign {
+                [length, bits, rest @ ..] => key_code(k, *length, *bits, packed(ks, rest)?),
+                _ => None,
+            },
         },
-        _ => Slot::List,
     }
 }
 
@@ -118,53 +146,49 @@ fn note_list(
 impl Signs {
     /// Of no entries.
     pub fn new(alloc: Global) -> Signs
-        ensures { (s : List ℕ) → sign_act result s ≡ None }
+        ensures { (ks : List _) (s : List ℕ) → sign_act ks result s ≡ None }
     {
         Signs {
             numbers: HashMap::new(alloc),
-            prefixes: HashMap::new(alloc),
             lists: HashMap::new(alloc),
         }
     }
 
     /// Notes what an entry runs that asks for a sign, unless another one asks for it.
-    pub fn note(&mut self, sign: Vec<u128>, act: Act) -> Result<(), AllocError>
-        ensures ok { OnOk result ((s : List ℕ) → sign_act self.new s
-            ≡ option_or (sign_act self.old s) (if pointwise nat_eq s sign.items then Some act else None)) }
-        ensures err { OnErr result ((s : List ℕ) → sign_act self.new s ≡ sign_act self.old s) }
+    pub fn note(&mut self, kinds: &[KeyShape], sign: Vec<u128>, act: Act) -> Result<(), AllocError>
+        ensures ok { OnOk result ((s : List ℕ) → sign_act kinds.now self.new s
+            ≡ option_or (sign_act kinds.now self.old s)
+            (if pointwise nat_eq s sign.items then Some act else None)) }
+        ensures err { OnErr result ((s : List ℕ) → sign_act kinds.now self.new s
+            ≡ sign_act kinds.now self.old s) }
     {
-        match slot_of(&sign) {
-            Slot::Number(number) => note_number(&mut self.numbers, number, act),
-            Slot::Prefix(code) => note_number(&mut self.prefixes, code, act),
-            Slot::List => note_list(&mut self.lists, sign, act),
+        match packed(kinds, &sign) {
+            Some(code) => note_number(&mut self.numbers, code, act),
+            None => note_list(&mut self.lists, sign, act),
         }
     }
 
     /// What the first entry runs that asks for a sign.
-    pub fn act(&self, sign: &[u128]) -> Option<&Act>
-        ensures { lent result ≡ sign_act self.now sign.now }
+    pub fn act(&self, kinds: &[KeyShape], sign: &[u128]) -> Option<&Act>
+        ensures { lent result ≡ sign_act kinds.now self.now sign.now }
     {
-        match slot_of(sign) {
-            Slot::Number(number) => self.numbers.get(&number),
-            Slot::Prefix(code) => self.prefixes.get(&code),
-            Slot::List => self.lists.get(sign),
+        match packed(kinds, sign) {
+            Some(code) => self.of_code(code),
+            None => self.of_list(sign),
         }
     }
 
-    /// What the first entry runs that asks for a number.
-    pub fn of_number(&self, number: u128) -> Option<&Act>
-        ensures { lent result ≡ sign_act self.now (number ∷ []) }
+    /// What the first entry runs whose sign is this number.
+    pub fn of_code(&self, code: u128) -> Option<&Act>
+        ensures { lent result ≡ number_act self.now.numbers code }
     {
-        self.numbers.get(&number)
+        self.numbers.get(&code)
     }
 
-    /// What the first entry runs that asks for a prefix.
-    pub fn of_prefix(&self, length: u8, bits: u128) -> Option<&Act>
-        ensures { lent result ≡ sign_act self.now (length ∷ bits ∷ []) }
+    /// What the first entry runs whose sign is no number, but these.
+    pub fn of_list(&self, sign: &[u128]) -> Option<&Act>
+        ensures { lent result ≡ list_act self.now.lists sign.now }
     {
-        match prefix_code(length as u128, bits) {
-            Some(code) => self.prefixes.get(&code),
-            None => self.lists.get([length as u128, bits].as_slice()),
-        }
+        self.lists.get(sign)
     }
 }

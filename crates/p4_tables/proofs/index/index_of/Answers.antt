@@ -4,7 +4,10 @@ use Rattle.p4_tables.specs.View.{entry_of}
 use Rattle.p4_tables.proofs.Listed.{next_listed, many_listed}
 use Rattle.p4_tables.proofs.index.index_of.Goals as goal
 
+pub loop-i-init : goal.loop-i-init
+loop-i-init c = c.new-index.ensures c.args.kinds.now
+
 pub loop-i-preserved : goal.loop-i-preserved
 loop-i-preserved c =
     let i = c.loop-i.i in let list = c.args.list.now in
-    subst (λ es. IsIndex c.args.has_ternary es c.note.new.self) (next_listed list i c.index-list-i.result c.loop-i-test.true c.index-list-i.is) (c.in_ok-note.ensures.ok c.args.has_ternary (map entry_of (take i list)) c.loop-i.invariant (many_listed list i c.loop-i-test.true))
+    subst (λ es. IsIndex c.args.kinds.now c.args.has_ternary es c.note.new.self) (next_listed list i c.index-list-i.result c.loop-i-test.true c.index-list-i.is) (c.in_ok-note.ensures.ok c.args.has_ternary (map entry_of (take i list)) c.loop-i.invariant (many_listed list i c.loop-i-test.true))

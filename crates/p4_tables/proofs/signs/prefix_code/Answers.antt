@@ -1,4 +1,4 @@
-use Rattle.p4_tables.proofs.Slots.{room}
+use Rattle.p4_tables.proofs.Packed.{room}
 use Rattle.p4_tables.proofs.signs.prefix_code.Goals as goal
 
 pub overflow_add-result : goal.overflow_add-result

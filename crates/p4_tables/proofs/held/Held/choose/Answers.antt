@@ -18,7 +18,7 @@ returns-in-Priorities-clause-acts c =
     let ks = inside.shape.keys.items in
     let es = map entry_of inside.listed.items in
     let ws = c.args.keys.now in
-    let index = subst (IsIndex (has_ternary ks) es) c.in-Priorities.is c.self.invariant in
+    let index = subst (IsIndex ks (has_ternary ks) es) c.in-Priorities.is c.self.invariant in
     let h : Held = record { shape = shape_of inside.shape; listed = es; default = act_of inside.default } in
     let sound : IsSound h = subst IsSound (sym c.self.view_is) c.requires in
     let apart : AreApart true es = subst (λ b. AreApart b es) index.0 sound.apart in
@@ -34,12 +34,12 @@ returns-in-Some-clause-acts c =
     let ks = inside.shape.keys.items in
     let es = map entry_of inside.listed.items in
     let ws = c.args.keys.now in
-    let index = subst (IsIndex (has_ternary ks) es) c.in-Signs.is c.self.invariant in
+    let index = subst (IsIndex ks (has_ternary ks) es) c.in-Signs.is c.self.invariant in
     let h : Held = record { shape = shape_of inside.shape; listed = es; default = act_of inside.default } in
     let sound : IsSound h = subst IsSound (sym c.self.view_is) c.requires in
     let kinds = c.deref-in-Signs.ensures.value in
     let wide = subst (λ l. have_widths (map (λ k. k.value) l) ws ≡ true) kinds c.in-Some.ensures.wide in
     c.of_act.ensures.acts
-    ∙ ap (option_map act_of) (c.in-Some.ensures.told ∙ ap (λ l. first_told (λ n. sign_act c.in-Signs.signs (wanted l n ws)) (longest l)) kinds)
+    ∙ ap (option_map act_of) (c.in-Some.ensures.told ∙ ap (λ l. first_told (λ n. sign_act l c.in-Signs.signs (wanted l n ws)) (longest l)) kinds)
     ∙ act_found h ws sound index.0 wide c.in-Signs.signs index.1
     ∙ ap (option_map act_in) (ap (λ b. found_in b es ws) (sym index.0) ∙ ap (λ (g : Held). found_in (has_ternary g.shape.keys) g.listed ws) c.self.view_is)

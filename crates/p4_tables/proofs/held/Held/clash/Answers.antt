@@ -23,12 +23,12 @@ returns-then-is_some c =
     let h : Held = record { shape = shape_of inside.shape; listed = es; default = act_of inside.default } in
     let e = entry_of c.args.e.now in
     let sound : IsSound h = subst IsSound (sym c.self.view_is) c.requires.sound in
-    let index = subst (IsIndex (has_ternary inside.shape.keys.items) es) c.in-Signs.is c.self.invariant in
+    let index = subst (IsIndex inside.shape.keys.items (has_ternary inside.shape.keys.items) es) c.in-Signs.is c.self.invariant in
     let taken : takes_entry h.shape e ≡ true = subst (λ (g : Held). takes_entry g.shape e ≡ true) (sym c.self.view_is) c.requires.taken in
     let sign : c.as_slice.result.now ≡ signs_of e.keys = c.as_slice.ensures.value ∙ c.in_ok-sign-in-Signs.ensures ∙ ap (λ l. signs_of (map match_of l)) c.deref.ensures.value in
     let told : c.is_some.result ≡ has_same false es e =
     c.is_some.ensures
-    ∙ lent_some c.act.result (sign_act c.in-Signs.signs (signs_of e.keys)) (c.act.ensures ∙ ap (sign_act c.in-Signs.signs) sign)
+    ∙ lent_some c.act.result (sign_act inside.shape.keys.items c.in-Signs.signs (signs_of e.keys)) (c.act.ensures ∙ ap₂ (λ l s. sign_act l c.in-Signs.signs s) c.deref-in-Signs.ensures.value sign)
     ∙ seen_some _ _ (index.1 (signs_of e.keys))
     ∙ some_stands (asks (signs_of e.keys)) es
     ∙ same_stands h.shape es e index.0 sound.taken taken
@@ -44,12 +44,12 @@ returns-in-Signs c =
     let h : Held = record { shape = shape_of inside.shape; listed = es; default = act_of inside.default } in
     let e = entry_of c.args.e.now in
     let sound : IsSound h = subst IsSound (sym c.self.view_is) c.requires.sound in
-    let index = subst (IsIndex (has_ternary inside.shape.keys.items) es) c.in-Signs.is c.self.invariant in
+    let index = subst (IsIndex inside.shape.keys.items (has_ternary inside.shape.keys.items) es) c.in-Signs.is c.self.invariant in
     let taken : takes_entry h.shape e ≡ true = subst (λ (g : Held). takes_entry g.shape e ≡ true) (sym c.self.view_is) c.requires.taken in
     let sign : c.as_slice.result.now ≡ signs_of e.keys = c.as_slice.ensures.value ∙ c.in_ok-sign-in-Signs.ensures ∙ ap (λ l. signs_of (map match_of l)) c.deref.ensures.value in
     let told : c.is_some.result ≡ has_same false es e =
     c.is_some.ensures
-    ∙ lent_some c.act.result (sign_act c.in-Signs.signs (signs_of e.keys)) (c.act.ensures ∙ ap (sign_act c.in-Signs.signs) sign)
+    ∙ lent_some c.act.result (sign_act inside.shape.keys.items c.in-Signs.signs (signs_of e.keys)) (c.act.ensures ∙ ap₂ (λ l s. sign_act l c.in-Signs.signs s) c.deref-in-Signs.ensures.value sign)
     ∙ seen_some _ _ (index.1 (signs_of e.keys))
     ∙ some_stands (asks (signs_of e.keys)) es
     ∙ same_stands h.shape es e index.0 sound.taken taken
@@ -62,7 +62,7 @@ pub index-requires : goal.index-requires
 index-requires c =
     let inside = c.self.inside in
     let es = map entry_of inside.listed.items in
-    let index = subst (IsIndex (has_ternary inside.shape.keys.items) es) c.in-Priorities.is c.self.invariant in
+    let index = subst (IsIndex inside.shape.keys.items (has_ternary inside.shape.keys.items) es) c.in-Priorities.is c.self.invariant in
     let there = many_below inside.listed.items c.in-Some.place (stands (has_rank c.args.e.now.priority) es c.in-Some.place no_entry (sym (index.1 c.args.e.now.priority) ∙ sym c.priority_place.ensures ∙ c.in-Some.is)).0 in
     subst (λ (n : ℕ). c.in-Some.place < n) (sym (long inside.listed)) there
 
@@ -73,7 +73,7 @@ returns c =
     let h : Held = record { shape = shape_of inside.shape; listed = es; default = act_of inside.default } in
     let e = entry_of c.args.e.now in
     let sound : IsSound h = subst IsSound (sym c.self.view_is) c.requires.sound in
-    let index = subst (IsIndex (has_ternary inside.shape.keys.items) es) c.in-Priorities.is c.self.invariant in
+    let index = subst (IsIndex inside.shape.keys.items (has_ternary inside.shape.keys.items) es) c.in-Priorities.is c.self.invariant in
     sym (no_clash h e index.0 (sym (index.1 e.priority) ∙ sym c.priority_place.ensures ∙ c.in-None.is)) ∙ ap (λ (g : Held). clash_in g e) c.self.view_is
 
 pub returns-then-same_keys : goal.returns-then-same_keys
@@ -83,7 +83,7 @@ returns-then-same_keys c =
     let h : Held = record { shape = shape_of inside.shape; listed = es; default = act_of inside.default } in
     let e = entry_of c.args.e.now in
     let sound : IsSound h = subst IsSound (sym c.self.view_is) c.requires.sound in
-    let index = subst (IsIndex (has_ternary inside.shape.keys.items) es) c.in-Priorities.is c.self.invariant in
+    let index = subst (IsIndex inside.shape.keys.items (has_ternary inside.shape.keys.items) es) c.in-Priorities.is c.self.invariant in
     let at : place_in (has_rank e.priority) es ≡ Some c.in-Some.place = sym (index.1 e.priority) ∙ sym c.priority_place.ensures ∙ c.in-Some.is in
     let there = many_below inside.listed.items c.in-Some.place (stands (has_rank e.priority) es c.in-Some.place no_entry at).0 in
     let read : entry_of c.index.result.now ≡ get_or es c.in-Some.place no_entry = ap entry_of c.index.ensures ∙ sym (get_or-map entry_of inside.listed.items c.in-Some.place c.index.result.now no_entry there) in
@@ -103,7 +103,7 @@ returns-in-Some c =
     let h : Held = record { shape = shape_of inside.shape; listed = es; default = act_of inside.default } in
     let e = entry_of c.args.e.now in
     let sound : IsSound h = subst IsSound (sym c.self.view_is) c.requires.sound in
-    let index = subst (IsIndex (has_ternary inside.shape.keys.items) es) c.in-Priorities.is c.self.invariant in
+    let index = subst (IsIndex inside.shape.keys.items (has_ternary inside.shape.keys.items) es) c.in-Priorities.is c.self.invariant in
     let at : place_in (has_rank e.priority) es ≡ Some c.in-Some.place = sym (index.1 e.priority) ∙ sym c.priority_place.ensures ∙ c.in-Some.is in
     let there = many_below inside.listed.items c.in-Some.place (stands (has_rank e.priority) es c.in-Some.place no_entry at).0 in
     let read : entry_of c.index.result.now ≡ get_or es c.in-Some.place no_entry = ap entry_of c.index.ensures ∙ sym (get_or-map entry_of inside.listed.items c.in-Some.place c.index.result.now no_entry there) in
