@@ -11,9 +11,9 @@ use Rattle.table_faults.specs.declared.entry.EntryFault.TheVariants.{NoSuchActio
 use Rattle.table_faults.specs.declared.table.TableFault.{TableFault}
 use Rattle.table_faults.specs.declared.table.TableFault.TheVariants as fault
 use Rattle.p4_types.specs.Numbers.{dotted, number_in}
-use Rattle.p4_tables.specs.Shapes.{Shape, params_in}
+use Rattle.table_shapes.specs.Shapes.{Shape, params_in}
 use Rattle.p4_tables.specs.Entries.{Entry, Act}
-use Rattle.p4_tables.specs.declared.shape.KeyShape.{KeyShape}
+use Rattle.table_shapes.specs.declared.shape.KeyShape.{KeyShape}
 use Rattle.value_shapes.specs.declared.values.ValueShape.{ValueShape}
 use Rattle.json_values.specs.Words.{fault_of}
 use Rattle.entry_parts.specs.Written as written

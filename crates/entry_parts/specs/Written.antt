@@ -13,11 +13,11 @@ use Rattle.json_parts.specs.Trees.{as_list, as_whole}
 use Rattle.json_parts.specs.Turns.{all_of}
 use Rattle.json_parts.specs.declared.fault.ShapeFault.{ShapeFault}
 use Rattle.json_parts.specs.declared.fault.ShapeFault.TheVariants.{Shape}
-use Rattle.p4_tables.specs.Shapes as shapes
-use Rattle.p4_tables.specs.Shapes.{has_ternary}
-use Rattle.p4_tables.specs.declared.shape.KeyKind.{KeyKind}
-use Rattle.p4_tables.specs.declared.shape.KeyKind.TheVariants.{Exact, Lpm, Ternary}
-use Rattle.p4_tables.specs.declared.shape.KeyShape.{KeyShape}
+use Rattle.table_shapes.specs.Shapes as shapes
+use Rattle.table_shapes.specs.Shapes.{has_ternary}
+use Rattle.table_shapes.specs.declared.shape.KeyKind.{KeyKind}
+use Rattle.table_shapes.specs.declared.shape.KeyKind.TheVariants.{Exact, Lpm, Ternary}
+use Rattle.table_shapes.specs.declared.shape.KeyShape.{KeyShape}
 use Rattle.value_shapes.specs.declared.values.ValueShape.{ValueShape}
 
 -- ---- parts of a key

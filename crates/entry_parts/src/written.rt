@@ -4,7 +4,7 @@ ghost use Rattle.std.specs.Prelude.{◌≡◌, codes, map, option_map};
 ghost use Rattle.serde_json.specs.View.{view};
 ghost use Rattle.json_parts.specs.Object.{members_of};
 ghost use Rattle.json_parts.specs.Views.{Gives, object_seen};
-ghost use Rattle.p4_tables.specs.View.{shape_of};
+ghost use Rattle.table_shapes.specs.View.{shape_of};
 ghost use Rattle.entry_parts.specs.Written as written;
 ghost use Rattle.entry_parts.specs.Views.{act_view, entry_view, part_views};
 

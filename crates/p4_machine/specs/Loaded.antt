@@ -2,7 +2,7 @@
 use Rattle.std.specs.Prelude.{List, [], ◌∷◌, length, Bool, true, false, ◌&&◌, nat_lt}
 use Rattle.p4_meaning.specs.Tables as meaning
 use Rattle.p4_meaning.specs.Tables.{Table}
-use Rattle.p4_tables.specs.Shapes.{Shape, has_ternary}
+use Rattle.table_shapes.specs.Shapes.{Shape, has_ternary}
 
 abbrev pub same_truth : Bool → Bool → Bool
 same_truth true b = b

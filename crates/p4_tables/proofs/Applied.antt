@@ -10,7 +10,7 @@ use Rattle.p4_meaning.specs.Choice.{fits_keys, IsChosen, IsChoice, choice_of}
 use Rattle.p4_meaning.specs.Tables as meaning
 use Rattle.p4_meaning.specs.Tables.{Key, Table, Entries, table_named, key_words, chosen_runs, apply_if}
 use Rattle.p4_meaning.proofs.Choices.{choice_is, below}
-use Rattle.p4_tables.specs.Shapes.{Shape, is_ternary, has_ternary, are_for_keys, takes}
+use Rattle.table_shapes.specs.Shapes.{Shape, is_ternary, has_ternary, are_for_keys, takes}
 use Rattle.p4_tables.specs.Faults.{takes_entry}
 use Rattle.p4_tables.specs.Entries.{Entry, Act, named}
 use Rattle.p4_tables.specs.State.{Held, held_at, no_table}
@@ -19,7 +19,7 @@ use Rattle.p4_tables.specs.Programs.{kind_of, key_shapes}
 use Rattle.value_shapes.specs.declared.values.ValueShape.{ValueShape}
 use Rattle.p4_tables.specs.Laws.{ChoicesAreUnique, RunsListed}
 use Rattle.p4_tables.specs.Kept.{IsSound, AreSound}
-use Rattle.p4_tables.specs.declared.shape.KeyKind.TheVariants.{Exact, Lpm, Ternary}
+use Rattle.table_shapes.specs.declared.shape.KeyKind.TheVariants.{Exact, Lpm, Ternary}
 use Rattle.p4_tables.proofs.Sound.{all_at}
 use Rattle.p4_tables.proofs.Unique.{unique}
 

@@ -8,7 +8,7 @@ use Rattle.bit_values.specs.Bits.{Word}
 use Rattle.p4_meaning.specs.Choice as choice
 use Rattle.p4_meaning.specs.Choice.{fits_keys, higher, IsChoice, choice_of}
 use Rattle.p4_meaning.proofs.Choices.{choice_is}
-use Rattle.p4_tables.specs.Shapes.{has_ternary}
+use Rattle.table_shapes.specs.Shapes.{has_ternary}
 use Rattle.p4_tables.specs.Entries.{Entry, Act, act_in, named}
 use Rattle.p4_tables.specs.State.{Held}
 use Rattle.p4_tables.specs.Answers.{IsHit, IsMiss}

@@ -3,9 +3,8 @@ use Rattle.std.proofs.Common.{◌≡◌, ℕ, zero, suc, ◌<◌, List, [], ◌�
 use Rattle.bit_values.specs.Bits.{Word}
 use Rattle.p4_meaning.specs.Choice.{fits_keys}
 use Rattle.p4_tables.specs.declared.entry.Match as code_match
-use Rattle.p4_tables.specs.declared.shape.KeyShape.{KeyShape}
-use Rattle.value_shapes.specs.declared.values.ValueShape.{ValueShape}
-use Rattle.p4_tables.specs.Shapes.{are_for_keys, have_widths}
+use Rattle.table_shapes.specs.declared.shape.KeyShape.{KeyShape}
+use Rattle.table_shapes.specs.Shapes.{are_for_keys, have_widths}
 use Rattle.p4_tables.specs.Entries.{same_keys}
 use Rattle.p4_tables.specs.Signs.{wanted}
 use Rattle.p4_tables.specs.View.{match_of}
@@ -22,23 +21,11 @@ no_matches [] n lt = absurd (omega arith)
 no_matches (k ∷ ks) zero lt = refl
 no_matches (k ∷ ks) (suc n) lt = no_matches ks n (omega arith)
 
--- values are left, and no words
-pub no_words : (vs : List ValueShape) (i : ℕ) → i < length vs → have_widths (drop i vs) [] ≡ false
-no_words [] i lt = absurd (omega arith)
-no_words (v ∷ vs) zero lt = refl
-no_words (v ∷ vs) (suc i) lt = no_words vs i (omega arith)
-
 -- keys of a table are left, and no words
 pub no_kinds : (ks : List KeyShape) (i : ℕ) → i < length ks → have_widths (map (λ (k : KeyShape). k.value) (drop i ks)) [] ≡ false
 no_kinds [] i lt = absurd (omega arith)
 no_kinds (k ∷ ks) zero lt = refl
 no_kinds (k ∷ ks) (suc i) lt = no_kinds ks i (omega arith)
-
--- words are left, and no values
-pub no_values : (ws : List Word) (i : ℕ) → i < length ws → have_widths [] (drop i ws) ≡ false
-no_values [] i lt = absurd (omega arith)
-no_values (w ∷ ws) zero lt = refl
-no_values (w ∷ ws) (suc i) lt = no_values ws i (omega arith)
 
 -- keys of a table are left, and no matches
 pub none_asked : (ks : List KeyShape) (i : ℕ) → i < length ks → are_for_keys (drop i ks) [] ≡ false

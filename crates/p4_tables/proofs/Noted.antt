@@ -19,7 +19,7 @@ use Rattle.p4_tables.specs.Walk.{lent}
 use Rattle.p4_tables.specs.Signs.{signs_of, number_act, list_act, sign_act}
 use Rattle.p4_tables.specs.Index.{place_in, asks, has_rank, first_act, priority_place}
 use Rattle.p4_tables.specs.declared.entry.Act as code_act
-use Rattle.p4_tables.specs.declared.shape.KeyShape.{KeyShape}
+use Rattle.table_shapes.specs.declared.shape.KeyShape.{KeyShape}
 use Rattle.p4_tables.specs.declared.signs.Signs.{Signs}
 
 -- ---- where something stands

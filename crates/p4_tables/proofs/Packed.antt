@@ -7,11 +7,11 @@ use Rattle.std.specs.Cmp.Lexicographic.{pointwise, bytes_decides}
 use Rattle.std.proofs.Math.Pow.{pow_mono}
 use Rattle.std.proofs.Math.Nat.{pow-suc, suc-mul, zero-mul, mul-le-mul_right}
 use Rattle.std.proofs.lemmas.Bool.{and_parts, false≢true, eqb-true, eq-eqb}
-use Rattle.p4_tables.specs.Shapes.{is_lpm}
+use Rattle.table_shapes.specs.Shapes.{is_lpm}
 use Rattle.p4_tables.specs.Signs.{prefix_code, joined, joined_code, by_kind, packed, number_act, list_act, kept_at, sign_act}
-use Rattle.p4_tables.specs.declared.shape.KeyKind.{KeyKind}
-use Rattle.p4_tables.specs.declared.shape.KeyKind.TheVariants.{Exact, Lpm, Ternary}
-use Rattle.p4_tables.specs.declared.shape.KeyShape.{KeyShape}
+use Rattle.table_shapes.specs.declared.shape.KeyKind.{KeyKind}
+use Rattle.table_shapes.specs.declared.shape.KeyKind.TheVariants.{Exact, Lpm, Ternary}
+use Rattle.table_shapes.specs.declared.shape.KeyShape.{KeyShape}
 use Rattle.p4_tables.specs.declared.entry.Act as code_act
 use Rattle.p4_tables.specs.declared.signs.Signs.{Signs}
 use Rattle.p4_tables.proofs.Noted.{or_none}

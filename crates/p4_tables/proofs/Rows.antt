@@ -7,14 +7,14 @@ use Rattle.p4_tree.specs.declared.program.Way.TheVariants as way
 use Rattle.p4_tree.specs.declared.program.Param.{Param}
 use Rattle.p4_scopes.specs.Scopes.{declare, core}
 use Rattle.p4_meaning.specs.Choice.{Match, exact, lpm, ternary}
-use Rattle.p4_tables.specs.Shapes.{ActionShape, Shape}
+use Rattle.table_shapes.specs.Shapes.{ActionShape, Shape}
 use Rattle.p4_tables.specs.Entries.{Entry}
 use Rattle.p4_tables.specs.State.{Held, inserted, replaced, entries_in}
 use Rattle.p4_tables.specs.Faults.{fault_in, default_fault_in}
 use Rattle.p4_tables.specs.Programs.{state_before}
 use Rattle.p4_tables.specs.Walk.{found_in}
-use Rattle.p4_tables.specs.declared.shape.KeyKind.TheVariants.{Exact, Lpm, Ternary}
-use Rattle.p4_tables.specs.declared.shape.KeyShape.{KeyShape}
+use Rattle.table_shapes.specs.declared.shape.KeyKind.TheVariants.{Exact, Lpm, Ternary}
+use Rattle.table_shapes.specs.declared.shape.KeyShape.{KeyShape}
 use Rattle.value_shapes.specs.declared.values.ValueShape.{ValueShape}
 use Rattle.table_faults.specs.declared.entry.EntryFault.TheVariants.{NoSuchAction, WidthDiffers, SameEntry, SamePriority, TableLimit, ConstDefault}
 

@@ -7,7 +7,7 @@ use Rattle.std.specs.Cmp.Lexicographic.{pointwise}
 use Rattle.std.proofs.lemmas.Bool.{and_parts, or_parts, eqb-true, eq-eqb, false≢true, leb-true}
 use Rattle.bit_values.specs.Bits.{Word}
 use Rattle.p4_meaning.specs.Choice.{Match, exact, lpm, ternary, fits_key, fits_keys, prefix_of}
-use Rattle.p4_tables.specs.Shapes.{is_exact, is_lpm, is_ternary, has_ternary, has_lpm, has_two_prefixes, is_for_key, are_for_keys, takes, have_widths}
+use Rattle.table_shapes.specs.Shapes.{is_exact, is_lpm, is_ternary, has_ternary, has_lpm, has_two_prefixes, is_for_key, are_for_keys, takes, have_widths}
 use Rattle.p4_tables.specs.Entries.{Entry, Act, act_in}
 use Rattle.p4_tables.specs.State.{Held}
 use Rattle.p4_tables.specs.Faults.{takes_entry}
@@ -17,9 +17,9 @@ use Rattle.p4_tables.specs.Walk.{lent, found_in}
 use Rattle.p4_tables.specs.Signs.{signs_of, wanted_of, wanted, sign_act}
 use Rattle.p4_tables.specs.Index.{longest_of, longest, first_told, first_act, place_in, asks}
 use Rattle.p4_tables.specs.declared.signs.Signs.{Signs}
-use Rattle.p4_tables.specs.declared.shape.KeyKind.{KeyKind}
-use Rattle.p4_tables.specs.declared.shape.KeyKind.TheVariants.{Exact, Lpm, Ternary}
-use Rattle.p4_tables.specs.declared.shape.KeyShape.{KeyShape}
+use Rattle.table_shapes.specs.declared.shape.KeyKind.{KeyKind}
+use Rattle.table_shapes.specs.declared.shape.KeyKind.TheVariants.{Exact, Lpm, Ternary}
+use Rattle.table_shapes.specs.declared.shape.KeyShape.{KeyShape}
 use Rattle.p4_tables.proofs.Listed.{no_entry}
 use Rattle.p4_tables.proofs.Noted.{stands, nowhere}
 use Rattle.p4_tables.proofs.Ranked.{contains_at, highest_found, no_found}

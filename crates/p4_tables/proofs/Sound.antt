@@ -4,7 +4,7 @@ use Rattle.std.proofs.lemmas.Bool.{not-false, or_parts, leb-false, or_right}
 use Rattle.std.proofs.lemmas.List.{get_or-set_same, set-set, length-set, append-nil}
 use Rattle.std.specs.Prelude.{not, ◌&&◌, nat_eq, nat_le}
 use Rattle.std.specs.List.{AllByRecursion}
-use Rattle.p4_tables.specs.Shapes.{Shape, has_ternary, has_action}
+use Rattle.table_shapes.specs.Shapes.{Shape, has_ternary, has_action}
 use Rattle.p4_tables.specs.Entries.{Entry, Act, same_keys, has_same, has_priority}
 use Rattle.p4_tables.specs.State.{Held, no_table, held_at, entries_in, with_listed, inserted, with_default, replaced}
 use Rattle.p4_tables.specs.Faults.{takes_entry, fault_in, entry_fault, default_fault_in, default_fault, AreAccepted, IsReplaceable}

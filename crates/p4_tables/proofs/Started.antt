@@ -20,14 +20,14 @@ use Rattle.p4_declaration_rules.specs.Tables.{has_key_kind, all_key_kinds}
 use Rattle.p4_declaration_rules.specs.Parsers.{with_ways}
 use Rattle.p4_declaration_rules.specs.Controls.{after_local, after_top, locals_tests, tops_tests, part_in}
 use Rattle.p4_rules.specs.ProgramRules.{program_tests, IsWellTyped}
-use Rattle.p4_tables.specs.Shapes.{is_lpm, has_lpm, has_two_prefixes, has_action}
+use Rattle.table_shapes.specs.Shapes.{is_lpm, has_lpm, has_two_prefixes, has_action}
 use Rattle.p4_tables.specs.State.{entries_in}
 use Rattle.value_shapes.specs.Values.{tops_values}
 use Rattle.p4_tables.specs.Programs.{kind_of, key_shapes, action_place, action_shape, tables_before, state_before}
 use Rattle.value_shapes.specs.declared.values.ValueShape.{ValueShape}
 use Rattle.value_shapes.specs.declared.values.Holder.TheVariants.{Keys, Params}
 use Rattle.p4_tables.specs.Kept.{IsSound, AreSound}
-use Rattle.p4_tables.specs.declared.shape.KeyKind.TheVariants.{Exact, Lpm, Ternary}
+use Rattle.table_shapes.specs.declared.shape.KeyKind.TheVariants.{Exact, Lpm, Ternary}
 
 -- ---- the keys of a table
 

@@ -2,7 +2,7 @@
 use Rattle.std.specs.Prelude.{◌≡◌, ℕ, List, map, Some, None}
 use Rattle.bit_values.specs.Bits.{Word}
 use Rattle.p4_meaning.specs.Choice.{IsChosen, IsChoice, choice_of}
-use Rattle.p4_tables.specs.Shapes.{has_ternary}
+use Rattle.table_shapes.specs.Shapes.{has_ternary}
 use Rattle.p4_tables.specs.Entries.{Entry, Act, named}
 use Rattle.p4_tables.specs.State.{Held}
 

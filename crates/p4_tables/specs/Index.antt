@@ -8,13 +8,13 @@ use Rattle.std.specs.BTreeMap as tree
 use Rattle.std.specs.declared.cmp.Reverse.{Reverse}
 use Rattle.bit_values.specs.Bits.{Word}
 use Rattle.p4_meaning.specs.Choice.{fits_keys}
-use Rattle.p4_tables.specs.Shapes.{has_ternary}
+use Rattle.table_shapes.specs.Shapes.{has_ternary}
 use Rattle.p4_tables.specs.Entries.{Entry, Act, act_in}
 use Rattle.p4_tables.specs.View.{entry_of, act_of}
 use Rattle.p4_tables.specs.Signs.{signs_of, sign_act}
-use Rattle.p4_tables.specs.declared.shape.KeyKind.{KeyKind}
-use Rattle.p4_tables.specs.declared.shape.KeyKind.TheVariants.{Exact, Lpm, Ternary}
-use Rattle.p4_tables.specs.declared.shape.KeyShape.{KeyShape}
+use Rattle.table_shapes.specs.declared.shape.KeyKind.{KeyKind}
+use Rattle.table_shapes.specs.declared.shape.KeyKind.TheVariants.{Exact, Lpm, Ternary}
+use Rattle.table_shapes.specs.declared.shape.KeyShape.{KeyShape}
 use Rattle.p4_tables.specs.declared.index.Index.{Index}
 use Rattle.p4_tables.specs.declared.index.Index.TheVariants.{Signs, Priorities}
 use Rattle.p4_tables.specs.declared.held.Held.TheInside.{Inside}

@@ -1,7 +1,7 @@
 -- What holds of the tables of a switch. Read `Faults` before it.
 use Rattle.std.specs.Prelude.{◌≡◌, ◌≤◌, List, [], ◌∷◌, Bool, true, false, ◌||◌, if◌then◌else◌, nat_eq}
 use Rattle.std.specs.List.{AllByRecursion}
-use Rattle.p4_tables.specs.Shapes.{has_ternary, has_two_prefixes, has_action}
+use Rattle.table_shapes.specs.Shapes.{has_ternary, has_two_prefixes, has_action}
 use Rattle.p4_tables.specs.Entries.{Entry, same_keys}
 use Rattle.p4_tables.specs.State.{Held, entries_in}
 use Rattle.p4_tables.specs.Faults.{takes_entry}

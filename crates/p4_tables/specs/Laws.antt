@@ -4,7 +4,7 @@ use Rattle.std.specs.List.{AllByRecursion}
 use Rattle.bit_values.specs.Bits.{Word}
 use Rattle.p4_meaning.specs.Choice as choice
 use Rattle.p4_meaning.specs.Choice.{IsChosen}
-use Rattle.p4_tables.specs.Shapes.{has_ternary, has_action, have_widths, takes}
+use Rattle.table_shapes.specs.Shapes.{has_ternary, has_action, have_widths, takes}
 use Rattle.p4_tables.specs.Entries.{named}
 use Rattle.p4_tables.specs.State.{Held, held_at}
 

@@ -1,6 +1,5 @@
--- What callers rest on: what tables take, entries, what tables hold, why entries are refused, what a table answers, the
+-- What callers rest on (`Shapes` of `table_shapes` before it): entries, what tables hold, why entries are refused, what a table answers, the
 -- tables of a program, and what holds of them. To be read in this order.
-pub mod Shapes
 pub mod Entries
 pub mod State
 pub mod Faults

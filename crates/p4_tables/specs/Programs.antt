@@ -8,12 +8,12 @@ use Rattle.p4_meaning.specs.Tables.{Key, Table, Chosen}
 use Rattle.p4_meaning.specs.Parts.{parts_of}
 use Rattle.p4_scopes.specs.Scopes.{core}
 use Rattle.value_shapes.specs.Values.{tops_values}
-use Rattle.p4_tables.specs.Shapes.{ActionShape, Shape}
+use Rattle.table_shapes.specs.Shapes.{ActionShape, Shape}
 use Rattle.p4_tables.specs.Entries.{Act}
 use Rattle.p4_tables.specs.State.{Held}
-use Rattle.p4_tables.specs.declared.shape.KeyKind.{KeyKind}
-use Rattle.p4_tables.specs.declared.shape.KeyKind.TheVariants.{Exact, Lpm, Ternary}
-use Rattle.p4_tables.specs.declared.shape.KeyShape.{KeyShape}
+use Rattle.table_shapes.specs.declared.shape.KeyKind.{KeyKind}
+use Rattle.table_shapes.specs.declared.shape.KeyKind.TheVariants.{Exact, Lpm, Ternary}
+use Rattle.table_shapes.specs.declared.shape.KeyShape.{KeyShape}
 use Rattle.value_shapes.specs.declared.values.ValueShape.{ValueShape}
 use Rattle.value_shapes.specs.declared.values.Holder.TheVariants.{Keys, Params}
 

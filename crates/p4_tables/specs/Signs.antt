@@ -7,9 +7,9 @@ use Rattle.std.specs.HashMap as hash
 use Rattle.bit_values.specs.Bits.{Word}
 use Rattle.p4_meaning.specs.Choice.{Match, exact, lpm, ternary}
 use Rattle.p4_tables.specs.declared.entry.Act as code_act
-use Rattle.p4_tables.specs.declared.shape.KeyKind.{KeyKind}
-use Rattle.p4_tables.specs.declared.shape.KeyKind.TheVariants.{Exact, Lpm, Ternary}
-use Rattle.p4_tables.specs.declared.shape.KeyShape.{KeyShape}
+use Rattle.table_shapes.specs.declared.shape.KeyKind.{KeyKind}
+use Rattle.table_shapes.specs.declared.shape.KeyKind.TheVariants.{Exact, Lpm, Ternary}
+use Rattle.table_shapes.specs.declared.shape.KeyShape.{KeyShape}
 use Rattle.p4_tables.specs.declared.signs.Signs.{Signs}
 
 -- ---- what is asked, as numbers

@@ -1,6 +1,6 @@
 -- What the tables of a switch hold, by their numbers. Read `Entries` before it and `Faults` after it.
 use Rattle.std.specs.Prelude.{ℕ, ◌+◌, List, [], ◌∷◌, ◌++◌, length, false, get_or, set, Option, Some, None}
-use Rattle.p4_tables.specs.Shapes.{Shape}
+use Rattle.table_shapes.specs.Shapes.{Shape}
 use Rattle.p4_tables.specs.Entries.{Entry, Act}
 
 -- a table: what it takes, its entries in the order in which they came, and what it runs where none fits

@@ -3,15 +3,12 @@ use Rattle.std.specs.Prelude.{ℕ, map}
 use Rattle.std.specs.Global.{Vec}
 use Rattle.bit_values.specs.Bits.{Word}
 use Rattle.p4_meaning.specs.Choice.{Match, exact, lpm, ternary}
-use Rattle.p4_tables.specs.Shapes.{ActionShape, Shape}
 use Rattle.p4_tables.specs.Entries.{Entry, Act}
 use Rattle.p4_tables.specs.declared.entry.Match as code_match
 use Rattle.p4_tables.specs.declared.entry.Match.TheVariants as match
 use Rattle.p4_tables.specs.declared.entry.Entry as code_entry
 use Rattle.p4_tables.specs.declared.entry.Act as code_act
 use Rattle.p4_tables.specs.declared.entry.Chosen as code_chosen
-use Rattle.p4_tables.specs.declared.shape.ActionShape as code_action
-use Rattle.p4_tables.specs.declared.shape.Shape as code_shape
 
 -- what an entry asks of a key
 abbrev pub match_of : code_match.Match → Match
@@ -33,10 +30,3 @@ given_act d = record { action = d.0; args = d.1.items }
 
 abbrev pub chosen_act : code_chosen.Chosen → Act
 chosen_act c = record { action = c.action; args = c.args.now }
-
--- an action of a table's list, and what a table takes
-abbrev pub action_shape_of : code_action.ActionShape → ActionShape
-action_shape_of a = record { number = a.number; params = a.params.items }
-
-abbrev pub shape_of : code_shape.Shape → Shape
-shape_of s = record { keys = s.keys.items; actions = map action_shape_of s.actions.items; written = s.written; fixed = s.fixed }

@@ -3,7 +3,7 @@ use Rattle.std.specs.Prelude.{ℕ, List, [], ◌∷◌, Bool, Option, Some, None
 use Rattle.std.proofs.Common.{Bor}
 use Rattle.bit_values.specs.Bits.{Word}
 use Rattle.p4_meaning.specs.Choice.{prefix_of, fits_keys}
-use Rattle.p4_tables.specs.Shapes.{has_ternary}
+use Rattle.table_shapes.specs.Shapes.{has_ternary}
 use Rattle.p4_tables.specs.Entries.{Entry, has_same, has_priority}
 use Rattle.p4_tables.specs.State.{Held}
 use Rattle.table_faults.specs.declared.entry.EntryFault.{EntryFault}

@@ -1,15 +1,16 @@
 //! What a table takes, and which entries are the same.
 
 ghost use Rattle.std.specs.Prelude.{◌≡◌, ◌-◌, ◌/◌, ◌^◌, map};
-ghost use Rattle.p4_tables.specs.Shapes.{is_for_key, are_for_keys};
+ghost use Rattle.table_shapes.specs.Shapes.{is_for_key, are_for_keys};
 ghost use Rattle.p4_tables.specs.Entries.{same_match, same_keys};
 ghost use Rattle.p4_tables.specs.Faults.{takes_entry, default_fault_in};
-ghost use Rattle.p4_tables.specs.View.{match_of, entry_of, act_of, shape_of};
+ghost use Rattle.p4_tables.specs.View.{match_of, entry_of, act_of};
+ghost use Rattle.table_shapes.specs.View.{shape_of};
 
 use crate::entry::{Act, Entry, Match};
-use crate::shape::{KeyKind, KeyShape, Shape, has_action, takes};
 use bit_values::Bits;
 use table_faults::EntryFault;
+use table_shapes::{KeyKind, KeyShape, Shape, has_action, takes};
 
 /// Whether what is asked of a key is of its kind and its width.
 fn is_for_key(k: &KeyShape, m: &Match) -> bool

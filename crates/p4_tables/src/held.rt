@@ -2,11 +2,12 @@
 
 ghost use Rattle.std.specs.Prelude.{◌≡◌, ◌<◌, ◌∷◌, ◌++◌, [], map, length, true, IfOk, IfSome, OnOk, OnErr};
 ghost use Rattle.std.specs.Option.{option_map};
-ghost use Rattle.p4_tables.specs.Shapes.{has_ternary};
+ghost use Rattle.table_shapes.specs.Shapes.{has_ternary};
 ghost use Rattle.p4_tables.specs.State.{inserted, with_default, with_listed, replaced};
 ghost use Rattle.p4_tables.specs.Faults.{takes_entry, fault_in};
 ghost use Rattle.p4_tables.specs.Kept.{IsSound};
-ghost use Rattle.p4_tables.specs.View.{entry_of, act_of, given_act, chosen_act, shape_of};
+ghost use Rattle.p4_tables.specs.View.{entry_of, act_of, given_act, chosen_act};
+ghost use Rattle.table_shapes.specs.View.{shape_of};
 ghost use Rattle.p4_tables.specs.Entries.{act_in};
 ghost use Rattle.p4_tables.specs.Walk.{found_in, clash_in};
 
@@ -14,12 +15,12 @@ use crate::choice::find;
 use crate::compare::{same_keys, takes_entry};
 use crate::entry::{Act, Chosen, Entry, copy_entries, of_act, of_entry};
 use crate::index::{Index, first_fit, index_of, longest_act, priority_place};
-use crate::shape::{Shape, copy_shape, has_action};
 use crate::signs::sign_of;
 use bit_values::Bits;
 use std::alloc::{AllocError, Global};
 use std::marker::Model;
 use table_faults::EntryFault;
+use table_shapes::{Shape, copy_shape, has_action};
 
 /// A table: what it takes, its entries and where they stand, and what it runs where none fits.
 #[derive(Debug, Drop)]
@@ -36,7 +37,8 @@ impl Model for Held {
     ghost Value = { spec.Held };
 
     ghost use Rattle.std.specs.Prelude.{map};
-    ghost use Rattle.p4_tables.specs.View.{shape_of, entry_of, act_of};
+    ghost use Rattle.p4_tables.specs.View.{entry_of, act_of};
+    ghost use Rattle.table_shapes.specs.View.{shape_of};
     ghost use Rattle.p4_tables.specs.Index.{IsIndexed};
 
     ghost view = { λ h. record { shape = shape_of h.shape; listed = map entry_of h.listed.items; default = act_of h.default } };

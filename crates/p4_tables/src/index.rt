@@ -7,20 +7,20 @@ ghost use Rattle.std.specs.BTreeMap.{IsOrdered};
 ghost use Rattle.std.specs.Ordering.{nat_cmp};
 ghost use Rattle.p4_tables.specs.Signs.{wanted_of, wanted, packed, sign_act};
 ghost use Rattle.p4_tables.specs.Index.{priority_place, IsIndex, longest, first_told, first_fit};
-ghost use Rattle.p4_tables.specs.Shapes.{have_widths};
+ghost use Rattle.table_shapes.specs.Shapes.{have_widths};
 ghost use Rattle.p4_tables.specs.View.{entry_of};
 ghost use Rattle.p4_tables.specs.Walk.{lent};
 
 use crate::choice::fits_keys;
 use crate::compare::first_bits;
 use crate::entry::{Act, Entry};
-use crate::shape::{KeyKind, KeyShape};
 use crate::signs::{Signs, key_code, sign_of};
 use arrayvec::ArrayVec;
 use bit_values::Bits;
 use std::alloc::{AllocError, Global};
 use std::cmp::Reverse;
 use std::collections::BTreeMap;
+use table_shapes::{KeyKind, KeyShape};
 
 /// What is looked for, where that is few numbers. It takes no memory.
 type Sign = ArrayVec<u128, 16>;
@@ -201,10 +201,10 @@ fn act_for<'a>(
         ≡ sign_act kinds.now signs.now (wanted kinds.now length keys.now)) }
 {
     match wanted_code(kinds, length, keys) {
-        Some(code) => Some(signs.of_code(code)),
+        Some(code) => Some(signs.numbers.get(&code)),
         None => {
             let sign = wanted(kinds, length, keys)?;
-            Some(signs.of_list(sign.as_slice()))
+            Some(signs.lists.get(sign.as_slice()))
         }
     }
 }

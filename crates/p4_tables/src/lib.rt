@@ -9,16 +9,12 @@
 //! `choose` takes no memory. What it answers is said by the relation `IsChosen` of `p4_meaning`, and
 //! no two entries that a table holds have that relation to the same keys (`choices_are_unique`).
 //!
-//! `specs/Shapes`, `Entries`, `State`, `Faults`, `Answers`, `Programs`, `Named` and `Laws` are read in
-//! this order.
-//!
 //! Follows: P4_16 Language Specification and v1model, this project's subset.
 //!
-//! Speed: an index tells what the entry of a table runs that asks for given keys, or where the one of a
-//! priority stands. So an entry is compared with one other at most. A choice of exact keys takes one
-//! look, one of prefixes a look for each length from the longest on, and one under masks goes from the
-//! highest priority on. Where keys do not fit into one number of 128 bits and are more than 16, or have
-//! other widths than the table's, a choice is one walk over all entries.
+//! Speed: an index tells what runs for given keys, and where the entry of a priority stands. A choice of
+//! exact keys takes one look, one of prefixes a look for each length from the longest on, and one under
+//! masks goes from the highest priority on. Where keys do not fit into one number of 128 bits and are
+//! more than 16, or have other widths than the table's, a choice is one walk over all entries.
 #![tactic(auto)]
 
 mod choice;
@@ -26,12 +22,11 @@ mod compare;
 mod entry;
 mod held;
 mod index;
-mod shape;
 mod signs;
 mod start;
 mod state;
 
 pub use entry::{Act, Chosen, Entry, Match};
-pub use shape::{ActionShape, KeyKind, KeyShape, Shape};
 pub use state::{TableState, actions_are_listed, choices_are_unique};
+pub use table_shapes::{ActionShape, KeyKind, KeyShape, Shape};
 pub use value_shapes::ValueShape;

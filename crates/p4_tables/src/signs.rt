@@ -9,9 +9,9 @@ ghost use Rattle.p4_tables.specs.Walk.{lent};
 
 use crate::compare::first_bits;
 use crate::entry::{Act, Match};
-use crate::shape::{KeyKind, KeyShape};
 use std::alloc::{AllocError, Global};
 use std::collections::HashMap;
+use table_shapes::{KeyKind, KeyShape};
 
 /// What the first entry runs that asks for a sign. Signs that fit into one number are kept by that, so
 /// that a look touches little memory.
@@ -173,22 +173,8 @@ impl Signs {
         ensures { lent result ≡ sign_act kinds.now self.now sign.now }
     {
         match packed(kinds, sign) {
-            Some(code) => self.of_code(code),
-            None => self.of_list(sign),
+            Some(code) => self.numbers.get(&code),
+            None => self.lists.get(sign),
         }
-    }
-
-    /// What the first entry runs whose sign is this number.
-    pub fn of_code(&self, code: u128) -> Option<&Act>
-        ensures { lent result ≡ number_act self.now.numbers code }
-    {
-        self.numbers.get(&code)
-    }
-
-    /// What the first entry runs whose sign is no number, but these.
-    pub fn of_list(&self, sign: &[u128]) -> Option<&Act>
-        ensures { lent result ≡ list_act self.now.lists sign.now }
-    {
-        self.lists.get(sign)
     }
 }

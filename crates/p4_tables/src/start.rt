@@ -4,16 +4,17 @@ ghost use Rattle.std.specs.Prelude.{◌≡◌, get_or, map, IfOk};
 ghost use Rattle.p4_tree.specs.View.{program_of};
 ghost use Rattle.p4_parts.specs.PartsIn.{action_in, chosen_in, key_in, table_in};
 ghost use Rattle.p4_tables.specs.Programs.{kind_of, no_value, values_at, key_shapes, action_place, action_shape, numbered, table_shape, table_before, tables_before, state_before};
-ghost use Rattle.p4_tables.specs.View.{action_shape_of, shape_of, act_of};
+ghost use Rattle.p4_tables.specs.View.{act_of};
+ghost use Rattle.table_shapes.specs.View.{action_shape_of, shape_of};
 ghost use Rattle.value_shapes.specs.Values.{lists_in};
 
 use crate::entry::{Act, copy_words};
 use crate::held::Held;
-use crate::shape::{ActionShape, KeyKind, KeyShape, Shape, copy_values};
 use lex_text::Name;
 use p4_parts::{Action, Chosen, Key, Table, parts_of};
 use p4_tree::Program;
 use std::alloc::{AllocError, Global};
+use table_shapes::{ActionShape, KeyKind, KeyShape, Shape, copy_values};
 use value_shapes::{Holder, ValueShape, values_of};
 
 /// How a key is matched, by the name of that.

@@ -9,18 +9,19 @@ ghost use Rattle.p4_tables.specs.Faults.{entry_fault, default_fault, IsReplaceab
 ghost use Rattle.p4_tables.specs.Answers.{IsHit, IsMiss};
 ghost use Rattle.p4_tables.specs.Programs.{shapes, state_before};
 ghost use Rattle.p4_tables.specs.Laws.{ChoicesAreUnique, RunsListed};
-ghost use Rattle.p4_tables.specs.View.{entry_of, act_of, given_act, chosen_act, shape_of};
+ghost use Rattle.p4_tables.specs.View.{entry_of, act_of, given_act, chosen_act};
+ghost use Rattle.table_shapes.specs.View.{shape_of};
 
 use crate::compare::default_fault_in;
 use crate::entry::{Act, Chosen, Entry};
 use crate::held::{Held, copy_tables, put_all, put_default, put_entry};
-use crate::shape::Shape;
 use crate::start::state_before;
 use bit_values::Bits;
 use p4_types::TypedProgram;
 use std::alloc::{AllocError, Global};
 use std::marker::Model;
 use table_faults::EntryFault;
+use table_shapes::Shape;
 
 /// All tables of a switch. Contracts see what each of them takes and holds, by its number.
 #[derive(Debug, Drop)]

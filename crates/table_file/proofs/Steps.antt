@@ -8,7 +8,7 @@ use Rattle.table_faults.specs.declared.entry.EntryFault.{EntryFault}
 use Rattle.table_faults.specs.declared.table.TableFault.{TableFault}
 use Rattle.table_faults.specs.declared.table.TableFault.TheVariants as fault
 use Rattle.p4_tree.specs.Tree.{Program}
-use Rattle.p4_tables.specs.Shapes.{Shape}
+use Rattle.table_shapes.specs.Shapes.{Shape}
 use Rattle.p4_tables.specs.State.{Held}
 use Rattle.p4_tables.specs.Programs.{shapes, state_before}
 use Rattle.table_file.specs.Tables.{refused_by}

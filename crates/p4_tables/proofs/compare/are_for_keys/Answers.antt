@@ -1,6 +1,6 @@
 use Rattle.std.proofs.Common.{◌≡◌, [], map, drop, sym, ap, ◌∙◌, arith}
 use Rattle.std.proofs.Math.ListN.{drop_of_length-le}
-use Rattle.p4_tables.specs.Shapes.{are_for_keys}
+use Rattle.table_shapes.specs.Shapes.{are_for_keys}
 use Rattle.p4_tables.specs.View.{match_of}
 use Rattle.p4_tables.proofs.Keys.{none_asked, none_wanted}
 use Rattle.p4_tables.proofs.compare.are_for_keys.Goals as goal

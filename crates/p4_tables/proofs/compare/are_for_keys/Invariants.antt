@@ -1,5 +1,5 @@
 use Rattle.std.proofs.Common.{◌≡◌, map, drop}
-use Rattle.p4_tables.specs.Shapes.{are_for_keys}
+use Rattle.table_shapes.specs.Shapes.{are_for_keys}
 use Rattle.p4_tables.specs.View.{match_of}
 use Rattle.p4_tables.proofs.compare.are_for_keys.Given as goal
 

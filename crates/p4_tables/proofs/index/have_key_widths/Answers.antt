@@ -1,7 +1,8 @@
 use Rattle.std.proofs.Common.{◌≡◌, [], drop, map, sym, ap, ◌∙◌, arith}
 use Rattle.std.proofs.Math.ListN.{drop_of_length-le}
-use Rattle.p4_tables.specs.Shapes.{have_widths}
-use Rattle.p4_tables.proofs.Keys.{no_kinds, no_values}
+use Rattle.table_shapes.specs.Shapes.{have_widths}
+use Rattle.table_shapes.proofs.Lists.{no_values}
+use Rattle.p4_tables.proofs.Keys.{no_kinds}
 use Rattle.p4_tables.proofs.index.have_key_widths.Goals as goal
 
 pub returns-then-i-keys : goal.returns-then-i-keys

@@ -1,5 +1,5 @@
 use Rattle.std.proofs.Common.{◌≡◌, map, drop}
-use Rattle.p4_tables.specs.Shapes.{have_widths}
+use Rattle.table_shapes.specs.Shapes.{have_widths}
 use Rattle.p4_tables.proofs.index.have_key_widths.Given as goal
 
 abbrev pub invariant-loop-i : goal.invariant-loop-i

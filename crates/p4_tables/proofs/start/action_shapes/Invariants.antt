@@ -1,7 +1,7 @@
 use Rattle.std.proofs.Common.{◌≡◌, map, take}
 use Rattle.p4_parts.specs.PartsIn.{action_in}
 use Rattle.p4_tables.specs.Programs.{action_shape}
-use Rattle.p4_tables.specs.View.{action_shape_of}
+use Rattle.table_shapes.specs.View.{action_shape_of}
 use Rattle.value_shapes.specs.Values.{lists_in}
 use Rattle.p4_tables.proofs.start.action_shapes.Given as goal
 

@@ -1,7 +1,7 @@
 use Rattle.std.proofs.Common.{◌≡◌, ◌<◌, ℕ, Bool, Some, None, true, false, map, get_or, sym, ap, ap₂, subst, ◌∙◌}
 use Rattle.std.specs.Prelude.{if◌then◌else◌}
 use Rattle.std.proofs.lemmas.List.{get_or-map}
-use Rattle.p4_tables.specs.Shapes.{has_ternary}
+use Rattle.table_shapes.specs.Shapes.{has_ternary}
 use Rattle.p4_tables.specs.Entries.{Entry, same_keys, has_same}
 use Rattle.p4_tables.specs.State.{Held}
 use Rattle.p4_tables.specs.Faults.{takes_entry}
@@ -9,7 +9,8 @@ use Rattle.p4_tables.specs.Signs.{signs_of, sign_act}
 use Rattle.p4_tables.specs.Index.{IsIndex, asks, place_in, has_rank}
 use Rattle.p4_tables.specs.Kept.{IsSound}
 use Rattle.p4_tables.specs.Walk.{clash_in}
-use Rattle.p4_tables.specs.View.{match_of, entry_of, shape_of, act_of}
+use Rattle.p4_tables.specs.View.{match_of, entry_of, act_of}
+use Rattle.table_shapes.specs.View.{shape_of}
 use Rattle.table_faults.specs.declared.entry.EntryFault.TheVariants.{SameEntry, SamePriority}
 use Rattle.p4_tables.proofs.Listed.{no_entry, many_below, long}
 use Rattle.p4_tables.proofs.Noted.{stands, lent_some, seen_some, some_stands}

@@ -1,5 +1,5 @@
 use Rattle.std.proofs.Common.{◌-◌, ℕ, [], ◌∷◌, ◌++◌, map, take, sym, ap, subst, ◌∙◌}
-use Rattle.p4_tables.specs.Shapes.{has_ternary}
+use Rattle.table_shapes.specs.Shapes.{has_ternary}
 use Rattle.p4_tables.specs.Index.{IsIndex}
 use Rattle.p4_tables.specs.View.{entry_of}
 use Rattle.p4_tables.proofs.Listed.{one_more, all_but_last, many_of, long}

@@ -1,6 +1,6 @@
 use Rattle.std.proofs.Common.{◌≡◌, None, sym, ap, subst, ◌∙◌}
 use Rattle.std.specs.Option.{option_map}
-use Rattle.p4_tables.specs.Shapes.{has_ternary}
+use Rattle.table_shapes.specs.Shapes.{has_ternary}
 use Rattle.p4_tables.specs.Entries.{Act}
 use Rattle.p4_tables.specs.State.{held_at}
 use Rattle.p4_tables.specs.Answers.{IsHit, IsMiss}

@@ -2,9 +2,9 @@
 use Rattle.std.specs.Prelude.{ℕ, List, [], ◌∷◌, Bool, true, false, ◌&&◌, ◌||◌, nat_eq, nat_le, if◌then◌else◌, Option, Some, None}
 use Rattle.bit_values.specs.Bits.{Word}
 use Rattle.p4_meaning.specs.Choice.{Match, exact, lpm, ternary}
-use Rattle.p4_tables.specs.declared.shape.KeyKind.{KeyKind}
-use Rattle.p4_tables.specs.declared.shape.KeyKind.TheVariants.{Exact, Lpm, Ternary}
-use Rattle.p4_tables.specs.declared.shape.KeyShape.{KeyShape}
+use Rattle.table_shapes.specs.declared.shape.KeyKind.{KeyKind}
+use Rattle.table_shapes.specs.declared.shape.KeyKind.TheVariants.{Exact, Lpm, Ternary}
+use Rattle.table_shapes.specs.declared.shape.KeyShape.{KeyShape}
 use Rattle.value_shapes.specs.declared.values.ValueShape.{ValueShape}
 
 -- an action of a table's list: its number, and what its parameters hold

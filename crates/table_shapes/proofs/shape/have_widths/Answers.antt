@@ -1,8 +1,8 @@
 use Rattle.std.proofs.Common.{◌≡◌, [], drop, sym, ap, ◌∙◌, arith}
 use Rattle.std.proofs.Math.ListN.{drop_of_length-le}
-use Rattle.p4_tables.specs.Shapes.{have_widths}
-use Rattle.p4_tables.proofs.Keys.{no_words, no_values}
-use Rattle.p4_tables.proofs.shape.have_widths.Goals as goal
+use Rattle.table_shapes.specs.Shapes.{have_widths}
+use Rattle.table_shapes.proofs.Lists.{no_words, no_values}
+use Rattle.table_shapes.proofs.shape.have_widths.Goals as goal
 
 pub returns-then-i-words : goal.returns-then-i-words
 returns-then-i-words c =

@@ -1,5 +1,5 @@
 use Rattle.std.proofs.Common.{◌≡◌, take}
-use Rattle.p4_tables.proofs.shape.copy_keys.Given as goal
+use Rattle.table_shapes.proofs.shape.copy_keys.Given as goal
 
 abbrev pub invariant-loop-k : goal.invariant-loop-k
 invariant-loop-k l = l.copies.items ≡ take l.k-index l.list

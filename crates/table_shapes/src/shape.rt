@@ -1,8 +1,8 @@
 //! What tables take.
 
 ghost use Rattle.std.specs.Prelude.{◌≡◌, ◌||◌, map, option_map, IfOk};
-ghost use Rattle.p4_tables.specs.Shapes.{has_ternary, has_action, params_in, takes, have_widths};
-ghost use Rattle.p4_tables.specs.View.{action_shape_of, shape_of};
+ghost use Rattle.table_shapes.specs.Shapes.{has_ternary, has_action, params_in, takes, have_widths};
+ghost use Rattle.table_shapes.specs.View.{action_shape_of, shape_of};
 
 use bit_values::Bits;
 use std::alloc::{AllocError, Global};
@@ -71,7 +71,7 @@ fn has_ternary(keys: &[KeyShape]) -> bool
 }
 
 /// Whether the action of a number is one of these.
-pub(crate) fn has_action(actions: &[ActionShape], number: u32) -> bool
+pub fn has_action(actions: &[ActionShape], number: u32) -> bool
     ensures { result ≡ has_action (map action_shape_of actions.now) number }
 {
     for a in actions {
@@ -114,7 +114,7 @@ fn have_widths(values: &[ValueShape], words: &[Bits]) -> bool
 }
 
 /// Whether the action of a number is one of these, and takes these words.
-pub(crate) fn takes(actions: &[ActionShape], number: u32, args: &[Bits]) -> bool
+pub fn takes(actions: &[ActionShape], number: u32, args: &[Bits]) -> bool
     ensures { result ≡ takes (map action_shape_of actions.now) number args.now }
 {
     for a in actions {
@@ -125,7 +125,7 @@ pub(crate) fn takes(actions: &[ActionShape], number: u32, args: &[Bits]) -> bool
     false
 }
 
-pub(crate) fn copy_values(alloc: Global, list: &[ValueShape]) -> Result<Vec<ValueShape>, AllocError>
+pub fn copy_values(alloc: Global, list: &[ValueShape]) -> Result<Vec<ValueShape>, AllocError>
     ensures { IfOk result (λ v. v.items ≡ list.now) }
 {
     let mut copies = Vec::new(alloc);
@@ -166,7 +166,7 @@ fn copy_actions(alloc: Global, list: &[ActionShape]) -> Result<Vec<ActionShape>,
 }
 
 /// An equal shape.
-pub(crate) fn copy_shape(alloc: Global, s: &Shape) -> Result<Shape, AllocError>
+pub fn copy_shape(alloc: Global, s: &Shape) -> Result<Shape, AllocError>
     ensures { IfOk result (λ t. shape_of t ≡ shape_of s.now) }
 {
     let keys = copy_keys(alloc, &s.keys)?;
