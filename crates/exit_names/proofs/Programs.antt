@@ -40,6 +40,7 @@ use Rattle.exit_statements.specs.WrittenActions.{returned_in}
 use Rattle.exit_programs.specs.Programs.{flags}
 use Rattle.exit_programs.specs.Names.{is_given, is_plain, has_point, HasGivenNames, HasPlainNames}
 use Rattle.exit_programs.specs.Calls.{FindStmts}
+use Rattle.exit_programs.proofs.MainParts.{have_parts}
 use Rattle.exit_programs.specs.Owned.{all_actions, all_tables, actions_own, tables_own, OwnsWhatItUses}
 use Rattle.p4_meaning.specs.Statements.{Act, runs, act_of}
 use Rattle.p4_statement_rules.specs.Statements.{block_tests}
@@ -188,27 +189,11 @@ record IsPart (at : ℕ) (R : Structs) (ts : List Top) (main : List (List ℕ)) 
   part : part_in main x ≡ h
   params : IsFine (control_params at R ws (control_named ts x))
 
-turned : (x y : List ℕ) → same_text x y ≡ false → same_text y x ≡ false
-turned x y h = other_text y x (λ e. (let c : true ≡ false = sym (text_same x y (sym e)) ∙ h in absurd (cc)))
-
-not_twice : (a b c : Bool) → (a && b && not c) ≡ true → c ≡ false
-not_twice true true false h = refl
-not_twice _ _ _ h = broken (sym h)
-
 parts_there : (at : ℕ) (R : Structs) (ts : List Top) (main : List (List ℕ)) → names_parts ts main ≡ true → IsFine (parts_params at R ts main)
     → IsPart at R ts main place.Apply apply_wants (named_in main 2) × IsPart at R ts main place.Apply apply_wants (named_in main 3) × IsPart at R ts main place.Compute checksum_wants (named_in main 4)
 parts_there at R ts (d ∷ v ∷ i ∷ e ∷ k ∷ m ∷ []) h f =
-    (let apart = not_twice (is_some (parser_named ts d)) (has_controls ts (v ∷ i ∷ e ∷ k ∷ m ∷ [])) (has_twice (v ∷ i ∷ e ∷ k ∷ m ∷ [])) h in
-    let vs = neither (cycles.is_among (i ∷ e ∷ k ∷ m ∷ []) v) (has_twice (i ∷ e ∷ k ∷ m ∷ [])) apart in
-    let is = neither (cycles.is_among (e ∷ k ∷ m ∷ []) i) (has_twice (e ∷ k ∷ m ∷ [])) vs.1 in
-    let es = neither (cycles.is_among (k ∷ m ∷ []) e) (has_twice (k ∷ m ∷ [])) is.1 in
-    let v_i = neither (same_text i v) (cycles.is_among (e ∷ k ∷ m ∷ []) v) vs.0 in
-    let v_e = neither (same_text e v) (cycles.is_among (k ∷ m ∷ []) v) v_i.1 in let v_k = neither (same_text k v) (cycles.is_among (m ∷ []) v) v_e.1 in
-    let i_e = neither (same_text e i) (cycles.is_among (k ∷ m ∷ []) i) is.0 in let i_k = neither (same_text k i) (cycles.is_among (m ∷ []) i) i_e.1 in
-    let e_k = neither (same_text k e) (cycles.is_among (m ∷ []) e) es.0 in
-    let v_not_i = turned i v v_i.0 in let v_not_e = turned e v v_e.0 in let v_not_k = turned k v v_k.0 in
-    let i_not_e = turned e i i_e.0 in let i_not_k = turned k i i_k.0 in let e_not_k = turned k e e_k.0 in
-    (record { part = (let is_i = text_same i i refl in cc); params = f.1.1.0 }, record { part = (let is_e = text_same e e refl in cc); params = f.1.1.1.0 }, record { part = (let is_k = text_same k k refl in cc); params = f.1.1.1.1.0 }))
+    let main = have_parts ts (d ∷ v ∷ i ∷ e ∷ k ∷ m ∷ []) h in
+    (record { part = main.ingress; params = f.1.1.0 }, record { part = main.egress; params = f.1.1.1.0 }, record { part = main.compute; params = f.1.1.1.1.0 })
 parts_there at R ts _ h f = broken (sym h)
 
 -- ---- the parts

@@ -7,3 +7,4 @@ pub mod Left
 pub mod Stand
 pub mod Agreed
 pub mod Rows
+pub mod MainParts

@@ -13,7 +13,7 @@ use crate::leaves::either;
 use crate::place::Place;
 use crate::statements::stmts_without;
 use lex_text::Name;
-use p4_tree::{Action, Control, Local, PTy, Param, Program, Stmt, Top};
+use p4_tree::{Action, Control, Local, Program, Stmt, Top, copy_fields, copy_params};
 use p4_values::copy_path;
 use std::alloc::{AllocError, Global};
 
@@ -28,34 +28,6 @@ fn body_without(alloc: Global, place: &Place, body: &[Stmt]) -> Result<Vec<Stmt>
     } else {
         Ok(body.0)
     }
-}
-
-fn copy_fields(alloc: Global, list: &[(PTy, Name)]) -> Result<Vec<(PTy, Name)>, AllocError>
-    ensures { IfOk result (λ v. v.items ≡ list.now) }
-{
-    let mut copies = Vec::new(alloc);
-    for field in list {
-        copies.push(copy_field(alloc, field)?)?;
-    }
-    Ok(copies)
-}
-
-fn copy_field(alloc: Global, field: &(PTy, Name)) -> Result<(PTy, Name), AllocError>
-    ensures { IfOk result (λ f. f ≡ field.now) }
-{
-    let ty = field.0.copy(alloc)?;
-    let name = field.1.copy(alloc)?;
-    Ok((ty, name))
-}
-
-fn copy_params(alloc: Global, list: &[Param]) -> Result<Vec<Param>, AllocError>
-    ensures { IfOk result (λ v. v.items ≡ list.now) }
-{
-    let mut copies = Vec::new(alloc);
-    for p in list {
-        copies.push(p.copy(alloc)?)?;
-    }
-    Ok(copies)
 }
 
 /// An action.

@@ -4,6 +4,7 @@ use Rattle.std.specs.Prelude.{◌≡◌, ℕ, List, [], ◌∷◌, Bool, true, f
 use Rattle.std.specs.List.{AllByRecursion}
 use Rattle.lex_text.specs.Names.{same_text, same_path}
 use Rattle.p4_tree.specs.Tree.{Expr, num, flag, path, valid, applied, error_name, negation, inversion, opposite, binary, conditional, slice, cast, Stmt, Stmts, MaybeStmt, nothing, block, var, assign, choice, return_, exit_, call, done, next, without, otherwise}
+use Rattle.p4_tree.specs.Reads.{EachRead}
 use Rattle.p4_meaning.specs.Statements.{Act, makes, drops, reads, writes, tells, sums, runs, applies, idle, act_of}
 use Rattle.exit_statements.specs.Without.{Flags}
 
@@ -27,20 +28,9 @@ abbrev pub shows : Hides → List ℕ → Hides
 shows hides x q = if same_path (x ∷ []) q then false else hides q
 
 module _ (hides : Hides) where
+  -- an expression reads no path that is hidden
   abbrev pub IsFreeExpr : Expr → Type 0
-  IsFreeExpr (num p l) = Unit {0}
-  IsFreeExpr (flag p b) = Unit {0}
-  IsFreeExpr (path p names) = hides names ≡ false
-  IsFreeExpr (valid p header) = Unit {0}
-  IsFreeExpr (applied p table hit) = Unit {0}
-  IsFreeExpr (error_name p x) = Unit {0}
-  IsFreeExpr (negation p a) = IsFreeExpr a
-  IsFreeExpr (inversion p a) = IsFreeExpr a
-  IsFreeExpr (opposite p a) = IsFreeExpr a
-  IsFreeExpr (binary p op a b) = IsFreeExpr a × IsFreeExpr b
-  IsFreeExpr (conditional p t a b) = IsFreeExpr t × IsFreeExpr a × IsFreeExpr b
-  IsFreeExpr (slice p a high low) = IsFreeExpr a
-  IsFreeExpr (cast p ty a) = IsFreeExpr a
+  IsFreeExpr = EachRead (λ q. hides q ≡ false) (λ q. Unit {0})
 
   abbrev pub IsFreeStart : Option Expr → Type 0
   IsFreeStart None = Unit {0}

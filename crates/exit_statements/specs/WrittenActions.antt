@@ -5,6 +5,7 @@ use Rattle.std.specs.List.{AllByRecursion}
 use Rattle.lex_text.specs.Names.{same_text}
 use Rattle.p4_tree.specs.Tree as tree
 use Rattle.p4_tree.specs.Tree.{Expr, num, flag, path, valid, applied, error_name, negation, inversion, opposite, binary, conditional, slice, cast, Arg, one, many, Stmt, Stmts, MaybeStmt, nothing, block, var, assign, choice, return_, exit_, call, done, next, without, otherwise}
+use Rattle.p4_tree.specs.Reads.{EachRead}
 use Rattle.p4_meaning.specs.Scope.{Scope, is_among, full, full_name, root_of, constant_named, names_in}
 use Rattle.p4_meaning.specs.Actions.{params_in, action_under}
 use Rattle.exit_statements.specs.Without.{Flags}
@@ -19,19 +20,7 @@ module _ (hides : List ℕ → Bool) where
   AvoidsPath (x ∷ rest) = hides x ≡ false
 
   abbrev pub AvoidsExpr : Expr → Type 0
-  AvoidsExpr (num p n) = Unit {0}
-  AvoidsExpr (flag p b) = Unit {0}
-  AvoidsExpr (path p names) = AvoidsPath names
-  AvoidsExpr (valid p header) = AvoidsPath header
-  AvoidsExpr (applied p table hit) = Unit {0}
-  AvoidsExpr (error_name p x) = Unit {0}
-  AvoidsExpr (negation p a) = AvoidsExpr a
-  AvoidsExpr (inversion p a) = AvoidsExpr a
-  AvoidsExpr (opposite p a) = AvoidsExpr a
-  AvoidsExpr (binary p op a b) = AvoidsExpr a × AvoidsExpr b
-  AvoidsExpr (conditional p t a b) = AvoidsExpr t × (AvoidsExpr a × AvoidsExpr b)
-  AvoidsExpr (slice p a high low) = AvoidsExpr a
-  AvoidsExpr (cast p ty a) = AvoidsExpr a
+  AvoidsExpr = EachRead AvoidsPath AvoidsPath
 
   abbrev pub AvoidsIf : Option Expr → Type 0
   AvoidsIf None = Unit {0}

@@ -1,11 +1,11 @@
 -- What a network file says, or its fault: all faults of one kind come before those of the next.
 -- Read `Named` before it, and `Wiring` after it.
-use Rattle.std.specs.Prelude.{ℕ, ◌==◌, ◌&&◌, ◌||◌, List, [], ◌∷◌, ◌++◌, length, Bool, nat_lt, if◌then◌else◌, position, Option, Result, Ok, Err, option_map, option_and_then, ⊤}
+use Rattle.std.specs.Prelude.{ℕ, ◌-◌, ◌==◌, ◌&&◌, ◌||◌, List, [], ◌∷◌, ◌++◌, length, Bool, nat_lt, if◌then◌else◌, position, Option, Result, Ok, Err, option_map, option_and_then, ⊤}
 use Rattle.std.specs.Option.{option_map_or}
 use Rattle.std.specs.List.{list_any}
 use Rattle.std.specs.Str.{bytes_eq}
 use Rattle.serde_json.specs.Data.{Data}
-use Rattle.network_run.specs.Network.{Link}
+use Rattle.network_run.specs.Network.{Link, port_count}
 use Rattle.json_parts.specs.Answers.{◌>>=◌, with_fault}
 use Rattle.json_parts.specs.Turns.{in_turn, all_of}
 use Rattle.network_file.specs.Shape.{fault_of}
@@ -84,8 +84,9 @@ with_ports ports number l =
 abbrev pub free : List Link → Result (List Port) NetworkFault
 free links = in_turn with_ports [] 0 links
 
+-- the greatest number of a port
 abbrev pub last_port : ℕ
-last_port = 510
+last_port = port_count - 1
 
 abbrev pub is_high : Link → Bool
 is_high l = nat_lt last_port l.one_port || nat_lt last_port l.other_port

@@ -4,6 +4,7 @@
 use Rattle.std.specs.Prelude.{◌≡◌, codes, ℕ, List, [], ◌∷◌, Bool, true, false, Option, Some, None, nat_eq}
 use Rattle.std.specs.List.{AllByRecursion}
 use Rattle.p4_tree.specs.Tree.{Expr, num, flag, path, valid, applied, error_name, negation, inversion, opposite, binary, conditional, slice, cast, Arg, one, Stmt, Stmts, MaybeStmt, nothing, block, var, assign, choice, return_, exit_, call, done, next, without, otherwise, Keyset, any, only, masked, Case, Transition, nowhere, to, select, ParserState}
+use Rattle.p4_tree.specs.Reads.{EachRead}
 use Rattle.p4_meaning.specs.Statements.{Act, makes, drops, reads, writes, tells, sums, runs, applies, idle, act_of, application}
 use Rattle.p4_meaning.specs.Actions.{Action, action_named}
 use Rattle.p4_meaning.specs.Tables.{Table}
@@ -13,19 +14,7 @@ use Rattle.own_code.specs.Regions.{is_mine, is_free, is_writable, is_own_header}
 
 -- an expression reads own paths
 abbrev pub IsOwnExpr : Expr → Type 0
-IsOwnExpr (num p n) = Unit {0}
-IsOwnExpr (flag p b) = Unit {0}
-IsOwnExpr (path p names) = is_free names ≡ true
-IsOwnExpr (valid p header) = is_free header ≡ true
-IsOwnExpr (applied p t b) = Unit {0}
-IsOwnExpr (error_name p x) = Unit {0}
-IsOwnExpr (negation p a) = IsOwnExpr a
-IsOwnExpr (inversion p a) = IsOwnExpr a
-IsOwnExpr (opposite p a) = IsOwnExpr a
-IsOwnExpr (binary p op a b) = IsOwnExpr a × IsOwnExpr b
-IsOwnExpr (conditional p t a b) = IsOwnExpr t × IsOwnExpr a × IsOwnExpr b
-IsOwnExpr (slice p a high low) = IsOwnExpr a
-IsOwnExpr (cast p ty a) = IsOwnExpr a
+IsOwnExpr = EachRead (λ q. is_free q ≡ true) (λ q. is_free q ≡ true)
 
 abbrev pub IsOwnStart : Option Expr → Type 0
 IsOwnStart None = Unit {0}

@@ -8,19 +8,15 @@ use Rattle.p4_meaning.specs.Under.{no_scope}
 use Rattle.p4_meaning.specs.Actions.{actions_of}
 use Rattle.p4_meaning.specs.Parts.{field_of, header_of, types_of, whole, parser_named, struct_fields, body_of, body_in, parser_type, parser_in, named_in, emits_of, parts_of}
 use Rattle.p4_scopes.specs.Scopes.{core}
-use Rattle.p4_parser_states.specs.Cycles as cycles
 use Rattle.p4_statement_rules.specs.declared.rule.Part.TheVariants as place
-use Rattle.p4_declaration_rules.specs.Declarations.{has_twice}
 use Rattle.p4_declaration_rules.specs.Controls.{part_in}
-use Rattle.p4_rules.specs.Mains.{has_controls, names_parts}
 use Rattle.p4_rules.specs.ProgramRules.{IsWellTyped}
 use Rattle.p4_rule_laws.specs.Old.{OldFields}
 use Rattle.p4_rule_laws.specs.OldPrograms.{OldTops}
-use Rattle.p4_typing_laws.proofs.Fine.{neither, typed_fine}
-use Rattle.p4_typing_laws.proofs.CallCounts.{text_same}
-use Rattle.p4_typing_laws.proofs.FullNames.{other_text}
+use Rattle.p4_typing_laws.proofs.Fine.{typed_fine}
 use Rattle.p4_typing_laws.proofs.FineUses.{parts_named}
 use Rattle.exit_programs.specs.Laws.{program_leaves}
+use Rattle.exit_programs.proofs.MainParts.{HaveParts, have_parts}
 use Rattle.own_code.specs.Regions.{is_mine, is_own_header}
 use Rattle.own_code.specs.Forwarding.{AreOwnStmts, AreVars, IsOwnBody, IsForwarding}
 use Rattle.own_programs.specs.OwnPrograms.{is_own, HasOwnNames, program_tells_reports}
@@ -51,45 +47,6 @@ headers_own ts (f ∷ fs) o = (o.1, headers_own ts fs o.2)
 metadata_own : (ts : List Top) (fs : List (PTy × List ℕ)) → OldFields is_own fs → AllByRecursion (λ m. is_mine m.name ≡ false) (map (field_of (types_of ts)) fs)
 metadata_own ts [] o = tt
 metadata_own ts (f ∷ fs) o = (own_not f.1 o.1, metadata_own ts fs o.2)
-
--- ---- what `main` names
-
-record HaveParts (main : List (List ℕ)) : Type 0 where
-  verify : part_in main (named_in main 1) ≡ place.Verify
-  ingress : part_in main (named_in main 2) ≡ place.Apply
-  egress : part_in main (named_in main 3) ≡ place.Apply
-  compute : part_in main (named_in main 4) ≡ place.Compute
-  deparser : part_in main (named_in main 5) ≡ place.Deparser
-
-turned : (x y : List ℕ) → same_text x y ≡ false → same_text y x ≡ false
-turned x y h = other_text y x (λ e. (let c : true ≡ false = sym (text_same x y (sym e)) ∙ h in absurd (cc)))
-
-not_twice : (a b c : Bool) → (a && b && not c) ≡ true → c ≡ false
-not_twice true true false h = refl
-not_twice _ _ _ h = broken (sym h)
-
-have_parts : (ts : List Top) (main : List (List ℕ)) → names_parts ts main ≡ true → HaveParts main
-have_parts ts (d ∷ v ∷ i ∷ e ∷ k ∷ m ∷ []) h =
-    let apart = not_twice (is_some (parser_named ts d)) (has_controls ts (v ∷ i ∷ e ∷ k ∷ m ∷ [])) (has_twice (v ∷ i ∷ e ∷ k ∷ m ∷ [])) h in
-    let vs = neither (cycles.is_among (i ∷ e ∷ k ∷ m ∷ []) v) (has_twice (i ∷ e ∷ k ∷ m ∷ [])) apart in
-    let is = neither (cycles.is_among (e ∷ k ∷ m ∷ []) i) (has_twice (e ∷ k ∷ m ∷ [])) vs.1 in
-    let es = neither (cycles.is_among (k ∷ m ∷ []) e) (has_twice (k ∷ m ∷ [])) is.1 in
-    let ks = neither (cycles.is_among (m ∷ []) k) (has_twice (m ∷ [])) es.1 in
-    let v_i = neither (same_text i v) (cycles.is_among (e ∷ k ∷ m ∷ []) v) vs.0 in
-    let v_e = neither (same_text e v) (cycles.is_among (k ∷ m ∷ []) v) v_i.1 in let v_k = neither (same_text k v) (cycles.is_among (m ∷ []) v) v_e.1 in let v_m = neither (same_text m v) false v_k.1 in
-    let i_e = neither (same_text e i) (cycles.is_among (k ∷ m ∷ []) i) is.0 in let i_k = neither (same_text k i) (cycles.is_among (m ∷ []) i) i_e.1 in let i_m = neither (same_text m i) false i_k.1 in
-    let e_k = neither (same_text k e) (cycles.is_among (m ∷ []) e) es.0 in let e_m = neither (same_text m e) false e_k.1 in
-    let k_m = neither (same_text m k) false ks.0 in
-    let v_not_i = turned i v v_i.0 in let v_not_e = turned e v v_e.0 in let v_not_k = turned k v v_k.0 in let v_not_m = turned m v v_m.0 in
-    let i_not_e = turned e i i_e.0 in let i_not_k = turned k i i_k.0 in let i_not_m = turned m i i_m.0 in
-    let e_not_k = turned k e e_k.0 in let e_not_m = turned m e e_m.0 in let k_not_m = turned m k k_m.0 in
-    let verify : part_in (d ∷ v ∷ i ∷ e ∷ k ∷ m ∷ []) v ≡ place.Verify = (let same = text_same v v refl in cc) in
-    let ingress : part_in (d ∷ v ∷ i ∷ e ∷ k ∷ m ∷ []) i ≡ place.Apply = (let same = text_same i i refl in cc) in
-    let egress : part_in (d ∷ v ∷ i ∷ e ∷ k ∷ m ∷ []) e ≡ place.Apply = (let same = text_same e e refl in cc) in
-    let compute : part_in (d ∷ v ∷ i ∷ e ∷ k ∷ m ∷ []) k ≡ place.Compute = (let same = text_same k k refl in cc) in
-    let deparser : part_in (d ∷ v ∷ i ∷ e ∷ k ∷ m ∷ []) m ≡ place.Deparser = (let same = text_same m m refl in cc) in
-    record { verify = verify; ingress = ingress; egress = egress; compute = compute; deparser = deparser }
-have_parts ts _ h = broken (sym h)
 
 -- ---- the parts
 
