@@ -10,7 +10,7 @@ use Rattle.json_parts.specs.Object.{Object, members_of, end_of}
 use Rattle.json_parts.specs.declared.fault.ShapeFault.{ShapeFault}
 use Rattle.json_parts.specs.declared.fault.ShapeFault.TheVariants as shape
 use Rattle.json_values.specs.Words.{fault_of}
-use Rattle.schedule_file.specs.Sets.{Setting, set_path, setting_in, setting_of}
+use Rattle.schedule_file.specs.Sets.{Setting, set_path, named_in, setting_by, setting_of}
 
 -- what was read is what a definition gives
 pub read_ok : {X Y : Type 0} (view : X → Y) (r : Result X ShapeFault) (x : X) (defined : Result Y ShapeFault) → Ok x ≡ with_fault fault_of r → GivesUnless shape.NoMemory view r defined → with_fault fault_of defined ≡ Ok (view x)
@@ -27,8 +27,8 @@ read_err view (Err h) f defined e g other =
     rw (g (λ none. other (same ∙ ap fault_of none)), same) refl
 
 module _ (ds : List Decl) (names : List (List ℕ)) (d : Data) (o : Object) (members : with_fault fault_of (members_of set_path (codes "switch" ∷ codes "value" ∷ codes "variable" ∷ []) d) ≡ Ok o) where
-  pub set_stop : (e : TableFault) → setting_in ds names o ≡ Err e → setting_of ds names d ≡ Err e
+  pub set_stop : (e : TableFault) → setting_by names o (named_in ds d) ≡ Err e → setting_of ds names d ≡ Err e
   set_stop e is = rw (members, is) refl
 
-  pub set_rest : (s : Setting) (e : TableFault) → setting_in ds names o ≡ Ok s → with_fault fault_of (end_of o) ≡ Err e → setting_of ds names d ≡ Err e
+  pub set_rest : (s : Setting) (e : TableFault) → setting_by names o (named_in ds d) ≡ Ok s → with_fault fault_of (end_of o) ≡ Err e → setting_of ds names d ≡ Err e
   set_rest s e is rest = rw (members, is, rest) refl

@@ -1,8 +1,9 @@
 -- What a member of a schedule sets: `{"set": {"switch": name, "variable": name, "value": contents}}`. Read `Control` of
 -- control_file before it, and `Schedule` after it.
-use Rattle.std.specs.Prelude.{ℕ, List, [], ◌∷◌, codes, Result, Ok, Err}
+use Rattle.std.specs.Prelude.{ℕ, List, [], ◌∷◌, codes, Option, option_and_then, Result, Ok, Err}
 use Rattle.std.specs.Option.{option_map_or}
 use Rattle.serde_json.specs.Data.{Data}
+use Rattle.serde_json.specs.Find.{get, as_str}
 use Rattle.indus_tree.specs.Tree.{Decl}
 use Rattle.indus_tree.specs.State.{Contents}
 use Rattle.table_faults.specs.declared.table.TableFault.{TableFault}
@@ -34,23 +35,30 @@ value_in o =
     with_fault fault_of (maybe_at o (codes "value"))
     >>= λ v. option_map_or (λ d. Ok d) v (Err (fault.Shape (codes "/set/value")))
 
-abbrev pub variable_in : List Decl → Object → Result Variable TableFault
-variable_in ds o =
-    with_fault fault_of (text_at o (codes "variable"))
-    >>= λ name. option_map_or (λ v. Ok v) (variable_of ds name) (Err (fault.NoSuchVariable (below set_path (codes "variable"))))
+-- the variable that the object names, wherever its name stands among the members
+abbrev pub named_in : List Decl → Data → Option Variable
+named_in ds d = option_and_then (variable_of ds) (option_and_then as_str (get (codes "variable") d))
 
--- the value is read behind the variable's name, since what it may be rests on the variable
-abbrev pub setting_in : List Decl → (names : List (List ℕ)) → Object → Result Setting TableFault
-setting_in ds names o = do
+-- what the variable is set to: a fault of the value comes before one of a member between `value` and `variable`
+abbrev pub setting_to : Object → (switch : ℕ) → Data → Variable → Result Setting TableFault
+setting_to o switch d variable = do
+  contents ← contents_at (codes "/set/value") variable.decl.shape d
+  name ← with_fault fault_of (text_at o (codes "variable"))
+  Ok (record { switch = switch; variable = variable.number; contents = contents })
+
+-- no variable is named: what the value may be is not known, so its fault is not either
+abbrev pub unnamed : Object → Result Setting TableFault
+unnamed o = with_fault fault_of (text_at o (codes "variable")) >>= λ name. Err (fault.NoSuchVariable (below set_path (codes "variable")))
+
+abbrev pub setting_by : (names : List (List ℕ)) → Object → Option Variable → Result Setting TableFault
+setting_by names o named = do
   switch ← switch_in names o
   value ← value_in o
-  variable ← variable_in ds o
-  contents ← contents_at (codes "/set/value") variable.decl.shape value
-  Ok (record { switch = switch; variable = variable.number; contents = contents })
+  option_map_or (setting_to o switch value) named (unnamed o)
 
 abbrev pub setting_of : List Decl → (names : List (List ℕ)) → Data → Result Setting TableFault
 setting_of ds names d = do
   members ← with_fault fault_of (members_of set_path (codes "switch" ∷ codes "value" ∷ codes "variable" ∷ []) d)
-  setting ← setting_in ds names members
+  setting ← setting_by names members (named_in ds d)
   rest ← with_fault fault_of (end_of members)
   Ok setting

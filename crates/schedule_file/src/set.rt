@@ -1,6 +1,6 @@
 //! What a member of a schedule sets.
 
-ghost use Rattle.std.specs.Prelude.{◌≡◌, codes};
+ghost use Rattle.std.specs.Prelude.{◌≡◌, codes, option_map};
 ghost use Rattle.serde_json.specs.View.{view};
 ghost use Rattle.json_parts.specs.Views.{object_seen};
 ghost use Rattle.json_values.specs.Views.{Gives};
@@ -52,44 +52,60 @@ fn value<'a>(alloc: Global, members: &Members<'a, '_>) -> Result<&'a Value, Tabl
     }
 }
 
-/// The control variable that the object names.
-fn variable<'p>(
-    alloc: Global,
-    members: &Members<'_, '_>,
-    property: &'p TypedProperty,
-) -> Result<Variable<'p>, TableFault>
-    ensures { Gives variable_view result
-        (sets.variable_in (decls_of property.now) (object_seen members.now)) }
+/// The control variable that the object names, wherever its name stands among the members.
+fn named<'p>(value: &Value, property: &'p TypedProperty) -> Option<Variable<'p>>
+    ensures { option_map variable_view result
+        ≡ sets.named_in (decls_of property.now) (view value.now) }
 {
-    let name = in_table(members.text(alloc, "variable"))?;
-    match variable_of(property, name) {
-        Some(variable) => Ok(variable),
-        None => {
-            let path = member_path(alloc, "/set", "variable")?;
-            Err(TableFault::NoSuchVariable { path })
-        }
-    }
+    let name = value.get("variable")?.as_str()?;
+    variable_of(property, name)
 }
 
-/// What the object sets.
-fn setting_in(
+/// What the variable is set to.
+fn setting_to(
     alloc: Global,
     members: &Members<'_, '_>,
-    property: &TypedProperty,
-    network: &Network,
+    switch: u16,
+    value: &Value,
+    variable: Variable<'_>,
 ) -> Result<Setting, TableFault>
     ensures { Gives set_view result
-        (sets.setting_in (decls_of property.now) network.now.names (object_seen members.now)) }
+        (sets.setting_to (object_seen members.now) switch (view value.now) (variable_view variable)) }
 {
-    let switch = switch(alloc, members, network)?;
-    let value = value(alloc, members)?;
-    let variable = variable(alloc, members, property)?;
     let contents = read_contents(alloc, "/set/value", value, variable.decl)?;
+    in_table(members.text(alloc, "variable"))?;
     Ok(Setting {
         switch,
         variable: variable.number,
         contents,
     })
+}
+
+/// Why the object names no control variable.
+fn unnamed(alloc: Global, members: &Members<'_, '_>) -> Result<Setting, TableFault>
+    ensures { Gives set_view result (sets.unnamed (object_seen members.now)) }
+{
+    in_table(members.text(alloc, "variable"))?;
+    let path = member_path(alloc, "/set", "variable")?;
+    Err(TableFault::NoSuchVariable { path })
+}
+
+/// What the object sets, with the variable that it names.
+fn setting_by(
+    alloc: Global,
+    members: &Members<'_, '_>,
+    named: Option<Variable<'_>>,
+    network: &Network,
+) -> Result<Setting, TableFault>
+    ensures { Gives set_view result
+        (sets.setting_by network.now.names (object_seen members.now) (option_map variable_view named)) }
+{
+    let switch = switch(alloc, members, network)?;
+    let value = value(alloc, members)?;
+    match named {
+        Some(variable) => setting_to(alloc, members, switch, value, variable),
+        None => unnamed(alloc, members),
+    }
 }
 
 /// What the value at `/set` of a member sets.
@@ -103,7 +119,7 @@ pub(crate) fn read_set(
         (sets.setting_of (decls_of property.now) network.now.names (view value.now)) }
 {
     let members = in_table(Members::new(alloc, "/set", &["switch", "value", "variable"], value))?;
-    let setting = setting_in(alloc, &members, property, network)?;
+    let setting = setting_by(alloc, &members, named(value, property), network)?;
     in_table(members.end(alloc))?;
     Ok(setting)
 }

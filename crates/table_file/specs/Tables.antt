@@ -1,8 +1,9 @@
 -- What a file's entries and defaults make of the tables of a switch. Read `Entries` of entry_parts
 -- and `State` and `Faults` of p4_tables before it, and `Entries` after it.
-use Rattle.std.specs.Prelude.{ℕ, ◌==◌, List, [], ◌∷◌, codes, Option, Some, None, Result, Ok, Err}
+use Rattle.std.specs.Prelude.{ℕ, ◌==◌, List, [], ◌∷◌, Bool, true, false, codes, Option, Some, None, is_some, Result, Ok, Err}
 use Rattle.std.specs.List.{before_first}
 use Rattle.serde_json.specs.Data.{Data}
+use Rattle.serde_json.specs.Find.{get}
 use Rattle.json_parts.specs.Answers.{◌>>=◌, with_fault}
 use Rattle.json_parts.specs.Object.{Object, members_of, maybe_at, end_of}
 use Rattle.json_parts.specs.Paths.{below, item_below}
@@ -61,7 +62,7 @@ default_from p path st (Some d) = default_of p.actions p.control (held_at st p.t
 -- ---- a table
 
 -- `{"entries": [entry, ..], "default": default}`, where both may be absent. Against the byte order of
--- their names the default comes behind the entries
+-- their names the default comes behind the entries, where entries stand there
 unfoldable pub with_entries : Place → (path : List ℕ) → Object → List Held → Result (List Held) TableFault
 with_entries p path o st = do
   d ← with_fault fault_of (maybe_at o (codes "entries"))
@@ -72,10 +73,14 @@ with_default_of p path o st = do
   d ← with_fault fault_of (maybe_at o (codes "default"))
   default_from p (below path (codes "default")) st d
 
+abbrev pub with_entries_if : (there : Bool) → Place → (path : List ℕ) → Object → List Held → Result (List Held) TableFault
+with_entries_if false p path o st = Ok st
+with_entries_if true p path o st = with_entries p path o st
+
 unfoldable pub with_members : Place → (path : List ℕ) → List Held → Data → Result (List Held) TableFault
 with_members p path st d = do
   members ← with_fault fault_of (members_of path (codes "default" ∷ codes "entries" ∷ []) d)
-  listed ← with_entries p path members st
+  listed ← with_entries_if (is_some (get (codes "entries") d)) p path members st
   whole ← with_default_of p path members listed
   rest ← with_fault fault_of (end_of members)
   Ok whole

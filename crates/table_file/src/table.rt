@@ -181,6 +181,27 @@ fn default(
     }
 }
 
+/// The entries of the table at a path, where they are there.
+fn entries_if(
+    alloc: Global,
+    there: bool,
+    place: Place<'_>,
+    path: &str,
+    members: &Members<'_, '_>,
+    state: &mut TableState,
+) -> Result<(), TableFault>
+    requires { place.table < length (shapes state.old) }
+    ensures answer { Gives (λ _. state.new) result
+        (tables.with_entries_if there (place_view place.entry) path.now (object_seen members.now) state.old) }
+    ensures shapes { shapes state.new ≡ shapes state.old }
+{
+    if there {
+        entries(alloc, place, path, members, state)
+    } else {
+        Ok(())
+    }
+}
+
 /// What the object at a path says of a table.
 #[tactic(auto, unfolding(crate::specs::Tables::with_members))]
 fn members(
@@ -196,7 +217,7 @@ fn members(
     ensures shapes { shapes state.new ≡ shapes state.old }
 {
     let members = in_table(Members::new(alloc, path, &["default", "entries"], value))?;
-    entries(alloc, place, path, &members, state)?;
+    entries_if(alloc, value.get("entries").is_some(), place, path, &members, state)?;
     default(alloc, place, path, &members, state)?;
     in_table(members.end(alloc))
 }
