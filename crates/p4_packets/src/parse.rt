@@ -121,16 +121,12 @@ fn extract_at(
     ensures parsed { IfOk result (λ step. parsed_of step s.new frame.now ≡ extracted_at (map header_in headers.now) path.now (reading_of s.old frame.now at)) }
     ensures within { IfOk result (λ step. StepsWithin step (8 * length frame.now)) }
 {
-    match headers {
-        [] => Ok(Step::On(at)),
-        [h, headers @ ..] => {
-            if same_path(&h.path, path) {
-                extract(alloc, h, frame, at, s)
-            } else {
-                extract_at(alloc, headers, path, frame, at, s)
-            }
+    for h in headers {
+        if same_path(&h.path, path) {
+            return extract(alloc, h, frame, at, s);
         }
     }
+    Ok(Step::On(at))
 }
 
 /// A call in a state.

@@ -45,20 +45,16 @@ fn put_header(
 ) -> Result<(), AllocError>
     ensures { OnOk result (bits_in out.new ≡ bits_in out.old ++ header_bits (map header_in headers.now) path.now (store_of s.now)) }
 {
-    match headers {
-        [] => Ok(()),
-        [h, headers @ ..] => {
-            if same_path(&h.path, path) {
-                match s.header(&h.path) {
-                    Some(true) => put_fields(alloc, &h.path, &h.fields, s, out),
-                    Some(false) => Ok(()),
-                    None => Ok(()),
-                }
-            } else {
-                put_header(alloc, headers, path, s, out)
-            }
+    for h in headers {
+        if same_path(&h.path, path) {
+            return match s.header(&h.path) {
+                Some(true) => put_fields(alloc, &h.path, &h.fields, s, out),
+                Some(false) => Ok(()),
+                None => Ok(()),
+            };
         }
     }
+    Ok(())
 }
 
 /// The headers that a deparser emits, where they are valid.
