@@ -1,7 +1,7 @@
 -- How a case file is written: `{"captures": [{"file": name, "port": number, "switch": name}, ..],
 -- "network": name, "program": name}`, and what may stand in it besides. Read `Object`, `Turns` and
 -- `Paths` of json_parts before it.
-use Rattle.std.specs.Prelude.{ℕ, List, [], ◌∷◌, codes, Option, Result, Ok, Err, option_and_then}
+use Rattle.std.specs.Prelude.{ℕ, List, [], ◌∷◌, Bool, true, false, codes, Option, Some, Result, Ok, Err, option_and_then}
 use Rattle.std.specs.Option.{option_map_or}
 use Rattle.serde_json.specs.Data.{Data}
 use Rattle.json_parts.specs.Answers.{◌>>=◌}
@@ -77,20 +77,26 @@ front_of members = do
   hops ← number_at members (codes "hops") 1 255 64
   Ok (record { captures = captures; control = control; entries = entries; hops = hops })
 
+-- the property's file, which has to be named where it is needed
+abbrev pub property_at : (needed : Bool) → Object → Result (Option (List ℕ)) ShapeFault
+property_at true o = text_at o (codes "property") >>= λ name. Ok (Some name)
+property_at false o = maybe_text_at o (codes "property")
+
 -- those behind it: 1 to 256 bytes, or 128 where nothing is said
-unfoldable pub case_from : Object → Front → Result Case ShapeFault
-case_from members f = do
+unfoldable pub case_from : (needs_property : Bool) → Object → Front → Result Case ShapeFault
+case_from needs members f = do
   network ← text_at members (codes "network")
   program ← text_at members (codes "program")
-  property ← maybe_text_at members (codes "property")
+  property ← property_at needs members
   room ← number_at members (codes "room") 1 256 128
   schedule ← maybe_text_at members (codes "schedule")
   rest ← end_of members
   Ok (record { captures = f.captures; control = f.control; entries = f.entries; hops = f.hops; network = network; program = program; property = property; room = room; schedule = schedule })
 
--- the case, or the first fault of its form: members in byte order of their names, arrays in order
-unfoldable pub case_of : Data → Result Case ShapeFault
-case_of d = do
+-- the case of a command that needs a property or not, or the first fault of its form: members in byte order of their
+-- names, one that is missing at its place among them, arrays in order
+unfoldable pub case_of : (needs_property : Bool) → Data → Result Case ShapeFault
+case_of needs d = do
   members ← members_of [] case_names d
   front ← front_of members
-  case_from members front
+  case_from needs members front

@@ -1,6 +1,6 @@
 //! A case as it is read, member by member.
 
-ghost use Rattle.std.specs.Prelude.{◌≡◌, map};
+ghost use Rattle.std.specs.Prelude.{◌≡◌, map, option_map};
 ghost use Rattle.std.specs.Prelude.{codes};
 ghost use Rattle.serde_json.specs.View.{view};
 ghost use Rattle.json_parts.specs.Object.{number_at};
@@ -87,17 +87,35 @@ fn front_members<'a>(alloc: Global, members: &Members<'a, '_>) -> Result<Front<'
     })
 }
 
+/// The file of the property, which has to be named where it is needed.
+fn property<'a>(
+    alloc: Global,
+    members: &Members<'a, '_>,
+    needed: bool,
+) -> Result<Option<&'a str>, ShapeFault>
+    ensures { Gives (option_map (λ s. s.now)) result
+        (spec.property_at needed (object_seen members.now)) }
+{
+    if needed {
+        Ok(Some(members.text(alloc, "property")?))
+    } else {
+        members.maybe_text(alloc, "property")
+    }
+}
+
 #[tactic(auto, unfolding(crate::specs::Case::case_from))]
 fn case_from<'a>(
     alloc: Global,
     members: &Members<'a, '_>,
     front: Front<'a>,
+    needs_property: bool,
 ) -> Result<Case<'a>, ShapeFault>
-    ensures { Gives case_view result (spec.case_from (object_seen members.now) (front_view front.entry)) }
+    ensures { Gives case_view result
+        (spec.case_from needs_property (object_seen members.now) (front_view front.entry)) }
 {
     let network = members.text(alloc, "network")?;
     let program = members.text(alloc, "program")?;
-    let property = members.maybe_text(alloc, "property")?;
+    let property = property(alloc, members, needs_property)?;
     let room = room(alloc, members)?;
     let schedule = members.maybe_text(alloc, "schedule")?;
     members.end(alloc)?;
@@ -114,15 +132,20 @@ fn case_from<'a>(
     })
 }
 
-/// The case that a value says.
+/// The case that a value says. A command that links a property needs one: then `property` has to be
+/// there.
 ///
 /// # Errors
 ///
 /// `Shape` exactly where a member is unknown, missing or ill-formed, with the path of the first,
 /// members in byte order of their names; else `NoMemory` alone, where memory runs out.
 #[tactic(auto, unfolding(crate::specs::Case::case_of))]
-pub fn read_case(alloc: Global, value: &Value) -> Result<Case<'_>, ShapeFault>
-    ensures { Gives case_view result (spec.case_of (view value.now)) }
+pub fn read_case(
+    alloc: Global,
+    value: &Value,
+    needs_property: bool,
+) -> Result<Case<'_>, ShapeFault>
+    ensures { Gives case_view result (spec.case_of needs_property (view value.now)) }
 {
     let members = Members::new(
         alloc,
@@ -134,5 +157,5 @@ pub fn read_case(alloc: Global, value: &Value) -> Result<Case<'_>, ShapeFault>
         value,
     )?;
     let front = front_members(alloc, &members)?;
-    case_from(alloc, &members, front)
+    case_from(alloc, &members, front, needs_property)
 }

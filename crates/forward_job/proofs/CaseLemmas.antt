@@ -45,7 +45,7 @@ front_hops o f h =
     subst (λ (g : Front). 1 ≤ g.hops) is (number_is_high o (codes "hops") 1 255 64 hops.0 (omega arith) hops.1)
 
 -- the case keeps the hops of its front
-case_hops : (o : Object) (f : Front) (c : Case) → case_from o f ≡ Ok c → f.hops ≡ c.hops
+case_hops : (o : Object) (f : Front) (c : Case) → case_from false o f ≡ Ok c → f.hops ≡ c.hops
 unfolding case_from
 case_hops o f c h =
     let network = bound (text_at o (codes "network")) _ c h in
@@ -59,7 +59,7 @@ case_hops o f c h =
     let is : made ≡ c = cc in
     subst (λ (k : Case). f.hops ≡ k.hops) is refl
 
-pub hops_are_some : (d : Data) (c : Case) → case_of d ≡ Ok c → 1 ≤ c.hops
+pub hops_are_some : (d : Data) (c : Case) → case_of false d ≡ Ok c → 1 ≤ c.hops
 unfolding case_of
 hops_are_some d c h =
     let members = bound (members_of [] case_names d) _ c h in

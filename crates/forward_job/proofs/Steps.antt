@@ -38,7 +38,7 @@ of_names name room hops cs ds same s t r h =
     subst (λ (ns : List (List ℕ)). Follows (captures_course name room hops ns) (λ v. lists_of v.items) s t r) (ap names_of same ∙ sym (file_names cs)) h
 
 -- the case of a value
-pub case_follows : (name : List ℕ) (d : Data) (s : StoreState) (r : Result Case Stop) → Judged (λ c. case_of d ≡ Ok c) (IsFault BadNetwork (shape_line name) (case_of d)) case_view r → Follows (case_answer name d) case_view s s r
+pub case_follows : (name : List ℕ) (d : Data) (s : StoreState) (r : Result Case Stop) → Judged (λ c. case_of false d ≡ Ok c) (IsFault BadNetwork (shape_line name) (case_of false d)) case_view r → Follows (case_answer false name d) case_view s s r
 case_follows name d s r h = judged_follows _ _ _ s r h
 
 -- where its captures enter

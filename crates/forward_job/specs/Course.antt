@@ -58,6 +58,6 @@ loaded_course name c g =
 unfoldable pub forward_course : (name : List ℕ) → Course Job
 forward_course name =
     and_then (value_course name) (λ d.
-    and_then (case_answer name d) (λ c.
+    and_then (case_answer false name d) (λ c.
     and_then (ground_course name c) (λ g.
     loaded_course name c g)))

@@ -86,7 +86,7 @@ pub fn load_forward<S: Store>(alloc: Global, store: &mut S, name: &str) -> Resul
     ensures ready { IfOk result (λ j. IsReady (job_of j)) }
 {
     let value = load_value(alloc, store, name)?;
-    let case = case_in(alloc, name, &value)?;
+    let case = case_in(alloc, name, &value, false)?;
     let ground = load_ground(alloc, store, name, &case)?;
     load_rest(alloc, store, name, &case, ground)
 }

@@ -1,6 +1,6 @@
 -- The files of a network, as steps of a command: which are asked for, which first refusals they admit, and what they
 -- give. Read `Course` of job_course, and `Lines` and `Places`, before it.
-use Rattle.std.specs.Prelude.{◌≡◌, ℕ, ◌*◌, ◌<◌, ◌≤◌, List, length, codes}
+use Rattle.std.specs.Prelude.{◌≡◌, ℕ, Bool, ◌*◌, ◌<◌, ◌≤◌, List, length, codes}
 use Rattle.serde_json.specs.Data.{Data}
 use Rattle.json_parts.specs.Json.{IsJson}
 use Rattle.network_file.specs.Network.{Network, Port, network_of}
@@ -22,9 +22,9 @@ IsNoJson name bytes s l =
 abbrev pub value_course : (name : List ℕ) → Course Data
 value_course name = and_then (file name 4194304 area.Network) (λ bytes. decide (IsJson bytes) (IsNoJson name bytes))
 
--- the case that a value says
-abbrev pub case_answer : (name : List ℕ) → Data → Course Case
-case_answer name d = answer BadNetwork (shape_line name) (case_of d)
+-- the case that a value says, for a command that needs a property or not
+abbrev pub case_answer : (needs_property : Bool) → (name : List ℕ) → Data → Course Case
+case_answer needs name d = answer BadNetwork (shape_line name) (case_of needs d)
 
 -- all switches together have at most 4,194,304 cells of registers, a switch so many
 abbrev pub IsWithin : (cells : ℕ) (read n : Network) → Type 0

@@ -51,12 +51,18 @@ fn value_in(alloc: Global, name: &str, bytes: &[u8]) -> Result<Value, Stop>
     }
 }
 
-/// The case that the value of a case's file says.
-pub fn case_in<'a>(alloc: Global, name: &str, value: &'a Value) -> Result<Case<'a>, Stop>
-    ensures judged { Judged (λ c. case_of (view value.now) ≡ Ok c)
-        (IsFault BadNetwork (shape_line name.now) (case_of (view value.now))) case_view result }
+/// The case that the value of a case's file says, for a command that needs a property or not.
+pub fn case_in<'a>(
+    alloc: Global,
+    name: &str,
+    value: &'a Value,
+    needs_property: bool,
+) -> Result<Case<'a>, Stop>
+    ensures judged { Judged (λ c. case_of needs_property (view value.now) ≡ Ok c)
+        (IsFault BadNetwork (shape_line name.now) (case_of needs_property (view value.now)))
+        case_view result }
 {
-    match read_case(alloc, value) {
+    match read_case(alloc, value, needs_property) {
         Ok(case) => Ok(case),
         Err(ShapeFault::NoMemory) => Err(Stop::Starved),
         Err(fault) => Err(Stop::Refused(Refusal {
