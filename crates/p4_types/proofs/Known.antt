@@ -20,7 +20,7 @@ use Rattle.p4_meaning.proofs.Seen.{value_seen}
 use Rattle.p4_types.specs.Kept.{at_name}
 use Rattle.p4_types.specs.Words.{constants_store, or_none, width_in, IsBehind}
 use Rattle.p4_types.specs.declared.constants.Known.{Known}
-use Rattle.p4_types.proofs.Alike.{value_alike}
+use Rattle.p4_types.proofs.Alike.{each_read, value_alike}
 use Rattle.p4_types.proofs.Numbered.{flip, map_more}
 
 abbrev same_keys : String Global → String Global → Bool
@@ -76,7 +76,7 @@ module _ (k : Known) (sc : Scope) (words : AreWords sc) (so : IsBehind k sc) whe
       let v = width_of (type_under sc.types t) in
       let same : width ≡ v = wide ∙ type_width k sc so t in
       is ∙ ap (λ (n : ℕ). cast_word (sound_width n) (value_of e n (constants_store k.constants))) same
-      ∙ ap (cast_word (sound_width v)) (value_alike (constants_store k.constants) (seen sc blank) reads (λ p. refl) e v ∙ sym (value_seen sc blank words refl e v))
+      ∙ ap (cast_word (sound_width v)) (value_alike (constants_store k.constants) (seen sc blank) e v (each_read _ _ reads (λ q. refl) e) ∙ sym (value_seen sc blank words refl e v))
 
   -- behind a constant
   pub constant_behind : (m : Known) (t : PTy) (name : List ℕ) (e : Expr) (key : String Global) (width : ℕ) (w : Word)

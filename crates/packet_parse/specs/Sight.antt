@@ -5,8 +5,9 @@ use Rattle.std.specs.Option.{option_or}
 use Rattle.bit_values.specs.Bits.{Word, word, cast}
 use Rattle.bit_values.specs.Widths.{bit}
 use Rattle.lex_text.specs.Names.{same_text}
-use Rattle.p4_tree.specs.Tree.{Program}
-use Rattle.p4_meaning.specs.Store.{Store}
+use Rattle.p4_tree.specs.Tree.{Expr, Program}
+use Rattle.p4_tree.specs.Reads.{EachRead}
+use Rattle.p4_meaning.specs.Store.{Store, read}
 use Rattle.p4_meaning.specs.Scope.{Scope, constant_or, seen}
 use Rattle.p4_meaning.specs.Pass.{error_number}
 use Rattle.p4_meaning.specs.Laws.{AreWords}
@@ -48,8 +49,9 @@ word_at p f q = constant_or (option_or (standard_at f q) (option_or (look None S
 abbrev pub in_sight : Program → Fields → Store
 in_sight p f = record { values = word_at p f; headers = header_in f.valid.items }
 
--- the fields show what names in a scope stand for in a store. No header has the empty path
-pub record Shows (p : Program) (f : Fields) (sc : Scope) (s : Store) : Type 0 where
+-- the fields show what names in a scope stand for in a store, as far as an expression reads: each path that it reads has the
+-- same word, and each header that it asks is valid or not alike. No header has the empty path
+pub record Shows (p : Program) (f : Fields) (sc : Scope) (s : Store) (e : Expr) : Type 0 where
   pub words : AreWords sc
   pub nameless : s.headers [] ≡ None
-  pub same : in_sight p f ≡ seen sc s
+  pub same : EachRead (λ q. read (in_sight p f) q ≡ read (seen sc s) q) (λ q. header_in f.valid.items q ≡ (seen sc s).headers q) e

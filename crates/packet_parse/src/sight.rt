@@ -136,11 +136,11 @@ impl Sight for InSight<'_> {
 }
 
 /// The value of an expression where this is in sight, and the place gives `width` bits, or 0 where it
-/// gives none. Names stand for what is in sight: where the fields show what the names at a place stand
+/// gives none. Names stand for what is in sight: where the fields show what the names that it reads stand
 /// for in a store, it is the value by the meaning there.
 pub fn eval(p: &TypedProgram, e: &Expr, width: u8, s: &Fields) -> Bits
     ensures value { result ≡ value_of (expr_of e.now) width (in_sight (program_of p.now) s.now) }
-    ensures meaning { (sc : Scope) (st : Store) → Shows (program_of p.now) s.now sc st →
+    ensures meaning { (sc : Scope) (st : Store) → Shows (program_of p.now) s.now sc st (expr_of e.now) →
         result ≡ value_of (expr_under sc (expr_of e.now)) width st }
 {
     value_of(
