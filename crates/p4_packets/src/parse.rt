@@ -1,6 +1,6 @@
 //! The parser.
 
-ghost use Rattle.std.specs.Prelude.{◌≡◌, ◌≤◌, ◌*◌, ◌+◌, length, nat_le, IfOk, OnOk, map};
+ghost use Rattle.std.specs.Prelude.{◌≡◌, ◌^◌, ◌<◌, ◌≤◌, ◌*◌, ◌+◌, length, nat_le, IfOk, OnOk, map};
 ghost use Rattle.p4_tree.specs.View.{arg_of, stmt_of};
 ghost use Rattle.p4_meaning.specs.Parsing.{width_sum, field_taken, fields_taken, extracted, extracted_at, call_parsed, stmt_parsed, body_parsed};
 ghost use Rattle.p4_packets.specs.Fields.{store_of};
@@ -65,7 +65,7 @@ fn take_fields(
     at: usize,
     s: &mut Fields,
 ) -> Result<usize, AllocError>
-    requires short { length frame.now ≤ 65791 }
+    requires short { length frame.now < 2 ^ 29 }
     requires within { at + width_sum (map field_in fields.now) ≤ 8 * length frame.now }
     ensures taken { IfOk result (λ end. reading_of s.new frame.now end ≡ fields_taken path.now (map field_in fields.now) (reading_of s.old frame.now at)) }
     ensures end { IfOk result (λ end. end ≡ at + width_sum (map field_in fields.now)) }
@@ -93,7 +93,7 @@ fn extract(
     at: usize,
     s: &mut Fields,
 ) -> Result<Step, AllocError>
-    requires short { length frame.now ≤ 65791 }
+    requires short { length frame.now < 2 ^ 29 }
     requires within { at ≤ 8 * length frame.now }
     ensures parsed { IfOk result (λ step. parsed_of step s.new frame.now ≡ extracted (header_in h.now) (reading_of s.old frame.now at)) }
     ensures within { IfOk result (λ step. StepsWithin step (8 * length frame.now)) }
@@ -116,7 +116,7 @@ fn extract_at(
     at: usize,
     s: &mut Fields,
 ) -> Result<Step, AllocError>
-    requires short { length frame.now ≤ 65791 }
+    requires short { length frame.now < 2 ^ 29 }
     requires within { at ≤ 8 * length frame.now }
     ensures parsed { IfOk result (λ step. parsed_of step s.new frame.now ≡ extracted_at (map header_in headers.now) path.now (reading_of s.old frame.now at)) }
     ensures within { IfOk result (λ step. StepsWithin step (8 * length frame.now)) }
@@ -138,7 +138,7 @@ fn parse_call(
     at: usize,
     s: &mut Fields,
 ) -> Result<Step, AllocError>
-    requires short { length frame.now ≤ 65791 }
+    requires short { length frame.now < 2 ^ 29 }
     requires within { at ≤ 8 * length frame.now }
     ensures parsed { IfOk result (λ step. parsed_of step s.new frame.now ≡ call_parsed (map header_in headers.now) (map arg_of args.now) (reading_of s.old frame.now at)) }
     ensures within { IfOk result (λ step. StepsWithin step (8 * length frame.now)) }
@@ -171,7 +171,7 @@ fn parse_stmt(
     at: usize,
     s: &mut Fields,
 ) -> Result<Step, AllocError>
-    requires short { length frame.now ≤ 65791 }
+    requires short { length frame.now < 2 ^ 29 }
     requires within { at ≤ 8 * length frame.now }
     ensures parsed { IfOk result (λ step. parsed_of step s.new frame.now ≡ stmt_parsed (map header_in headers.now) (stmt_of st.now) (reading_of s.old frame.now at)) }
     ensures within { IfOk result (λ step. StepsWithin step (8 * length frame.now)) }
@@ -196,7 +196,7 @@ pub fn parse_body(
     at: usize,
     s: &mut Fields,
 ) -> Result<Step, AllocError>
-    requires short { length frame.now ≤ 65791 }
+    requires short { length frame.now < 2 ^ 29 }
     requires within { at ≤ 8 * length frame.now }
     ensures parsed { IfOk result (λ step. parsed_of step s.new frame.now ≡ body_parsed (map header_in headers.now) (map stmt_of body.now) (reading_of s.old frame.now at)) }
     ensures within { IfOk result (λ step. StepsWithin step (8 * length frame.now)) }

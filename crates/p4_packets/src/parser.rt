@@ -1,6 +1,6 @@
 //! The parser of a program, on a frame.
 
-ghost use Rattle.std.specs.Prelude.{◌≡◌, ◌≤◌, ◌*◌, length, drop, IfOk, OnOk};
+ghost use Rattle.std.specs.Prelude.{◌≡◌, ◌^◌, ◌<◌, ◌≤◌, ◌*◌, length, drop, IfOk, OnOk};
 ghost use Rattle.bit_values.specs.Bits.{cast};
 ghost use Rattle.bit_values.specs.Bytes.{bits_of};
 ghost use Rattle.p4_meaning.specs.Pass.{store_behind, error_number};
@@ -37,7 +37,7 @@ pub fn parse_from(
     frame: &[u8],
     s: &mut Fields,
 ) -> Result<usize, AllocError>
-    requires { length frame.now ≤ 65791 }
+    requires { length frame.now < 2 ^ 29 }
     ensures store { OnOk result (store_of s.new ≡ store_behind (parser_ends_from (parts_in p.now) (store_of s.old) frame.now)) }
     ensures rest { IfOk result (λ at. drop at (bits_of frame.now) ≡ (parser_ends_from (parts_in p.now) (store_of s.old) frame.now).reading.rest) }
     ensures within { IfOk result (λ at. at ≤ 8 * length frame.now) }
@@ -56,7 +56,7 @@ pub fn parse_frame(
     port: u16,
     frame: &[u8],
 ) -> Result<(Fields, usize), AllocError>
-    requires { length frame.now ≤ 65791 }
+    requires { length frame.now < 2 ^ 29 }
     ensures store { IfOk result (λ r. store_of r.0 ≡ store_behind (parser_ends (parts_in p.now) port frame.now)) }
     ensures rest { IfOk result (λ r. drop r.1 (bits_of frame.now) ≡ (parser_ends (parts_in p.now) port frame.now).reading.rest) }
     ensures within { IfOk result (λ r. r.1 ≤ 8 * length frame.now) }

@@ -1,6 +1,6 @@
 //! The states of a parser, one after the other.
 
-ghost use Rattle.std.specs.Prelude.{◌≡◌, ◌≤◌, ◌*◌, length, IfOk, map};
+ghost use Rattle.std.specs.Prelude.{◌≡◌, ◌^◌, ◌<◌, ◌≤◌, ◌*◌, length, IfOk, map};
 ghost use Rattle.p4_tree.specs.View.{state_of};
 ghost use Rattle.p4_meaning.specs.Parsing.{body_parsed, found_state, turned, turns_of, parser_end};
 ghost use Rattle.p4_parts.specs.Headers.{header_in};
@@ -43,7 +43,7 @@ fn pass_state<'a>(
     at: usize,
     s: &mut Fields,
 ) -> Result<Turn<'a>, AllocError>
-    requires short { length frame.now ≤ 65791 }
+    requires short { length frame.now < 2 ^ 29 }
     requires within { at ≤ 8 * length frame.now }
     ensures turned { IfOk result (λ t. turned_of t s.new frame.now ≡ turned (body_parsed (map header_in headers.now) (state_of st.now).body (reading_of s.old frame.now at)) (state_of st.now).next) }
     ensures within { IfOk result (λ t. TurnsWithin t (8 * length frame.now)) }
@@ -67,7 +67,7 @@ fn one_turn<'a>(
     at: usize,
     s: &mut Fields,
 ) -> Result<Turn<'a>, AllocError>
-    requires short { length frame.now ≤ 65791 }
+    requires short { length frame.now < 2 ^ 29 }
     requires within { at ≤ 8 * length frame.now }
     ensures turned { IfOk result (λ t. IsTurn (map header_in headers.now) (states_in left.old.items) name.now (reading_of s.old frame.now at) (turned_of t s.new frame.now) (states_in left.new.items)) }
     ensures within { IfOk result (λ t. TurnsWithin t (8 * length frame.now)) }
@@ -105,7 +105,7 @@ pub fn run_states(
     frame: &[u8],
     s: &mut Fields,
 ) -> Result<(usize, ParserError), AllocError>
-    requires { length frame.now ≤ 65791 }
+    requires { length frame.now < 2 ^ 29 }
     ensures within { IfOk result (λ r. r.0 ≤ 8 * length frame.now) }
     ensures ends { IfOk result (λ r. parser_end (reading_of s.new frame.now r.0) (error_of r.1) ≡ turns_of turns (map header_in headers.now) (map state_of states.now) start.now (reading_of s.old frame.now 0)) }
 {

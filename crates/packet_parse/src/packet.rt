@@ -1,6 +1,6 @@
 //! The parser and the deparser by themselves.
 
-ghost use Rattle.std.specs.Prelude.{◌≡◌, ◌≤◌, ◌*◌, length, drop, map, IfOk, OnOk};
+ghost use Rattle.std.specs.Prelude.{◌≡◌, ◌<◌, ◌≤◌, ◌*◌, ◌^◌, length, drop, map, IfOk, OnOk};
 ghost use Rattle.std.specs.Option.{option_map};
 ghost use Rattle.bit_values.specs.Bytes.{bits_of};
 ghost use Rattle.p4_tree.specs.View.{control_of, parser_of, program_of};
@@ -57,7 +57,7 @@ fn deparser_in(p: &Program) -> Option<&Control>
 
 /// The parser on a frame, where this is in sight before it: how far it came, in bits.
 fn run_on(alloc: Global, p: &Program, s: &mut Fields, frame: &[u8]) -> Result<usize, AllocError>
-    requires { length frame.now ≤ 65791 }
+    requires { length frame.now < 2 ^ 29 }
     ensures rest { IfOk result (λ at. drop at (bits_of frame.now)
         ≡ (parser_end (program_of p.now) s.old frame.now).reading.rest) }
     ensures within { IfOk result (λ at. at ≤ 8 * length frame.now) }
@@ -79,14 +79,14 @@ fn run_on(alloc: Global, p: &Program, s: &mut Fields, frame: &[u8]) -> Result<us
 
 /// Runs the parser on a frame, where this is in sight before it, by the paths as the parser writes
 /// them; answers the bytes that it consumed. Then the fields show what stands behind it, and how it
-/// ended. After want of memory some of them may.
+/// ended. After want of memory some of them may. A frame of 2^29 bytes or more, whose bits have no
+/// numbers of 32 bits, is answered as if memory were wanting.
 pub fn run_parser(
     alloc: Global,
     p: &TypedProgram,
     s: &mut Fields,
     frame: &[u8],
 ) -> Result<u32, AllocError>
-    requires { length frame.now ≤ 65791 }
     ensures consumed { IfOk result (λ n. n ≡ consumed (program_of p.now) s.old frame.now) }
     ensures valid { OnOk result (s.new.valid.items ≡ map (shown_valid (parser_scope (parser_in (program_of p.now)))
         (behind_parser (program_of p.now) s.old frame.now)) s.old.valid.items) }
@@ -96,6 +96,9 @@ pub fn run_parser(
     ensures standard { OnOk result (s.new.std
         ≡ shown_standard (behind_parser (program_of p.now) s.old frame.now)) }
 {
+    if frame.len() >= 1 << 29 {
+        return Err(AllocError);
+    }
     let at = run_on(alloc, p.program(), s, frame)?;
     Ok((at / 8) as u32)
 }
