@@ -28,10 +28,11 @@ three_more some one two three all a b c e f g h =
     ∙ append_assoc (all ++ a ∷ []) (b ∷ []) (c ∷ [])
     ∙ append_assoc all (a ∷ []) (b ∷ c ∷ [])
 
--- the frames of the program are as short as those that it shows
-pub short_items : {A : Type 0} (v : A → Sent) (xs : List A) → All (λ x. length x.frame ≤ 65535) (map v xs) → All (λ x. length (v x).frame ≤ 65535) xs
+-- the frames of the program are as short as those that it shows, and so as frames of links are
+pub short_items : {A : Type 0} (v : A → Sent) (xs : List A) → All (λ x. length x.frame ≤ 65535) (map v xs) → All (λ x. length (v x).frame ≤ 65791) xs
 short_items v xs h = λ k d lt.
-    subst (λ (x : Sent). length x.frame ≤ 65535) (get_or-map v xs k d) (h k (v d) (omega (arith, length-map xs v, lt)))
+    let short = subst (λ (x : Sent). length x.frame ≤ 65535) (get_or-map v xs k d) (h k (v d) (omega (arith, length-map xs v, lt))) in
+    omega (arith, short)
 
 module _ (j : Job) (s : State) (at_end : IsEndOf j s) where
   pub captures_are : (f : Front) (ts : List Time) → j.times ≡ ts → switches_files f ts s.traffic.edges 0 s.network.names ≡ switches_files f j.times (run_of j).edges 0 j.network.names

@@ -14,12 +14,12 @@ fit_records (c ∷ cs) h zero d lt = let short = h zero (record_of d) (omega ari
 fit_records (c ∷ cs) h (suc k) d lt = fit_records cs (λ j e l. h (suc j) e (omega (arith, l))) k d (omega arith)
 
 -- those of a port are among those that were sent
-pub frames_short : (ts : List Time) (s p : ℕ) (xs : List Sent) → All (λ x. length x.frame ≤ 65535) xs → AreShort (frames_at ts s p xs)
+pub frames_short : (ts : List Time) (s p : ℕ) (xs : List Sent) → All (λ x. length x.frame ≤ 65791) xs → AreShort (frames_at ts s p xs)
 frames_short ts s p [] h = All-nil _
 frames_short ts s p (x ∷ xs) h = by (frames_short ts s p xs (λ k d l. h (suc k) d (omega (arith, l)))) (x.switch == s && x.port == p)
   where
     by : AreShort (frames_at ts s p xs) → (b : Bool) → AreShort (if b then record_for ts x ∷ frames_at ts s p xs else frames_at ts s p xs)
-    by rest true = All-cons (λ (r : Record). length r.bytes ≤ 65535) (record_for ts x) (frames_at ts s p xs) (h zero x (omega arith)) rest
+    by rest true = All-cons (λ (r : Record). length r.bytes ≤ 65791) (record_for ts x) (frames_at ts s p xs) (h zero x (omega arith)) rest
     by rest false = rest
 
 -- there is nothing behind the last list
@@ -28,7 +28,7 @@ past_last [] p le = refl
 past_last (l ∷ ls) zero le = absurd (omega arith)
 past_last (l ∷ ls) (suc p) le = past_last ls p (omega arith)
 
-pub lists_short : (ts : List Time) (s : ℕ) (xs : List Sent) (ls : List (List Record)) → All (λ x. length x.frame ≤ 65535) xs → AreByPort ts s xs ls → (p : ℕ) → AreShort (get_or ls p [])
+pub lists_short : (ts : List Time) (s : ℕ) (xs : List Sent) (ls : List (List Record)) → All (λ x. length x.frame ≤ 65791) xs → AreByPort ts s xs ls → (p : ℕ) → AreShort (get_or ls p [])
 lists_short ts s xs ls h a p = by (nat_lt p 511) refl
   where
     by : (b : Bool) → nat_lt p 511 ≡ b → AreShort (get_or ls p [])

@@ -15,7 +15,7 @@ IsPut ts s x old new = (xs : List Sent) → AreByPort ts s xs old → AreByPort 
 
 -- captures hold such frames
 abbrev pub AreShort : List Record → Type 0
-AreShort rs = All (λ r. length r.bytes ≤ 65535) rs
+AreShort rs = All (λ r. length r.bytes ≤ 65791) rs
 
 -- the files of lists of frames, the first of which is of port p
 abbrev pub lists_files : Front → (name : List ℕ) → (port : ℕ) → List (List Record) → List (List ℕ × List ℕ)

@@ -178,7 +178,7 @@ fn put_switch(
     switch: u16,
     sent: &[Sent],
 ) -> Result<(), AllocError>
-    requires { All (λ x. length x.frame.items ≤ 65535) sent.now }
+    requires { All (λ x. length x.frame.items ≤ 65791) sent.now }
     ensures { OnOk result (files_of files.new.items
         ≡ files_of files.old.items ++ captures.switch_files (front_view front.now) name.now (map time_view times.now) (map sent_of sent.now) switch) }
 {
@@ -196,7 +196,7 @@ pub fn put_captures(
     times: &[Time],
     sent: &[Sent],
 ) -> Result<(), AllocError>
-    requires { All (λ x. length x.frame.items ≤ 65535) sent.now }
+    requires { All (λ x. length x.frame.items ≤ 65791) sent.now }
     ensures { OnOk result (files_of files.new.items
         ≡ files_of files.old.items ++ captures.switches_files (front_view front.now) (map time_view times.now) (map sent_of sent.now) 0 network.now.names) }
 {

@@ -12,7 +12,7 @@ use Rattle.run_captures.proofs.captures.put_switch.Goals as goal
 pub put_files-requires : goal.put_files-requires
 put_files-requires c =
     rw c.deref.ensures.value (lists_short (map time_view c.args.times.now) c.args.switch (map sent_of c.args.sent.now) (map list_view c.in_ok-lists.lists.items)
-    (All-map (λ (x : Sent). length x.frame ≤ 65535) sent_of c.args.sent.now c.requires) c.in_ok-lists.ensures)
+    (All-map (λ (x : Sent). length x.frame ≤ 65791) sent_of c.args.sent.now c.requires) c.in_ok-lists.ensures)
 
 pub returns : goal.returns
 returns c =
