@@ -15,17 +15,11 @@ ghost use Rattle.hydra_cli.specs.Command.{command_of};
 ghost use Rattle.hydra_cli.specs.Answers.{Answers, IsComplete};
 
 mod check;
-#[cfg(test)]
-mod check_tests;
 mod command;
-#[cfg(test)]
-mod fabric_tests;
 mod forward;
 #[cfg(test)]
 mod forward_tests;
 mod job;
-#[cfg(test)]
-mod printed_tests;
 mod small;
 #[cfg(test)]
 mod tests;

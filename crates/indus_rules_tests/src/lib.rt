@@ -1,14 +1,11 @@
-//! Worked rows of the rules of types of Indus and of the sums, and tests of `check_property`.
+//! What a typed property says beside what `check` does, and rules on trees that no text spells. The rules stand as rows
+//! of `check` under `tests/` at the top of the repository.
 #![tactic(auto)]
 
 #[cfg(test)]
 mod answers;
 #[cfg(test)]
 mod checks;
-#[cfg(test)]
-mod properties;
-#[cfg(test)]
-mod rule_rows;
 #[cfg(test)]
 mod sum_rows;
 #[cfg(test)]
