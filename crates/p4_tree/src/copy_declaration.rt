@@ -25,7 +25,8 @@ impl Param {
     }
 }
 
-pub(crate) fn copy_params(alloc: Global, list: &[Param]) -> Result<Vec<Param>, AllocError>
+/// Equal parameters, with the same places.
+pub fn copy_params(alloc: Global, list: &[Param]) -> Result<Vec<Param>, AllocError>
     ensures { IfOk result (λ v. v.items ≡ list.now) }
 {
     let mut copies = Vec::new(alloc);
@@ -49,10 +50,8 @@ impl Register {
     }
 }
 
-pub(crate) fn copy_fields(
-    alloc: Global,
-    list: &[(PTy, Name)],
-) -> Result<Vec<(PTy, Name)>, AllocError>
+/// Equal fields of a header or struct, or parameters of an action: types with names.
+pub fn copy_fields(alloc: Global, list: &[(PTy, Name)]) -> Result<Vec<(PTy, Name)>, AllocError>
     ensures { IfOk result (λ v. v.items ≡ list.now) }
 {
     let mut copies = Vec::new(alloc);
@@ -62,7 +61,8 @@ pub(crate) fn copy_fields(
     Ok(copies)
 }
 
-fn copy_field(alloc: Global, field: &(PTy, Name)) -> Result<(PTy, Name), AllocError>
+/// An equal field: a type with a name.
+pub fn copy_field(alloc: Global, field: &(PTy, Name)) -> Result<(PTy, Name), AllocError>
     ensures { IfOk result (λ f. f ≡ field.now) }
 {
     let ty = field.0.copy(alloc)?;
