@@ -38,7 +38,7 @@ module _ {T Z C : Type 0} (m : Monitor T Z C) (f : Parts) (net : Wiring) (d : (s
 
   -- the linked program of each switch. What it would view is not looked at
   abbrev pub linked_machine : Machine Tables Kept Queued C
-  linked_machine = machine_with m.controls (record { program = λ s. linked_parts m s (ports_at net.links s) f (d s); reads = λ s. [] })
+  linked_machine = machine_with (λ s. m.controls) (record { program = λ s. linked_parts m s (ports_at net.links s) f (d s); reads = λ s. [] })
 
   module _ (Fit : T → Type 0) (Keeps : Z → (ℕ → C) → Kept → Type 0) (IsVariable : ℕ → Type 0) (IsFitContents : (variable : ℕ) → C → Type 0) where
     -- a linked enter and a linked leave keep to the laws of the two halves
