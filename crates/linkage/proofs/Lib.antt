@@ -4,3 +4,5 @@ pub mod Agree
 pub mod Keep
 pub mod Runs
 pub mod NoRejects
+pub mod MovedRuns
+pub mod MovedLinkages

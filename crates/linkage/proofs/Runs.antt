@@ -36,12 +36,12 @@ end_fits : {C : Type 0} (Var : ℕ → Type 0) (Fit : ℕ → ℕ → C → Type
 end_fits Var Fit i zero es h = (tt, h)
 end_fits Var Fit i (suc n) es h = (tt, (tt, end_fits Var Fit i n es h))
 
-closing_fits : {C : Type 0} (Var : ℕ → Type 0) (Fit : ℕ → ℕ → C → Type 0) (hops i n : ℕ) → AllByRecursion (IsFitEvent Var Fit) (closing hops i n)
+pub closing_fits : {C : Type 0} (Var : ℕ → Type 0) (Fit : ℕ → ℕ → C → Type 0) (hops i n : ℕ) → AllByRecursion (IsFitEvent Var Fit) (closing hops i n)
 closing_fits Var Fit hops i zero = tt
 closing_fits Var Fit hops i (suc n) = end_fits Var Fit i hops (closing hops (i + 1) n) (closing_fits Var Fit hops (i + 1) n)
 
 -- a packet of a valid world is as the world says
-at_place : {A : Type 0} (P : A → Type 0) (xs : List A) (i : ℕ) (x : A) → All P xs → slice_get xs i ≡ Some x → P x
+pub at_place : {A : Type 0} (P : A → Type 0) (xs : List A) (i : ℕ) (x : A) → All P xs → slice_get xs i ≡ Some x → P x
 at_place P [] i x h e = absurd (cc)
 at_place P (y ∷ xs) zero x h e = let q : y ≡ x = (cc) in subst P q (All-head P y xs h)
 at_place P (y ∷ xs) (suc i) x h e = at_place P xs i x (All-tail P y xs h) e

@@ -1,3 +1,4 @@
 -- What callers rest on, in reading order.
 pub mod Linkage
 pub mod HalvesLaws
+pub mod Moves

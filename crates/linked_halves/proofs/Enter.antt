@@ -2,6 +2,7 @@
 use Rattle.std.proofs.Common.{◌≡◌, ℕ, ◌%◌, ◌^◌, ◌<◌, List, [], ◌∷◌, ◌++◌, map, Bool, true, false, not, ◌&&◌, cond, Option, Some, None, refl, sym, ap, ap₂, ◌∙◌, subst, append-nil, arith}
 use Rattle.std.specs.Prelude.{if◌then◌else◌, nat_eq}
 use Rattle.std.specs.List.{filter, AllByRecursion}
+use Rattle.std.proofs.Math.Nat.{mod-eq_of_lt}
 use Rattle.bit_values.specs.Bits.{Word, word}
 use Rattle.bit_values.specs.Widths.{sound_width}
 use Rattle.lex_text.specs.Names.{same_text, same_path}
@@ -40,9 +41,11 @@ use Rattle.monitor_laws.specs.MonitorLaws.{report_digest, MeansTops, HasTele, Do
 use Rattle.monitor_laws.proofs.Paths.{free_above, sensor_mine}
 use Rattle.monitor_laws.proofs.Fields.{has_set, has_same, has_moved, all_names, all_region, zeros_zeroed, below_apart}
 use Rattle.monitor_laws.proofs.Frames.{others_alike, bare_alike, view_alike, view_long, vars_long, assignment, zeroed_vars, vars_other, vars_headers, vars_alike, vars_fresh}
+use Rattle.linked_halves.specs.Widths.{HasSoundFields, HasWidths}
 use Rattle.linked_halves.specs.Statements.{vars_of, entry_stmts, entry_stmt}
 use Rattle.linked_halves.specs.LinkedParts.{Declarations, Joins, core_parts, linked_parts}
 use Rattle.linked_halves.specs.Held.{is_in, KeptBy, HoldsCore, HeldBy}
+use Rattle.linked_halves.proofs.Widths.{calls_widths, entry_widths, queued_widths}
 use Rattle.linked_halves.proofs.Ports.{unless_port}
 use Rattle.linked_halves.proofs.LinkedCalls.{core_alike, core_means, core_lengths}
 use Rattle.linked_halves.proofs.QueuedStores.{egress_alike, egress_tele, egress_meta, egress_plain}
@@ -76,13 +79,13 @@ near_run : (x y : Store) (a b : Registers) → Near x y → ((n : List ℕ) → 
 near_run x y a b h cells = record { values = λ q i. h.alike.values q i; headers = λ q o. h.alike.headers q o; cells = cells; digests = refl }
 
 -- the store when the header is made and marked
-abbrev opened : Store → Store
-opened s = set_value (set_valid (zeroed s tele_header) tele_header true) mark_path (word 8 72)
+abbrev opened : (mark : ℕ) → Store → Store
+opened mark s = set_value (set_valid (zeroed s tele_header) tele_header true) mark_path (mark_word mark)
 
-opened_alike : (a b : Run) → Alike a b → Alike a (in_store b (opened b.store))
-opened_alike a b h =
+opened_alike : (mark : ℕ) (a b : Run) → Alike a b → Alike a (in_store b (opened mark b.store))
+opened_alike mark a b h =
     record {
-      values = λ q i. ap (λ t. cond t (word 8 72) ((zeroed b.store tele_header).values q)) (free_apart mark_path q refl i)
+      values = λ q i. ap (λ t. cond t (mark_word mark) ((zeroed b.store tele_header).values q)) (free_apart mark_path q refl i)
           ∙ ap (λ t. cond t (zero_of (b.store.values q)) (b.store.values q)) (free_above q i)
           ∙ h.values q i;
       headers = λ q o. ap (λ t. cond t (Some true) (b.store.headers q)) (free_apart tele_header q refl o) ∙ h.headers q o;
@@ -139,8 +142,8 @@ module _ {T Z C : Type 0} (m : Monitor T Z C) (Fit : T → Type 0) (Keeps : Z �
     came : e.0.store.values ingress_port ≡ b.store.values ingress_port
     goes : e.1 ≡ Go
 
-module _ {T Z C : Type 0} (m : Monitor T Z C) (Fit : T → Type 0) (Keeps : Z → (ℕ → C) → Kept → Type 0) (IsVariable : ℕ → Type 0) (IsFitContents : (variable : ℕ) → C → Type 0)
-    (laws : MonitorLaws m Fit Keeps IsVariable IsFitContents) (f : Parts) (own : IsForwarding f) (sw : ℕ) (links : ℕ → List ℕ) (low : AllByRecursion (λ n. n < 512) (links sw))
+module _ {T Z C : Type 0} (m : Monitor T Z C) (Fit : T → Type 0) (Keeps : Z → (ℕ → C) → Kept → Type 0) (FitView : List Word → Type 0) (IsVariable : ℕ → Type 0) (IsFitContents : (variable : ℕ) → C → Type 0)
+    (laws : MonitorLaws m Fit Keeps FitView IsVariable IsFitContents) (f : Parts) (own : IsForwarding f) (sound : HasSoundFields f) (fit_views : (s : Store) → HasWidths f s → FitView (view_of m.views s)) (sw : ℕ) (links : ℕ → List ℕ) (low : AllByRecursion (λ n. n < 512) (links sw))
     (decls : Declarations) (joins : Joins m f decls) (net : Wiring)
   where
     abbrev core : Parts
@@ -189,7 +192,7 @@ module _ {T Z C : Type 0} (m : Monitor T Z C) (Fit : T → Type 0) (Keeps : Z �
         }
 
     -- the header is made and marked
-    opened_tele : (port : ℕ) (s : Store) → Begun m.fields port s → HasTele m Fit Keeps (opened s) m.property.tele
+    opened_tele : (port : ℕ) (s : Store) → Begun m.fields port s → HasTele m Fit Keeps (opened m.mark s) m.property.tele
     opened_tele port s h =
         let t1 = set_valid (zeroed s tele_header) tele_header true in
         let zeroed_words : HasWords tele_header m.fields (zeros m.fields) (zeroed s tele_header) = zeros_zeroed tele_header tele_header m.fields s h.words.1 in
@@ -199,21 +202,23 @@ module _ {T Z C : Type 0} (m : Monitor T Z C) (Fit : T → Type 0) (Keeps : Z �
           standard = h.standard;
           valid = refl;
           mark = refl;
-          words = subst (λ ws. HasWords tele_header m.fields ws (opened s)) (sym laws.start_zero) (has_set tele_header m.fields (zeros m.fields) t1 mark_path mark_word (below_apart tele_header mark_field.name m.fields laws.apart.0) made_words);
+          words = subst (λ ws. HasWords tele_header m.fields ws (opened m.mark s)) (sym laws.start_zero) (has_set tele_header m.fields (zeros m.fields) t1 mark_path (mark_word m.mark) (below_apart tele_header mark_field.name m.fields laws.apart.0) made_words);
           fits = laws.start_fits;
         }
 
-    opened_vars : (s : Store) → HasWords [] (fields_of m.entry_locals) (zeros (fields_of m.entry_locals)) s → HasWords [] (fields_of m.entry_locals) (zeros (fields_of m.entry_locals)) (opened s)
+    opened_vars : (s : Store) → HasWords [] (fields_of m.entry_locals) (zeros (fields_of m.entry_locals)) s → HasWords [] (fields_of m.entry_locals) (zeros (fields_of m.entry_locals)) (opened m.mark s)
     opened_vars s h =
-        has_moved [] (fields_of m.entry_locals) (zeros (fields_of m.entry_locals)) s (opened s)
-        (all_names (λ n. (opened s).values (n ∷ []) ≡ s.values (n ∷ [])) (fields_of m.entry_locals) (λ n. ap (λ b. cond b mark_word (s.values (n ∷ []))) (mark_single n))) h
+        has_moved [] (fields_of m.entry_locals) (zeros (fields_of m.entry_locals)) s (opened m.mark s)
+        (all_names (λ n. (opened m.mark s).values (n ∷ []) ≡ s.values (n ∷ [])) (fields_of m.entry_locals) (λ n. ap (λ b. cond b (mark_word m.mark) (s.values (n ∷ []))) (mark_single n))) h
 
     -- the header is made and marked, and then init runs
-    entry_runs : (calls : Calls) (port : ℕ) (b : Run) → Begun m.fields port b.store → meaning_of calls (entry_stmts m sw (links sw)) b ≡ meaning_of calls (m.entry sw) (in_store b (opened b.store))
+    entry_runs : (calls : Calls) (port : ℕ) (b : Run) → Begun m.fields port b.store → meaning_of calls (entry_stmts m sw (links sw)) b ≡ meaning_of calls (m.entry sw) (in_store b (opened m.mark b.store))
     entry_runs calls port b h =
         let made_run = in_store b (set_valid (zeroed b.store tele_header) tele_header true) in
-        ap (λ o. meaning_of calls (next (assign 0 mark_path (number 8 72)) (m.entry sw)) (in_store b (made o true b.store tele_header))) h.invalid
-        ∙ ap (λ e. after e.1 e.0 (meaning_of calls (m.entry sw))) (assignment calls made_run 0 mark_path (number 8 72) (word 8 0) (word 8 72) refl tt (ap zero_of h.words.0) refl)
+        let low_mark : m.mark % 2 ^ 8 ≡ m.mark = mod-eq_of_lt laws.marked in
+        ap (λ o. meaning_of calls (next (assign 0 mark_path (number 8 m.mark)) (m.entry sw)) (in_store b (made o true b.store tele_header))) h.invalid
+        ∙ ap (λ e. after e.1 e.0 (meaning_of calls (m.entry sw))) (assignment calls made_run 0 mark_path (number 8 m.mark) (word 8 0) (word 8 m.mark) refl tt (ap zero_of h.words.0) (ap (word 8) low_mark)
+        ∙ ap (λ n. (in_store made_run (set_value made_run.store mark_path (word 8 n)), Go)) low_mark)
 
     -- the entry statement's test
     entry_test : (calls : Calls) (port : ℕ) (b : Run) → b.store.headers (standard_root ∷ []) ≡ None → b.store.values ingress_port ≡ word 9 port → port < 512 → meaning_of_stmt calls (entry_stmt m sw (links sw)) b ≡ (if is_in port (links sw) then (b, Go) else meaning_of calls (entry_stmts m sw (links sw)) b)
@@ -221,17 +226,17 @@ module _ {T Z C : Type 0} (m : Monitor T Z C) (Fit : T → Type 0) (Keeps : Z �
 
     -- at an edge init runs
     entry_edge : (calls : Calls) (held : Tables) → MeansTops m Fit Keeps held calls → (port : ℕ) (view : List Word) (a b : Run) (z : Z) (c : ℕ → C) → Alike a b → Begun m.fields port b.store → HasWords [] (fields_of m.entry_locals) (zeros (fields_of m.entry_locals)) b.store
-        → Keeps z c (record { registers = b.cells; tables = held }) → view_of m.views a.store ≡ view → port < 512 → is_in port (links sw) ≡ false
+        → Keeps z c (record { registers = b.cells; tables = held }) → view_of m.views a.store ≡ view → FitView view → port < 512 → is_in port (links sw) ≡ false
         → Opened m Fit Keeps held a b (meaning_of_stmt calls (entry_stmt m sw (links sw)) b) c (m.property.init (reads_at sw true false view c) (nothing_yet m.property.tele z))
-    entry_edge calls held means port view a b z c alike g fresh keeps seen lt out =
+    entry_edge calls held means port view a b z c alike g fresh keeps seen fit lt out =
         let r = reads_at sw true false view c in
-        let b' = in_store b (opened b.store) in
+        let b' = in_store b (opened m.mark b.store) in
         let d = m.property.init r (nothing_yet m.property.tele z) in
-        let alike' = opened_alike a b alike in
+        let alike' = opened_alike m.mark a b alike in
         let tele = opened_tele port b.store g in
         let e = meaning_of calls (m.entry sw) b' in
         let ran : Does m Fit Keeps held b' e c d =
-        laws.entry calls held means b' r m.property.tele z refl refl
+        laws.entry calls held means b' r m.property.tele z refl refl fit
         (record { tele = tele; keeps = keeps; view = view_alike m.views a b' alike' laws.views ∙ seen; fresh = opened_vars b.store fresh }) in
         let same : meaning_of_stmt calls (entry_stmt m sw (links sw)) b ≡ e = entry_test calls port b g.standard g.arrived lt ∙ (ap (λ t. if t then (b, Go) else meaning_of calls (entry_stmts m sw (links sw)) b) out ∙ entry_runs calls port b g) in
         let done : Opened m Fit Keeps held a b e c d =
@@ -254,17 +259,18 @@ module _ {T Z C : Type 0} (m : Monitor T Z C) (Fit : T → Type 0) (Keeps : Z �
         subst (λ e. Opened m Fit Keeps held a b e c (nothing_yet t z)) (sym same) done
 
     abbrev Holds : Bool → T → Queued → Queued → Type 0
-    Holds first t q q' = HoldsCore m Fit Keeps links sw first q t q'
+    Holds first t q q' = HoldsCore m Fit Keeps f links sw first q t q'
 
     -- both queue the packet, or both drop it
-    both_queued : (first : Bool) (port : ℕ) (t : T) (x y : Store) (rest rest' : List ℕ) → Alike (bare x) (bare y) → HasTele m Fit Keeps y t → rest' ≡ rest → y.values ingress_port ≡ word 9 port → port < 512 → first ≡ not (is_in port (links sw))
+    both_queued : (first : Bool) (port : ℕ) (t : T) (x y : Store) (rest rest' : List ℕ) → HasWidths f x → Alike (bare x) (bare y) → HasTele m Fit Keeps y t → rest' ≡ rest → y.values ingress_port ≡ word 9 port → port < 512 → first ≡ not (is_in port (links sw))
         → SameQueued (Holds first t) (unless_dropped (is_dropped x) (record { store = to_egress f x; rest = rest })) (unless_dropped (is_dropped y) (record { store = to_egress core y; rest = rest' }))
-    both_queued first port t x y rest rest' h tele same came lt is =
+    both_queued first port t x y rest rest' widths h tele same came lt is =
         let drops : is_dropped y ≡ is_dropped x = ap (λ (w : Word). nat_eq w.value 511) (h.values egress_spec refl) in
         let q : Queued = record { store = to_egress f x; rest = rest } in
         let q' : Queued = record { store = to_egress core y; rest = rest' } in
         let held : Holds first t q q' =
         record {
+          widths = queued_widths f sound x widths;
           alike = egress_alike m sw (links sw) f decls x y h;
           tele = egress_tele m sw (links sw) f decls Fit Keeps y t tele;
           rest = same;
@@ -330,16 +336,16 @@ module _ {T Z C : Type 0} (m : Monitor T Z C) (Fit : T → Type 0) (Keeps : Z �
 
       -- a linked entry half does what a plain one does, and a part
       abbrev Agrees : (first : Bool) → Doing T Z → (plain linked : pass.Entered) → Type 0
-      Agrees first d x y = EnterAgrees net m.property (telemetry_of m) (KeptBy m Fit Keeps f) (HoldsCore m Fit Keeps links) Fit sw first c k d (entered_of (view_of m.views) a.tables x) (entered_of (λ s. []) b.tables y)
+      Agrees first d x y = EnterAgrees net m.property (telemetry_of m) (KeptBy m Fit Keeps f) (HoldsCore m Fit Keeps f links) Fit sw first c k d (entered_of (view_of m.views) a.tables x) (entered_of (λ s. []) b.tables y)
 
       abbrev LinkedAgrees : (first : Bool) → Doing T Z → (plain linked : pass.Entered) → Type 0
-      LinkedAgrees first d x y = EnterAgrees net m.property (telemetry_of m) (KeptBy m Fit Keeps f) (HeldBy m Fit Keeps links) Fit sw first c k d (entered_of (view_of m.views) a.tables x) (entered_of (λ s. []) b.tables y)
+      LinkedAgrees first d x y = EnterAgrees net m.property (telemetry_of m) (KeptBy m Fit Keeps f) (HeldBy m Fit Keeps f links) Fit sw first c k d (entered_of (view_of m.views) a.tables x) (entered_of (λ s. []) b.tables y)
 
       -- behind the entry statement the program's own ingress runs
-      ingress_agrees : (first : Bool) (port : ℕ) (d : Doing T Z) (u v : Run) (rest rest' : List ℕ) → Alike u v → (own_vars v).cells rejects_register ≡ word 32 (k % 2 ^ 32) ∷ [] → filter is_report (own_vars v).digests ≡ [] → rest' ≡ rest
+      ingress_agrees : (first : Bool) (port : ℕ) (d : Doing T Z) (u v : Run) (rest rest' : List ℕ) → HasWidths f u.store → Alike u v → (own_vars v).cells rejects_register ≡ word 32 (k % 2 ^ 32) ∷ [] → filter is_report (own_vars v).digests ≡ [] → rest' ≡ rest
           → (own_vars v).store.values ingress_port ≡ word 9 port → port < 512 → first ≡ not (is_in port (links sw)) → Opened m Fit Keeps b.tables (plain_vars u) (own_vars v) (meaning_of_stmt core_calls (entry_stmt m sw (links sw)) (own_vars v)) c d
           → Agrees first d (entered_from f a.tables rest u) (entered_from core b.tables rest' v)
-      ingress_agrees first port d u v rest rest' alike count silent same came lt is h =
+      ingress_agrees first port d u v rest rest' widths alike count silent same came lt is h =
           let vars = vars_ran u v alike in
           let e = meaning_of_stmt core_calls (entry_stmt m sw (links sw)) (own_vars v) in
           let body = f.ingress.body in
@@ -364,7 +370,7 @@ module _ {T Z C : Type 0} (m : Monitor T Z C) (Fit : T → Type 0) (Keeps : Z �
                   entries = kept.entries;
                   monitor = laws.keeps_same d.sensors c (record { registers = e.0.cells; tables = b.tables }) (record { registers = y.cells; tables = b.tables }) (λ n i. ran.stays.cells n (sensor_mine n i)) (λ n i. refl) h.keeps;
                 };
-            queued = both_queued first port d.tele x.store y.store rest rest' (bare_alike x y ran.alike) (tele_stays m Fit Keeps d.tele e.0 y h.tele ran.stays) same (ran.stays.values ingress_port refl ∙ (h.came ∙ came)) lt is;
+            queued = both_queued first port d.tele x.store y.store rest rest' (calls_widths f a.tables body (plain_vars u) (calls_widths f a.tables f.ingress.locals u widths)) (bare_alike x y ran.alike) (tele_stays m Fit Keeps d.tele e.0 y h.tele ran.stays) same (ran.stays.values ingress_port refl ∙ (h.came ∙ came)) lt is;
             digests = same_digests x y d.reports ran.alike told;
           } in
           subst (λ x. Agrees first d (pass.entered f u.store rest x) (entered_from core b.tables rest' v)) (sym plain_is)
@@ -373,11 +379,11 @@ module _ {T Z C : Type 0} (m : Monitor T Z C) (Fit : T → Type 0) (Keeps : Z �
       -- ---- with the packet's length elsewhere
 
       -- queued or dropped
-      held_plain : (first : Bool) (t : T) (s : Store) (rest : List ℕ) → s.headers (metadata_root ∷ []) ≡ None → (q : Queued) → Holds first t q (record { store = to_egress core (plain_store s); rest = rest }) → HeldBy m Fit Keeps links sw first q t (record { store = to_egress core s; rest = rest })
+      held_plain : (first : Bool) (t : T) (s : Store) (rest : List ℕ) → s.headers (metadata_root ∷ []) ≡ None → (q : Queued) → Holds first t q (record { store = to_egress core (plain_store s); rest = rest }) → HeldBy m Fit Keeps f links sw first q t (record { store = to_egress core s; rest = rest })
       held_plain first t s rest meta q h =
           record { plain = subst (λ u. Holds first t q (record { store = u; rest = rest })) (egress_plain m sw (links sw) f decls s) h; meta = egress_meta m sw (links sw) f decls s meta }
 
-      queued_plain : (first : Bool) (t : T) (b : Bool) (o : Option Queued) (q1 q2 : Queued) → ((q : Queued) → Holds first t q q1 → HeldBy m Fit Keeps links sw first q t q2) → SameQueued (Holds first t) o (unless_dropped b q1) → SameQueued (λ q q'. HeldBy m Fit Keeps links sw first q t q') o (unless_dropped b q2)
+      queued_plain : (first : Bool) (t : T) (b : Bool) (o : Option Queued) (q1 q2 : Queued) → ((q : Queued) → Holds first t q q1 → HeldBy m Fit Keeps f links sw first q t q2) → SameQueued (Holds first t) o (unless_dropped b q1) → SameQueued (λ q q'. HeldBy m Fit Keeps f links sw first q t q') o (unless_dropped b q2)
       queued_plain first t true None q1 q2 f' h = tt
       queued_plain first t true (Some q) q1 q2 f' h = h
       queued_plain first t false None q1 q2 f' h = h
@@ -411,23 +417,24 @@ module _ {T Z C : Type 0} (m : Monitor T Z C) (Fit : T → Type 0) (Keeps : Z �
           → LinkedAgrees true (entry_part m.property (reads_at sw true false (entry_view port frame) c) t z) (parts_enter f a.tables a.registers port frame) (parts_enter linked b.tables b.registers port frame)
       unfolding parts_enter
       enter_edge port t frame lt out start =
-          let x = plain_end m Fit Keeps IsVariable IsFitContents laws f own sw (links sw) low decls port frame in
-          let y = linked_end m Fit Keeps IsVariable IsFitContents laws f own sw (links sw) low decls port frame in
-          let h = edge_parsed m Fit Keeps IsVariable IsFitContents laws f own sw (links sw) low decls port frame lt out in
+          let x = plain_end m Fit Keeps FitView IsVariable IsFitContents laws f own sw (links sw) low decls port frame in
+          let y = linked_end m Fit Keeps FitView IsVariable IsFitContents laws f own sw (links sw) low decls port frame in
+          let h = edge_parsed m Fit Keeps FitView IsVariable IsFitContents laws f own sw (links sw) low decls port frame lt out in
           let near = behind_near x y h.alike h.error in
           let u = run_from (store_behind x) a.registers in
           let v = run_from (store_behind y) b.registers in
           let ran = all_ran no_calls no_calls no_calls_alike f.verify u (plainly v) own.verify (near_run (store_behind x) (store_behind y) a.registers b.registers near kept.own) in
           let u' = (meaning_of no_calls f.verify u).0 in
           let v' = (meaning_of no_calls f.verify (plainly v)).0 in
+          let widths = entry_widths f sound port frame u refl in
           let w = own_vars v' in
           let vars = vars_ran u' v' ran.alike in
           let g = begun_stays m.fields port (begun_run v') w (begun_vars port v'.store (begun_stays m.fields port (plainly v) v' (behind_begun port y h.fact) ran.stays)) vars.stays in
           let keeps = laws.keeps_same z c b (record { registers = w.cells; tables = b.tables }) (λ n i. vars.stays.cells n (sensor_mine n i) ∙ ran.stays.cells n (sensor_mine n i)) (λ n i. refl) kept.monitor in
           let view = view_of m.views u'.store in
           let d = m.property.init (reads_at sw true false view c) (nothing_yet m.property.tele z) in
-          let ended = entry_edge core_calls b.tables means port view (plain_vars u') w z c vars.alike g (fresh_vars u' v' ran.alike) keeps (view_vars calls u') lt out in
-          let core_done = ingress_agrees true port d u' v' x.reading.rest y.reading.rest ran.alike (vars.stays.cells rejects_register refl ∙ (ran.stays.cells rejects_register refl ∙ kept.rejects)) (vars.stays.reports ∙ ran.stays.reports) h.rest g.arrived lt (ap not (sym out)) ended in
+          let ended = entry_edge core_calls b.tables means port view (plain_vars u') w z c vars.alike g (fresh_vars u' v' ran.alike) keeps (view_vars calls u') (fit_views u'.store widths) lt out in
+          let core_done = ingress_agrees true port d u' v' x.reading.rest y.reading.rest widths ran.alike (vars.stays.cells rejects_register refl ∙ (ran.stays.cells rejects_register refl ∙ kept.rejects)) (vars.stays.reports ∙ ran.stays.reports) h.rest g.arrived lt (ap not (sym out)) ended in
           let keep = own_keeps f.verify own.verify in
           let none = plainly_none no_calls no_calls f.verify v (no_length_calls (v.store.values packet_length)) keep near.standard near.meta in
           let r = (meaning_of no_calls (plain_stmts f.verify) v).0 in
@@ -437,25 +444,26 @@ module _ {T Z C : Type 0} (m : Monitor T Z C) (Fit : T → Type 0) (Keeps : Z �
 
       -- a frame by a link: nothing is done
       pub enter_link : (port : ℕ) (t : T) (frame : List ℕ) → port < 512 → is_in port (links sw) ≡ true → Fit t
-          → LinkedAgrees false (entry_part m.property (reads_at sw false false (entry_view port frame) c) t z) (parts_enter f a.tables a.registers port frame) (parts_enter linked b.tables b.registers port (tele_bytes (m.words t) ++ frame))
+          → LinkedAgrees false (entry_part m.property (reads_at sw false false (entry_view port frame) c) t z) (parts_enter f a.tables a.registers port frame) (parts_enter linked b.tables b.registers port (tele_bytes m.mark (m.words t) ++ frame))
       unfolding parts_enter
       enter_link port t frame lt at fits =
-          let x = plain_end m Fit Keeps IsVariable IsFitContents laws f own sw (links sw) low decls port frame in
-          let y = linked_end m Fit Keeps IsVariable IsFitContents laws f own sw (links sw) low decls port (tele_bytes (m.words t) ++ frame) in
-          let h = link_parsed m Fit Keeps IsVariable IsFitContents laws f own sw (links sw) low decls port frame t lt at fits in
+          let x = plain_end m Fit Keeps FitView IsVariable IsFitContents laws f own sw (links sw) low decls port frame in
+          let y = linked_end m Fit Keeps FitView IsVariable IsFitContents laws f own sw (links sw) low decls port (tele_bytes m.mark (m.words t) ++ frame) in
+          let h = link_parsed m Fit Keeps FitView IsVariable IsFitContents laws f own sw (links sw) low decls port frame t lt at fits in
           let near = behind_near x y h.alike h.error in
           let u = run_from (store_behind x) a.registers in
           let v = run_from (store_behind y) b.registers in
           let ran = all_ran no_calls no_calls no_calls_alike f.verify u (plainly v) own.verify (near_run (store_behind x) (store_behind y) a.registers b.registers near kept.own) in
           let u' = (meaning_of no_calls f.verify u).0 in
           let v' = (meaning_of no_calls f.verify (plainly v)).0 in
+          let widths = entry_widths f sound port frame u refl in
           let w = own_vars v' in
           let vars = vars_ran u' v' ran.alike in
           let g = taken_stays m Fit Keeps port t (begun_run v') w (taken_vars port t v'.store (taken_stays m Fit Keeps port t (plainly v) v' (behind_taken port t y h.fact) ran.stays)) vars.stays in
           let keeps = laws.keeps_same z c b (record { registers = w.cells; tables = b.tables }) (λ n i. vars.stays.cells n (sensor_mine n i) ∙ ran.stays.cells n (sensor_mine n i)) (λ n i. refl) kept.monitor in
           let d = nothing_yet t z in
           let ended = entry_link core_calls b.tables port t (plain_vars u') w z c vars.alike g keeps lt at in
-          let core_done = ingress_agrees false port d u' v' x.reading.rest y.reading.rest ran.alike (vars.stays.cells rejects_register refl ∙ (ran.stays.cells rejects_register refl ∙ kept.rejects)) (vars.stays.reports ∙ ran.stays.reports) h.rest g.arrived lt (ap not (sym at)) ended in
+          let core_done = ingress_agrees false port d u' v' x.reading.rest y.reading.rest widths ran.alike (vars.stays.cells rejects_register refl ∙ (ran.stays.cells rejects_register refl ∙ kept.rejects)) (vars.stays.reports ∙ ran.stays.reports) h.rest g.arrived lt (ap not (sym at)) ended in
           let keep = own_keeps f.verify own.verify in
           let none = plainly_none no_calls no_calls f.verify v (no_length_calls (v.store.values packet_length)) keep near.standard near.meta in
           let r = (meaning_of no_calls (plain_stmts f.verify) v).0 in

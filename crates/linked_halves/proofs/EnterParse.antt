@@ -11,7 +11,7 @@ use Rattle.bit_values.specs.Bytes.{bits_of}
 use Rattle.bit_values.proofs.BitsLemmas.{cast_of_small}
 use Rattle.bit_values.proofs.BytesLemmas.{bits_of-append}
 use Rattle.bit_writer.specs.Bytes.{words_bits}
-use Rattle.lex_text.specs.Names.{same_text, same_path, parent}
+use Rattle.lex_text.specs.Names.{same_text, same_path}
 use Rattle.p4_tree.specs.Tree.{Expr, path, binary, to, select, ParserState}
 use Rattle.p4_tree.specs.declared.statement.Op.TheVariants as p4
 use Rattle.p4_tree.specs.Operators.{operate}
@@ -178,14 +178,14 @@ pub record Behind (Fact : Store → Type 0) (x y : ParserEnd) : Type 0 where
   pub rest : y.reading.rest ≡ x.reading.rest
   pub error : y.error ≡ x.error
 
-module _ {T Z C : Type 0} (m : Monitor T Z C) (Fit : T → Type 0) (Keeps : Z → (ℕ → C) → Kept → Type 0) (IsVariable : ℕ → Type 0) (IsFitContents : (variable : ℕ) → C → Type 0)
-    (laws : MonitorLaws m Fit Keeps IsVariable IsFitContents) (f : Parts) (own : IsForwarding f) (sw : ℕ) (links : List ℕ) (low : AllByRecursion (λ n. n < 512) links) (decls : Declarations)
+module _ {T Z C : Type 0} (m : Monitor T Z C) (Fit : T → Type 0) (Keeps : Z → (ℕ → C) → Kept → Type 0) (FitView : List Word → Type 0) (IsVariable : ℕ → Type 0) (IsFitContents : (variable : ℕ) → C → Type 0)
+    (laws : MonitorLaws m Fit Keeps FitView IsVariable IsFitContents) (f : Parts) (own : IsForwarding f) (sw : ℕ) (links : List ℕ) (low : AllByRecursion (λ n. n < 512) links) (decls : Declarations)
   where
     abbrev linked_headers : List Header
     linked_headers = telemetry m.fields ∷ f.headers
 
     abbrev states : List ParserState
-    states = linked_states (suc m.room) links f.states
+    states = linked_states decls.packet (suc m.room) links f.states
 
     abbrev all_fields : List Field
     all_fields = mark_field ∷ m.fields
@@ -310,35 +310,35 @@ module _ {T Z C : Type 0} (m : Monitor T Z C) (Fit : T → Type 0) (Keeps : Z �
         ∙ ap (λ o. led (chosen o) z) (case_is links z.store port lt low)
 
     abbrev filled : T → Store → Store
-    filled t s = fill tele_header m.fields (m.words t) (set_value s mark_path mark_word)
+    filled t s = fill tele_header m.fields (m.words t) (set_value s mark_path (mark_word m.mark))
 
     abbrev taken_store : T → Store → Store
     taken_store t s = set_valid (filled t s) tele_header true
 
     abbrev all_words : T → List Word
-    all_words t = mark_word ∷ m.words t
+    all_words t = mark_word m.mark ∷ m.words t
 
     all_for : (t : T) → Fit t → AreFor all_fields (all_words t)
-    all_for t fits = (refl, omega arith, laws.fitting t fits)
+    all_for t fits = (refl, laws.marked, laws.fitting t fits)
 
     all_whole : (t : T) → Fit t → IsWhole (words_bits (all_words t))
-    all_whole t fits = whole_byte 72 (words_bits (m.words t)) (whole_words m.room m.fields (m.words t) (laws.fitting t fits) laws.whole)
+    all_whole t fits = whole_byte m.mark (words_bits (m.words t)) (whole_words m.room m.fields (m.words t) (laws.fitting t fits) laws.whole)
 
     -- what the telemetry's bytes make of the store, and that it is alike still
     filled_other : (t : T) (s : Store) (q : List (List ℕ)) → is_free q ≡ true → (filled t s).values q ≡ s.values q
     filled_other t s q o =
-        fill_other tele_header m.fields (m.words t) (set_value s mark_path mark_word) q (no_field m.fields q o)
-        ∙ ap (λ b. cond b mark_word (s.values q)) (free_apart mark_path q refl o)
+        fill_other tele_header m.fields (m.words t) (set_value s mark_path (mark_word m.mark)) q (no_field m.fields q o)
+        ∙ ap (λ b. cond b (mark_word m.mark) (s.values q)) (free_apart mark_path q refl o)
 
     filled_headers : (t : T) (s : Store) (q : List (List ℕ)) → (filled t s).headers q ≡ s.headers q
-    filled_headers t s q = ap (λ g. g q) (fill_headers tele_header m.fields (m.words t) (set_value s mark_path mark_word))
+    filled_headers t s q = ap (λ g. g q) (fill_headers tele_header m.fields (m.words t) (set_value s mark_path (mark_word m.mark)))
 
     filled_meta : (t : T) (s : Store) → (filled t s).values length_path ≡ s.values length_path
-    filled_meta t s = fill_other tele_header m.fields (m.words t) (set_value s mark_path mark_word) length_path (all_names (λ n. same_path (tele_header ++ n ∷ []) length_path ≡ false) m.fields (λ n. refl))
+    filled_meta t s = fill_other tele_header m.fields (m.words t) (set_value s mark_path (mark_word m.mark)) length_path (all_names (λ n. same_path (tele_header ++ n ∷ []) length_path ≡ false) m.fields (λ n. refl))
 
     -- the second takes the telemetry
     second_turn : (k n : ℕ) (t : T) (s : Store) (rest : List ℕ) → Fit t → s.headers (metadata_root ∷ []) ≡ None → s.headers (standard_root ∷ []) ≡ None → s.values packet_length ≡ word 32 (cast 32 n) → n ≡ suc m.room + k
-        → turned (body_parsed linked_headers (taken_state (suc m.room)).body (reading_at (measured s n) (words_bits (all_words t) ++ rest))) (taken_state (suc m.room)).next ≡ leads (codes "hydra_start") (reading_at (measured (taken_store t (measured s n)) k) rest)
+        → turned (body_parsed linked_headers (taken_state decls.packet (suc m.room)).body (reading_at (measured s n) (words_bits (all_words t) ++ rest))) (taken_state decls.packet (suc m.room)).next ≡ leads (codes "hydra_start") (reading_at (measured (taken_store t (measured s n)) k) rest)
     second_turn k n t s rest fits meta standard len is =
         let bits = words_bits (all_words t) in
         let s1 = measured s n in
@@ -383,7 +383,7 @@ module _ {T Z C : Type 0} (m : Monitor T Z C) (Fit : T → Type 0) (Keeps : Z �
     more = ap (λ n. suc (suc n)) (length-map f.states own_state)
 
     -- the telemetry's bytes
-    pub bytes_sized : (t : T) → Fit t → length (tele_bytes (m.words t)) ≡ suc m.room
+    pub bytes_sized : (t : T) → Fit t → length (tele_bytes m.mark (m.words t)) ≡ suc m.room
     bytes_sized t fits =
         let for_fields = laws.fitting t fits in
         ap suc (length-bytes m.room (words_bits (m.words t)) (whole_words m.room m.fields (m.words t) for_fields laws.whole) (length-words m.fields (m.words t) for_fields ∙ laws.whole))
@@ -398,7 +398,7 @@ module _ {T Z C : Type 0} (m : Monitor T Z C) (Fit : T → Type 0) (Keeps : Z �
         let z = reading_at (measured y.store (length frame)) y.rest in
         let near = near_measured port (length frame) (length frame) y.store (λ q i. refl) (λ q i. refl) b.standard (before_meta port (length frame)) in
         let own_states = map own_state f.states in
-        let taken = taken_state (suc m.room) in
+        let taken = taken_state decls.packet (suc m.room) in
         let same = runs_both m.fields f.headers own.headers turns f.states (codes "start") x z own.states refl near refl in
         let linked_is : linked_end port frame ≡ turns_of turns linked_headers own_states (codes "hydra_start") z =
         ap (λ r. on_turned r (turns_of (length states) linked_headers (taken ∷ own_states))) (first_turn port (length frame) y b (before_meta port (length frame)) (before_length port (length frame)) refl lt)
@@ -436,10 +436,10 @@ module _ {T Z C : Type 0} (m : Monitor T Z C) (Fit : T → Type 0) (Keeps : Z �
         record { tele = record { plain = g.plain; standard = g.standard; valid = g.valid; mark = g.mark; words = has_same tele_header m.fields (m.words t) y (measured y k) (λ n. refl) g.words; fits = g.fits }; arrived = h.arrived; spec = h.spec }
 
     -- a frame that came by a link, behind the telemetry
-    pub link_parsed : (port : ℕ) (frame : List ℕ) (t : T) → port < 512 → is_in port links ≡ true → Fit t → Behind (Taken m Fit Keeps port t) (plain_end port frame) (linked_end port (tele_bytes (m.words t) ++ frame))
+    pub link_parsed : (port : ℕ) (frame : List ℕ) (t : T) → port < 512 → is_in port links ≡ true → Fit t → Behind (Taken m Fit Keeps port t) (plain_end port frame) (linked_end port (tele_bytes m.mark (m.words t) ++ frame))
     link_parsed port frame t lt at fits =
         let bits = words_bits (all_words t) in
-        let n = length (tele_bytes (m.words t) ++ frame) in
+        let n = length (tele_bytes m.mark (m.words t) ++ frame) in
         let k = length frame in
         let s = linked_before port n in
         let x = reading_at (plain_before port k) (bits_of frame) in
@@ -449,16 +449,16 @@ module _ {T Z C : Type 0} (m : Monitor T Z C) (Fit : T → Type 0) (Keeps : Z �
         let z = reading_at (measured s2 k) (bits_of frame) in
         let turns = suc (length f.states) in
         let b = before_begun port n lt in
-        let bytes : n ≡ suc m.room + k = length-append (tele_bytes (m.words t)) frame ∙ ap (λ j. j + k) (bytes_sized t fits) in
-        let split : bits_of (tele_bytes (m.words t) ++ frame) ≡ bits ++ bits_of frame = bits_of-append (tele_bytes (m.words t)) frame ∙ ap (λ l. l ++ bits_of frame) (bits_of_bytes bits (all_whole t fits)) in
+        let bytes : n ≡ suc m.room + k = length-append (tele_bytes m.mark (m.words t)) frame ∙ ap (λ j. j + k) (bytes_sized t fits) in
+        let split : bits_of (tele_bytes m.mark (m.words t) ++ frame) ≡ bits ++ bits_of frame = bits_of-append (tele_bytes m.mark (m.words t)) frame ∙ ap (λ l. l ++ bits_of frame) (bits_of_bytes bits (all_whole t fits)) in
         let near = near_measured port k n s2
         (λ q i. filled_other t (measured s n) q i ∙ ap (λ t. cond t (word 32 (cast 32 n)) (s.values q)) (free_apart length_path q refl i))
         (λ q i. ap (λ b. cond b (Some true) ((filled t (measured s n)).headers q)) (free_apart tele_header q refl i) ∙ filled_headers t (measured s n) q)
         (filled_headers t (measured s n) (standard_root ∷ []) ∙ b.standard) (filled_headers t (measured s n) (metadata_root ∷ []) ∙ before_meta port n) in
         let own_states = map own_state f.states in
-        let taken_first = taken_state (suc m.room) in
+        let taken_first = taken_state decls.packet (suc m.room) in
         let same = runs_both m.fields f.headers own.headers turns f.states (codes "start") x z own.states refl near refl in
-        let linked_is : linked_end port (tele_bytes (m.words t) ++ frame) ≡ turns_of turns linked_headers own_states (codes "hydra_start") z =
+        let linked_is : linked_end port (tele_bytes m.mark (m.words t) ++ frame) ≡ turns_of turns linked_headers own_states (codes "hydra_start") z =
         ap (λ l. turns_of (suc (length states)) linked_headers states (codes "start") (reading_at s l)) split
         ∙ ap (λ r. on_turned r (turns_of (length states) linked_headers (taken_first ∷ own_states))) (first_turn port n y b (before_meta port n) (before_length port n) refl lt)
         ∙ ap (λ i. turns_of (length states) linked_headers (taken_first ∷ own_states) (if i then codes "hydra_taken" else codes "hydra_start") y1) at

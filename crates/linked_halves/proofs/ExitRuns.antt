@@ -1,17 +1,17 @@
 -- What the statements around the exit part do: the flags are set, and at the last hop the header goes, and a rejected
 -- packet is counted and dropped.
-use Rattle.std.proofs.Common.{◌≡◌, ℕ, ◌+◌, ◌%◌, ◌^◌, ◌<◌, List, [], ◌∷◌, Bool, true, false, not, Option, Some, None, refl, sym, ap, ap₂, ◌∙◌}
+use Rattle.std.proofs.Common.{◌≡◌, ℕ, ◌+◌, ◌%◌, ◌^◌, ◌<◌, List, [], ◌∷◌, Bool, true, false, not, Some, None, refl, sym, ap, ap₂, ◌∙◌}
 use Rattle.std.specs.Prelude.{if◌then◌else◌, nat_eq}
 use Rattle.std.specs.List.{AllByRecursion}
 use Rattle.std.proofs.Math.Nat.{mod-eq_of_lt}
 use Rattle.bit_values.specs.Bits.{Word, word, add, cast}
 use Rattle.bit_values.specs.Widths.{bit, holds, either_width, sound_width, cast_word}
-use Rattle.p4_tree.specs.Tree.{Expr, path, binary, Stmt, Stmts, assign, done, next, and_then}
+use Rattle.p4_tree.specs.Tree.{Expr, path, binary, Stmt, assign, done, next, and_then}
 use Rattle.p4_tree.specs.declared.statement.Op.TheVariants as p4
 use Rattle.p4_meaning.specs.Standard.{standard_root, ingress_port, egress_spec, egress_port}
 use Rattle.p4_meaning.specs.Store.{shown, set_value, set_valid, made}
 use Rattle.p4_meaning.specs.Value.{value_of}
-use Rattle.p4_meaning.specs.Statements.{Calls, Go, Return, Exit, Run, Ended, after, in_store, cell_at, cell_set, put_cells, meaning_of_stmt, meaning_of}
+use Rattle.p4_meaning.specs.Statements.{Calls, Go, Run, Ended, after, in_store, cell_at, cell_set, put_cells, meaning_of_stmt, meaning_of}
 use Rattle.p4_meaning.specs.Pass.{is_dropped}
 use Rattle.p4_meaning.proofs.Sequences.{then_runs}
 use Rattle.own_code.specs.Relations.{IsPort}

@@ -12,7 +12,7 @@ use Rattle.bit_values.specs.Widths.{bit}
 use Rattle.bit_values.specs.BitLists.{number_bits}
 use Rattle.bit_writer.specs.Bytes.{words_bits, bytes_of}
 use Rattle.lex_text.specs.Names.{same_path}
-use Rattle.p4_tree.specs.Tree.{path, Stmts, done, next, and_then}
+use Rattle.p4_tree.specs.Tree.{path, done, next}
 use Rattle.p4_meaning.specs.Standard.{metadata_root, standard_root, packet_length, ingress_port, egress_spec, egress_port}
 use Rattle.p4_meaning.specs.Store.{Store, set_value}
 use Rattle.p4_meaning.specs.Statements.{Calls, no_calls, Go, Run, Ended, after, in_store, meaning_of_stmt, meaning_of}
@@ -47,9 +47,11 @@ use Rattle.monitor_laws.proofs.Paths.{sensor_mine}
 use Rattle.monitor_laws.proofs.Fields.{has_same, has_moved, all_region}
 use Rattle.monitor_laws.proofs.Bytes.{IsWhole, words_written, bytes_of-append, whole_byte, whole_words}
 use Rattle.monitor_laws.proofs.Frames.{others_alike, view_alike, zeroed_vars, vars_other, vars_headers, vars_alike, vars_fresh}
+use Rattle.linked_halves.specs.Widths.{HasWidths}
 use Rattle.linked_halves.specs.Statements.{end_stmts, exit_stmts, exit_stmt}
 use Rattle.linked_halves.specs.LinkedParts.{Declarations, Joins, core_parts, linked_parts}
 use Rattle.linked_halves.specs.Held.{is_in, KeptBy, HoldsCore, HeldBy}
+use Rattle.linked_halves.proofs.Widths.{calls_widths}
 use Rattle.linked_halves.proofs.LinkedCalls.{core_alike, core_means, core_lengths}
 use Rattle.linked_halves.proofs.Parse.{deparsed_same}
 use Rattle.linked_halves.proofs.EnterParse.{tele_stays}
@@ -69,8 +71,8 @@ flag_alike a b p w o h =
 gone : (e : Ended) → e.1 ≡ Go → e ≡ (e.0, Go)
 gone e h = ap (λ g. (e.0, g)) h
 
-module _ {T Z C : Type 0} (m : Monitor T Z C) (Fit : T → Type 0) (Keeps : Z → (ℕ → C) → Kept → Type 0) (IsVariable : ℕ → Type 0) (IsFitContents : (variable : ℕ) → C → Type 0)
-    (laws : MonitorLaws m Fit Keeps IsVariable IsFitContents) (f : Parts) (own : IsForwarding f) (sw : ℕ) (links : ℕ → List ℕ) (low : AllByRecursion (λ n. n < 512) (links sw))
+module _ {T Z C : Type 0} (m : Monitor T Z C) (Fit : T → Type 0) (Keeps : Z → (ℕ → C) → Kept → Type 0) (FitView : List Word → Type 0) (IsVariable : ℕ → Type 0) (IsFitContents : (variable : ℕ) → C → Type 0)
+    (laws : MonitorLaws m Fit Keeps FitView IsVariable IsFitContents) (f : Parts) (own : IsForwarding f) (fit_views : (s : Store) → HasWidths f s → FitView (view_of m.views s)) (sw : ℕ) (links : ℕ → List ℕ) (low : AllByRecursion (λ n. n < 512) (links sw))
     (decls : Declarations) (joins : Joins m f decls)
   where
     -- before reads of the packet's length are rewritten, and then
@@ -84,17 +86,17 @@ module _ {T Z C : Type 0} (m : Monitor T Z C) (Fit : T → Type 0) (Keeps : Z �
     abbrev bytes_from : Parts → List ℕ → Run → List ℕ
     bytes_from parts rest r = bytes_of (deparse_of parts.headers parts.emits r.store ++ rest)
 
-    all_for : (t : T) → Fit t → AreFor (mark_field ∷ m.fields) (mark_word ∷ m.words t)
-    all_for t fits = (refl, omega arith, laws.fitting t fits)
+    all_for : (t : T) → Fit t → AreFor (mark_field ∷ m.fields) (mark_word m.mark ∷ m.words t)
+    all_for t fits = (refl, laws.marked, laws.fitting t fits)
 
-    all_whole : (t : T) → Fit t → IsWhole (words_bits (mark_word ∷ m.words t))
-    all_whole t fits = whole_byte 72 (words_bits (m.words t)) (whole_words m.room m.fields (m.words t) (laws.fitting t fits) laws.whole)
+    all_whole : (t : T) → Fit t → IsWhole (words_bits (mark_word m.mark ∷ m.words t))
+    all_whole t fits = whole_byte m.mark (words_bits (m.words t)) (whole_words m.room m.fields (m.words t) (laws.fitting t fits) laws.whole)
 
     -- before the frame stands the telemetry where the header is still there, and nothing where it is invalid
-    bytes_with : (a b : Run) (t : T) (rest : List ℕ) → Alike a b → HasTele m Fit Keeps b.store t → bytes_from core rest b ≡ tele_bytes (m.words t) ++ bytes_from f rest a
+    bytes_with : (a b : Run) (t : T) (rest : List ℕ) → Alike a b → HasTele m Fit Keeps b.store t → bytes_from core rest b ≡ tele_bytes m.mark (m.words t) ++ bytes_from f rest a
     bytes_with a b t rest h g =
-        let bits = words_bits (mark_word ∷ m.words t) in
-        let mine = ap₂ if_valid g.valid (words_written tele_header (mark_field ∷ m.fields) (mark_word ∷ m.words t) b.store (all_for t g.fits) (g.mark, g.words)) in
+        let bits = words_bits (mark_word m.mark ∷ m.words t) in
+        let mine = ap₂ if_valid g.valid (words_written tele_header (mark_field ∷ m.fields) (mark_word m.mark ∷ m.words t) b.store (all_for t g.fits) (g.mark, g.words)) in
         let others = deparsed_same m.fields f.headers own.headers f.emits a b own.emits h in
         ap₂ (λ (u v : List ℕ). bytes_of ((u ++ v) ++ rest)) mine others
         ∙ ap bytes_of (append_assoc bits (deparse_of f.headers f.emits a.store) rest)
@@ -115,7 +117,7 @@ module _ {T Z C : Type 0} (m : Monitor T Z C) (Fit : T → Type 0) (Keeps : Z �
     compute_ran : (a b : Run) → Alike a b → Ran (bare b.store) (meaning_of no_calls f.compute (bare a.store)) (meaning_of no_calls f.compute (bare b.store))
     compute_ran a b h = all_ran no_calls no_calls no_calls_alike f.compute (bare a.store) (bare b.store) own.compute (record { values = λ q i. h.values q i; headers = λ q i. h.headers q i; cells = λ x i. refl; digests = refl })
 
-    frame_with : (a b : Run) (t : T) (rest : List ℕ) → Alike a b → HasTele m Fit Keeps b.store t → frame_of core rest b ≡ tele_bytes (m.words t) ++ frame_of f rest a
+    frame_with : (a b : Run) (t : T) (rest : List ℕ) → Alike a b → HasTele m Fit Keeps b.store t → frame_of core rest b ≡ tele_bytes m.mark (m.words t) ++ frame_of f rest a
     frame_with a b t rest h g =
         let ran = compute_ran a b h in
         bytes_with (computed a) (computed b) t rest ran.alike (tele_stays m Fit Keeps t (bare b.store) (computed b) g ran.stays)
@@ -133,7 +135,7 @@ module _ {T Z C : Type 0} (m : Monitor T Z C) (Fit : T → Type 0) (Keeps : Z �
     exit_mine = (refl, (refl, (refl, all_region (λ n. is_lowered (n ∷ [])) (λ n. is_mine n ≡ true) (fields_of m.exit_locals) (λ n h. both_left (is_mine n) _ h) laws.exit_vars)))
 
     -- a passage's exit half
-    module _ (net : Wiring) (k : ℕ) (first : Bool) (c : ℕ → C) (wired : (port : ℕ) → is_in port (links sw) ≡ not (at_edge net sw port)) (a b : Kept) (z : Z) (t : T) (q q' : Queued) (kept : KeptBy m Fit Keeps f sw a z c k b) (held : HoldsCore m Fit Keeps links sw first q t q') where
+    module _ (net : Wiring) (k : ℕ) (first : Bool) (c : ℕ → C) (wired : (port : ℕ) → is_in port (links sw) ≡ not (at_edge net sw port)) (a b : Kept) (z : Z) (t : T) (q q' : Queued) (kept : KeptBy m Fit Keeps f sw a z c k b) (held : HoldsCore m Fit Keeps f links sw first q t q') where
       -- what actions and tables do, in the forwarding switch and in the linked one before they are rewritten
       abbrev calls : Calls
       calls = calls_of f a.tables
@@ -257,12 +259,15 @@ module _ {T Z C : Type 0} (m : Monitor T Z C) (Fit : T → Type 0) (Keeps : Z �
       abbrev view : List Word
       view = view_of m.views plain_run.store
 
+      fit_view : FitView view
+      fit_view = fit_views plain_run.store (calls_widths f a.tables f.egress.body plain_vars (calls_widths f a.tables f.egress.locals (run_from q.store a.registers) held.widths))
+
       abbrev going : Going
       going = record { port = sent.port; frame = sent.frame; view = view }
 
       -- the forwarding program drops the packet
       abbrev Drops : Run → Type 0
-      Drops r = DropAgrees net m.property (telemetry_of m) (KeptBy m Fit Keeps f) (HeldBy m Fit Keeps links) Fit sw c k z plain_leaving (linked_leaving r)
+      Drops r = DropAgrees net m.property (telemetry_of m) (KeptBy m Fit Keeps f) (HeldBy m Fit Keeps f links) Fit sw c k z plain_leaving (linked_leaving r)
 
       drops : is_dropped plain_run.store ≡ true → Drops whole_run
       drops e =
@@ -284,7 +289,7 @@ module _ {T Z C : Type 0} (m : Monitor T Z C) (Fit : T → Type 0) (Keeps : Z �
       part last = exit_part m.property (reads last) t z
 
       abbrev Agrees : Bool → Doing T Z → Run → Type 0
-      Agrees last d r = GoAgrees net m.property (telemetry_of m) (KeptBy m Fit Keeps f) (HeldBy m Fit Keeps links) Fit sw last c k d plain_leaving going (linked_leaving r)
+      Agrees last d r = GoAgrees net m.property (telemetry_of m) (KeptBy m Fit Keeps f) (HeldBy m Fit Keeps f links) Fit sw last c k d plain_leaving going (linked_leaving r)
 
       -- a run that goes on by the same port, with a frame
       goes_by : (last : Bool) (t' : T) (r : Run) → is_dropped plain_run.store ≡ false → r.store.values egress_port ≡ own_run.store.values egress_port → r.store.values egress_spec ≡ own_run.store.values egress_spec → frame_of core q'.rest r ≡ carried (telemetry_of m) last t' going.frame
@@ -332,7 +337,7 @@ module _ {T Z C : Type 0} (m : Monitor T Z C) (Fit : T → Type 0) (Keeps : Z �
         told = ended.0
 
         does : Does m Fit Keeps b.tables flag_run ended c (part last)
-        does = laws.exit core_calls b.tables means flag_run (reads last) t z flags stands
+        does = laws.exit core_calls b.tables means flag_run (reads last) t z flags fit_view stands
 
         told_tele : HasTele m Fit Keeps told.store (part last).tele
         told_tele = tele_done m Fit Keeps b.tables flag_run ended c (part last) t flag_tele does
@@ -436,7 +441,7 @@ module _ {T Z C : Type 0} (m : Monitor T Z C) (Fit : T → Type 0) (Keeps : Z �
         goes_edge =
             let rejected = (part true).rejected in
             let g = told_tele up true at in
-            let flag = laws.verdict core_calls b.tables means (flag_run up true at) (reads true) t z (flags up true at) (stands up true at) refl in
+            let flag = laws.verdict core_calls b.tables means (flag_run up true at) (reads true) t z (flags up true at) fit_view (stands up true at) refl in
             let P : Bool → Type 0 = λ d. Agrees true (record (part true) { rejected = d }) (if d then counted (closed checked) (k % 2 ^ 32) else closed checked) in
             let both : (d : Bool) → P d = λ d. elim d as P [ true ↦ rejects | false ↦ passes ] in
             subst (λ r. Agrees true (part true) r) (sym (whole_told up true at ∙ end_runs core_calls checked (k % 2 ^ 32) rejected g.plain g.standard g.valid flag (told_rejects up true at))) (both rejected)
@@ -449,11 +454,11 @@ module _ {T Z C : Type 0} (m : Monitor T Z C) (Fit : T → Type 0) (Keeps : Z �
       pub plain_goes : (meaning_of calls f.egress.locals (run_from q.store a.registers)).1 ≡ Go
       plain_goes = vars_ran.goes
 
-      leave_by : (o : Bool) → is_dropped plain_run.store ≡ o → LeaveAgrees net m.property (telemetry_of m) (KeptBy m Fit Keeps f) (HeldBy m Fit Keeps links) Fit sw first c k z t plain_leaving (linked_leaving whole_run) (option_map (going_of (view_of m.views)) (unless_dropped o sent))
+      leave_by : (o : Bool) → is_dropped plain_run.store ≡ o → LeaveAgrees net m.property (telemetry_of m) (KeptBy m Fit Keeps f) (HeldBy m Fit Keeps f links) Fit sw first c k z t plain_leaving (linked_leaving whole_run) (option_map (going_of (view_of m.views)) (unless_dropped o sent))
       leave_by true e = drops e
       leave_by false e = goes_to (at_edge net sw going.port) e (wired going.port)
 
-      pub core_leaves : LeaveAgrees net m.property (telemetry_of m) (KeptBy m Fit Keeps f) (HeldBy m Fit Keeps links) Fit sw first c k z t plain_leaving (linked_leaving whole_run) (option_map (going_of (view_of m.views)) (unless_dropped (is_dropped plain_run.store) sent))
+      pub core_leaves : LeaveAgrees net m.property (telemetry_of m) (KeptBy m Fit Keeps f) (HeldBy m Fit Keeps f links) Fit sw first c k z t plain_leaving (linked_leaving whole_run) (option_map (going_of (view_of m.views)) (unless_dropped (is_dropped plain_run.store) sent))
       core_leaves = leave_by (is_dropped plain_run.store) refl
 
     -- ---- with the packet's length elsewhere
@@ -511,8 +516,8 @@ module _ {T Z C : Type 0} (m : Monitor T Z C) (Fit : T → Type 0) (Keeps : Z �
         (going_same (is_dropped r.store) (sent (bytes_of (deparse_of core.headers core.emits (meaning_of no_calls f.compute (plainly before)).0.store ++ rest)) (plainly r)) (sent (bytes_of (deparse_of core.headers core.emits c.store ++ rest)) r) refl frame)
 
     -- a leave of the linked program does what the forwarding program's does, and the exit part
-    pub leaves_agree : (net : Wiring) (k : ℕ) (first : Bool) (c : ℕ → C) (wired : (port : ℕ) → is_in port (links sw) ≡ not (at_edge net sw port)) (a b : Kept) (z : Z) (t : T) (q q' : Queued) → KeptBy m Fit Keeps f sw a z c k b → HeldBy m Fit Keeps links sw first q t q'
-        → LeaveAgrees net m.property (telemetry_of m) (KeptBy m Fit Keeps f) (HeldBy m Fit Keeps links) Fit sw first c k z t (leaving_of (view_of m.views) a.tables (parts_leave f a.tables a.registers q)) (leaving_of (λ s. []) b.tables (parts_leave linked b.tables b.registers q')) (leaving_of (view_of m.views) a.tables (parts_leave f a.tables a.registers q)).going
+    pub leaves_agree : (net : Wiring) (k : ℕ) (first : Bool) (c : ℕ → C) (wired : (port : ℕ) → is_in port (links sw) ≡ not (at_edge net sw port)) (a b : Kept) (z : Z) (t : T) (q q' : Queued) → KeptBy m Fit Keeps f sw a z c k b → HeldBy m Fit Keeps f links sw first q t q'
+        → LeaveAgrees net m.property (telemetry_of m) (KeptBy m Fit Keeps f) (HeldBy m Fit Keeps f links) Fit sw first c k z t (leaving_of (view_of m.views) a.tables (parts_leave f a.tables a.registers q)) (leaving_of (λ s. []) b.tables (parts_leave linked b.tables b.registers q')) (leaving_of (view_of m.views) a.tables (parts_leave f a.tables a.registers q)).going
     unfolding parts_leave
     leaves_agree net k first c wired a b z t q q' kept held =
         let calls = calls_of f a.tables in
@@ -526,7 +531,7 @@ module _ {T Z C : Type 0} (m : Monitor T Z C) (Fit : T → Type 0) (Keeps : Z �
         let r = (meaning_of linked_calls (plain_stmts ss) begun).0 in
         let none = plainly_none core_calls linked_calls ss begun lengths egress_keeps standard held.meta in
         let same : plainly r ≡ (meaning_of core_calls ss (plainly begun)).0 = plainly_run core_calls linked_calls ss begun lengths egress_keeps standard held.meta in
-        let Agrees : Leaving Kept → Leaving Kept → Type 0 = λ x y. LeaveAgrees net m.property (telemetry_of m) (KeptBy m Fit Keeps f) (HeldBy m Fit Keeps links) Fit sw first c k z t x y x.going in
+        let Agrees : Leaving Kept → Leaving Kept → Type 0 = λ x y. LeaveAgrees net m.property (telemetry_of m) (KeptBy m Fit Keeps f) (HeldBy m Fit Keeps f links) Fit sw first c k z t x y x.going in
         let plain_leaves = leaving_of (view_of m.views) a.tables (left_behind f q.rest (meaning_of calls f.egress.body (meaning_of calls f.egress.locals plain_begun).0).0) in
         let plain_is : (meaning_of calls f.egress.body (meaning_of calls f.egress.locals plain_begun).0).0 ≡ (meaning_of calls (whole f.egress) plain_begun).0 =
         sym (ap (λ (e : Ended). e.0) (then_runs calls f.egress.locals f.egress.body plain_begun)

@@ -1,3 +1,4 @@
+pub mod Widths
 pub mod Ports
 pub mod Parse
 pub mod EnterParse

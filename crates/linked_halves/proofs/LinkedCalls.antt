@@ -1,13 +1,11 @@
 -- What calls of actions and applications of tables do in a linked program: own ones what they do in the forwarding
 -- program, and the monitor's what the monitor means by them.
-use Rattle.std.proofs.Common.{◌≡◌, codes, ℕ, List, [], ◌∷◌, map, Bool, true, false, cond, ◌||◌, Option, Some, None, refl, sym, ap, ap₂, ◌∙◌, subst}
+use Rattle.std.proofs.Common.{◌≡◌, codes, ℕ, List, [], ◌∷◌, map, Bool, true, false, cond, ◌||◌, Option, Some, None, refl, sym, ap, ◌∙◌, subst}
 use Rattle.std.specs.List.{AllByRecursion}
 use Rattle.bit_values.specs.Bits.{Word}
 use Rattle.lex_text.specs.Names.{same_text}
-use Rattle.p4_tree.specs.Tree.{Expr}
-use Rattle.p4_meaning.specs.Store.{Store}
-use Rattle.p4_meaning.specs.Statements.{Run, Tested, Calls}
-use Rattle.p4_meaning.specs.Choice.{Entry, fits_keys, rank_of, higher, choice_of}
+use Rattle.p4_meaning.specs.Statements.{Run}
+use Rattle.p4_meaning.specs.Choice.{Entry, choice_of}
 use Rattle.p4_meaning.specs.Actions.{Action, action_named, params_of, args_of, act_if}
 use Rattle.p4_meaning.specs.Tables.{Table, table_named, has_ternary, Entries, Tables, key_words, test_behind, chosen_runs, apply_if, calls_in}
 use Rattle.p4_meaning.specs.Parts.{Parts}
@@ -21,7 +19,7 @@ use Rattle.packet_lengths.specs.Lengths.{KeepsAction, KeepsFound, AreLengthCalls
 use Rattle.packet_lengths.proofs.Near.{own_actions_keep}
 use Rattle.packet_lengths.proofs.LengthCalls.{found_keeps, length_calls}
 use Rattle.monitor_laws.specs.Monitor.{Monitor}
-use Rattle.monitor_laws.specs.MonitorLaws.{IsMonitorAction, AreMonitorEntries, MeansTops, MonitorLaws}
+use Rattle.monitor_laws.specs.MonitorLaws.{IsMonitorAction, AreMonitorEntries, MeansTops}
 use Rattle.linked_halves.specs.LinkedParts.{Declarations, Joins}
 use Rattle.linked_halves.specs.Held.{OwnEntries}
 

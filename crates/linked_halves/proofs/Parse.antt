@@ -1,20 +1,19 @@
 -- Own parser states do the same behind the monitor's states, and the deparser writes the same of own headers.
 use Rattle.std.specs.Option.{option_map}
-use Rattle.std.proofs.Common.{◌≡◌, codes, ℕ, zero, suc, List, [], ◌∷◌, ◌++◌, map, length, take, drop, Bool, true, false, not, cond, ◌&&◌, ◌||◌, Option, Some, None, Result, Ok, Err, refl, sym, ap, ap₂, ◌∙◌, subst}
-use Rattle.std.specs.Prelude.{nat_lt}
+use Rattle.std.proofs.Common.{◌≡◌, codes, ℕ, zero, suc, List, [], ◌∷◌, ◌++◌, map, Bool, true, false, not, cond, ◌||◌, Option, Some, None, Result, Ok, Err, refl, sym, ap, ap₂, ◌∙◌, subst}
 use Rattle.std.specs.List.{AllByRecursion}
-use Rattle.bit_values.specs.Bits.{Word, word, cast as cast_number}
-use Rattle.bit_values.specs.BitLists.{number_bits, number_of}
+use Rattle.bit_values.specs.Bits.{Word, cast as cast_number}
+use Rattle.bit_values.specs.BitLists.{number_bits}
 use Rattle.lex_text.specs.Names.{same_text, same_path}
-use Rattle.p4_tree.specs.Tree.{Expr, path, Arg, one, Stmt, assign, call, Case, Transition, nowhere, to, select, ParserState}
+use Rattle.p4_tree.specs.Tree.{Case, Transition, nowhere, to, select, ParserState}
 use Rattle.p4_meaning.specs.Store.{Store}
 use Rattle.p4_meaning.specs.Value.{value_of}
 use Rattle.p4_meaning.specs.Statements.{Run}
-use Rattle.p4_meaning.specs.Parsing.{Field, Header, ParserError, NoError, PacketTooShort, Reading, width_sum, field_taken, fields_taken, with_valid, Parsed, goes_on, stops, extracted, extracted_at, unless_stopped, call_parsed, stmt_parsed, body_parsed, fits_all, first_fit, chosen, state_after, ParserEnd, parser_end, Turned, ends, leads, led, turned, ends_parser, found_state, passed_state, on_turned, turns_of, fields_bits, if_valid, header_bits, deparse_of}
+use Rattle.p4_meaning.specs.Parsing.{Field, Header, ParserError, NoError, Reading, Parsed, goes_on, stops, extracted, extracted_at, body_parsed, fits_all, first_fit, chosen, state_after, ParserEnd, parser_end, Turned, ends, leads, led, turned, ends_parser, found_state, passed_state, on_turned, turns_of, fields_bits, if_valid, header_bits, deparse_of}
 use Rattle.own_code.specs.Regions.{is_mine, is_own_header}
-use Rattle.own_code.specs.Forwarding.{IsOwnExtract, IsOwnParse, IsOwnCase, IsOwnTransition, IsOwnState}
-use Rattle.own_code.specs.Relations.{bare, Alike, Stays}
-use Rattle.own_code.proofs.Apart.{text_decides, apart, apart_names, own_free, field_writable, field_readable, field_spec}
+use Rattle.own_code.specs.Forwarding.{IsOwnCase, IsOwnTransition, IsOwnState}
+use Rattle.own_code.specs.Relations.{Alike}
+use Rattle.own_code.proofs.Apart.{text_decides, apart, apart_names, own_free, field_readable}
 use Rattle.packet_lengths.specs.Lengths.{plain_expr, plain_parse, plain_keyset, plain_case, plain_transition, Near}
 use Rattle.packet_lengths.specs.Readings.{ExtractOwn, NearReading, NearTurned}
 use Rattle.packet_lengths.proofs.NearStates.{reading_same, reading_then, near_state}

@@ -1,13 +1,13 @@
 -- Tests of ports.
-use Rattle.std.proofs.Common.{◌≡◌, codes, ℕ, zero, suc, ◌%◌, ◌<◌, List, [], ◌∷◌, map, Bool, true, false, not, cond, ◌&&◌, ◌||◌, Option, Some, None, refl, sym, ap, ap₂, ◌∙◌, subst}
+use Rattle.std.proofs.Common.{◌≡◌, codes, ℕ, zero, suc, ◌%◌, ◌<◌, List, [], ◌∷◌, map, Bool, true, false, not, cond, ◌&&◌, ◌||◌, Option, Some, None, refl, sym, ap, ap₂, ◌∙◌}
 use Rattle.std.specs.Prelude.{if◌then◌else◌, nat_eq}
 use Rattle.std.specs.List.{AllByRecursion}
 use Rattle.std.specs.Option.{option_map}
 use Rattle.std.proofs.Math.Nat.{mod-eq_of_lt}
 use Rattle.bit_values.specs.Bits.{Word, word}
 use Rattle.bit_values.specs.Widths.{bit, holds, either_width, sound_width, cast_word}
-use Rattle.p4_tree.specs.Tree.{Expr, flag, path, negation, binary}
-use Rattle.p4_tree.specs.declared.statement.Op.TheVariants.{Equal, Either}
+use Rattle.p4_tree.specs.Tree.{Expr, flag, binary}
+use Rattle.p4_tree.specs.declared.statement.Op.TheVariants.{Either}
 use Rattle.p4_meaning.specs.Store.{Store, read}
 use Rattle.p4_meaning.specs.Value.{value_of}
 use Rattle.p4_meaning.specs.Statements.{Calls, Go, Run, Ended, after, application, tested_by, meaning_of, meaning_of_stmt}

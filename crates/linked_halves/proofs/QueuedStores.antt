@@ -14,8 +14,8 @@ use Rattle.own_code.specs.Relations.{bare, Alike}
 use Rattle.own_code.proofs.Apart.{path_decides, free_apart}
 use Rattle.own_code.proofs.Own.{set_alike}
 use Rattle.packet_lengths.specs.Lengths.{length_path, plain_store}
-use Rattle.monitor_laws.specs.Names.{tele_header, mark_path}
-use Rattle.monitor_laws.specs.Telemetry.{mark_field, HasWords}
+use Rattle.monitor_laws.specs.Names.{tele_header}
+use Rattle.monitor_laws.specs.Telemetry.{mark_field}
 use Rattle.monitor_laws.specs.Monitor.{Monitor}
 use Rattle.monitor_laws.specs.MonitorLaws.{HasTele}
 use Rattle.monitor_laws.proofs.Fields.{has_moved}

@@ -17,8 +17,8 @@ use Rattle.own_code.proofs.Apart.{apart_names}
 use Rattle.monitor_laws.specs.Names.{rejects_register, is_sensor}
 use Rattle.monitor_laws.specs.Monitor.{Monitor, telemetry_of}
 use Rattle.monitor_laws.specs.MonitorLaws.{MonitorLaws}
-use Rattle.monitor_laws.proofs.Paths.{sensor_mine, own_sensor}
-use Rattle.linked_halves.specs.LinkedParts.{Declarations, linked_parts, rejects_cells}
+use Rattle.monitor_laws.proofs.Paths.{none_named, sensor_mine}
+use Rattle.linked_halves.specs.LinkedParts.{Declarations, linked_parts}
 use Rattle.linked_halves.specs.Held.{is_in, OwnEntries, KeptBy, HeldBy}
 use Rattle.linked_halves.specs.Given.{registers_of, IsHost, forwarding_machine, linked_machine, KeepsHalves, IsLinkage}
 use Rattle.linked_halves.proofs.EnterParse.{bytes_sized}
@@ -67,8 +67,8 @@ same_cells [] a b h same = All-nil (λ x. cells_of b x ≡ cells_of a x)
 same_cells (r ∷ rs) a b h same =
     All-cons (λ x. cells_of b x ≡ cells_of a x) r.name (map (λ c. c.name) rs) (ap (map (λ (w : Word). w.value)) (same r.name h.0)) (same_cells rs a b h.1 same)
 
-module _ {T Z C : Type 0} (m : Monitor T Z C) (Fit : T → Type 0) (Keeps : Z → (ℕ → C) → Kept → Type 0) (IsVariable : ℕ → Type 0) (IsFitContents : (variable : ℕ) → C → Type 0)
-    (laws : MonitorLaws m Fit Keeps IsVariable IsFitContents) (f : Parts) (net : Wiring) (decls : (switch : ℕ) → Declarations) (is : IsHost m f net decls)
+module _ {T Z C : Type 0} (m : Monitor T Z C) (Fit : T → Type 0) (Keeps : Z → (ℕ → C) → Kept → Type 0) (FitView : List Word → Type 0) (IsVariable : ℕ → Type 0) (IsFitContents : (variable : ℕ) → C → Type 0)
+    (laws : MonitorLaws m Fit Keeps FitView IsVariable IsFitContents) (f : Parts) (net : Wiring) (decls : (switch : ℕ) → Declarations) (is : IsHost m FitView f net decls)
   where
     abbrev links : ℕ → List ℕ
     links s = ports_at net.links s
@@ -81,16 +81,16 @@ module _ {T Z C : Type 0} (m : Monitor T Z C) (Fit : T → Type 0) (Keeps : Z �
 
     abbrev Enters : ℕ → ℕ → ℕ → Kept → Kept → Z → (ℕ → C) → T → List ℕ → Bool → Type 0
     Enters s port k a b z c t frame e =
-        EnterAgrees net m.property (telemetry_of m) (KeptBy m Fit Keeps f) (HeldBy m Fit Keeps links) Fit s e c k
+        EnterAgrees net m.property (telemetry_of m) (KeptBy m Fit Keeps f) (HeldBy m Fit Keeps f links) Fit s e c k
         (entry_part m.property (reads_at s e false (view_of m.views (parts_enter f a.tables a.registers port frame).entry_state) c) t z)
         (entered_of (view_of m.views) a.tables (parts_enter f a.tables a.registers port frame))
         (entered_of (λ s. []) b.tables (parts_enter (linked_parts m s (links s) f (decls s)) b.tables b.registers port (carried (telemetry_of m) e t frame)))
 
     enters : (s port k : ℕ) (a b : Kept) (z : Z) (c : ℕ → C) (t : T) (frame : List ℕ) (e : Bool) → at_edge net s port ≡ e → port < 512 → KeptBy m Fit Keeps f s a z c k b → Fit t → (e ≡ true → t ≡ m.property.tele) → Enters s port k a b z c t frame e
     enters s port k a b z c t frame true e lt kept fits start =
-        enter_edge m Fit Keeps IsVariable IsFitContents laws f is.forwarding s links (low s) (decls s) (is.joins s) net a b z c k kept port t frame lt (wired s port ∙ ap not e) (start refl)
+        enter_edge m Fit Keeps FitView IsVariable IsFitContents laws f is.forwarding is.fields is.views s links (low s) (decls s) (is.joins s) net a b z c k kept port t frame lt (wired s port ∙ ap not e) (start refl)
     enters s port k a b z c t frame false e lt kept fits start =
-        enter_link m Fit Keeps IsVariable IsFitContents laws f is.forwarding s links (low s) (decls s) (is.joins s) net a b z c k kept port t frame lt (wired s port ∙ ap not e) fits
+        enter_link m Fit Keeps FitView IsVariable IsFitContents laws f is.forwarding is.fields is.views s links (low s) (decls s) (is.joins s) net a b z c k kept port t frame lt (wired s port ∙ ap not e) fits
 
     started : (s : ℕ) (e : Tables) (c : ℕ → C) → OwnEntries f e → ((v : ℕ) → IsVariable v → IsFitContents v (c v))
         → KeptBy m Fit Keeps f s (kept_before f e) m.property.sensors c 0 (record { registers = start_cells (decls s).registers; tables = m.controls.loaded c e })
@@ -99,7 +99,7 @@ module _ {T Z C : Type 0} (m : Monitor T Z C) (Fit : T → Type 0) (Keeps : Z �
         record {
           own = λ x o. joins.own_registers x o;
           rejects = joins.monitor_registers rejects_register refl;
-          tables = λ x o. laws.loads_none c e x o;
+          tables = λ x o. laws.loads_others c e x (none_named m.tables x laws.tables_named o);
           entries = entries;
           monitor = laws.keeps_start c (record { registers = start_cells (decls s).registers; tables = e }) fits
               (λ x i. joins.monitor_registers x (sensor_mine x i)
@@ -111,12 +111,12 @@ module _ {T Z C : Type 0} (m : Monitor T Z C) (Fit : T → Type 0) (Keeps : Z �
         record {
           enters = λ s port k a b z c t frame known lt kept fits start short. enters s port k a b z c t frame (at_edge net s port) refl (omega arith) kept fits start;
           leaves = λ s k first a b z c t q q' known kept held.
-              leaves_agree m Fit Keeps IsVariable IsFitContents laws f is.forwarding s links (low s) (decls s) (is.joins s) net k first c (wired s) a b z t q q' kept held;
+              leaves_agree m Fit Keeps FitView IsVariable IsFitContents laws f is.forwarding is.views s links (low s) (decls s) (is.joins s) net k first c (wired s) a b z t q q' kept held;
           sets = λ s v k a b z c x known kept named fit.
               record {
                 own = kept.own;
                 rejects = kept.rejects;
-                tables = λ y o. laws.sets_none v x b.tables y o ∙ kept.tables y o;
+                tables = λ y o. laws.sets_others v x b.tables y (none_named m.tables y laws.tables_named o) ∙ kept.tables y o;
                 entries = kept.entries;
                 monitor = laws.keeps_set v x z c b named fit kept.monitor;
               };
@@ -124,10 +124,10 @@ module _ {T Z C : Type 0} (m : Monitor T Z C) (Fit : T → Type 0) (Keeps : Z �
           forwards = λ s k a b z c known kept. same_cells f.registers a b is.forwarding.registers kept.own;
           monitors = λ s k a b z c known kept. record { sensors = laws.shown z c b kept.monitor; rejects = ap (map (λ (w : Word). w.value)) kept.rejects };
           start_fits = laws.start_fits;
-          sized = λ t fits. bytes_sized m Fit Keeps IsVariable IsFitContents laws f is.forwarding 0 [] tt (decls 0) t fits;
+          sized = λ t fits. bytes_sized m Fit Keeps FitView IsVariable IsFitContents laws f is.forwarding 0 [] tt (decls 0) t fits;
         }
 
     pub linked : IsLinkage m f net decls Fit Keeps IsVariable IsFitContents
     linked =
-        linkage net m.property (telemetry_of m) (KeptBy m Fit Keeps f) (HeldBy m Fit Keeps links) Fit
+        linkage net m.property (telemetry_of m) (KeptBy m Fit Keeps f) (HeldBy m Fit Keeps f links) Fit
         (forwarding_machine m f net decls) (linked_machine m f net decls) (registers_of f m.sensors) (λ s. OwnEntries f) IsVariable (λ s. IsFitContents) is.network laws_hold

@@ -1,5 +1,5 @@
 -- What the linked network keeps and queues, for what the forwarding network does.
-use Rattle.std.specs.Prelude.{◌≡◌, ℕ, ◌%◌, ◌^◌, List, [], ◌∷◌, Bool, false, Option, Some, None, ◌||◌, not, nat_eq}
+use Rattle.std.specs.Prelude.{◌≡◌, ℕ, ◌%◌, ◌^◌, List, [], ◌∷◌, Bool, false, Some, None, ◌||◌, not, nat_eq}
 use Rattle.bit_values.specs.Bits.{word}
 use Rattle.p4_meaning.specs.Standard.{metadata_root, ingress_port, egress_spec, egress_port}
 use Rattle.p4_meaning.specs.Tables.{Table, table_named, Tables}
@@ -12,6 +12,7 @@ use Rattle.packet_lengths.specs.Lengths.{plain_store}
 use Rattle.monitor_laws.specs.Names.{rejects_register}
 use Rattle.monitor_laws.specs.Monitor.{Monitor}
 use Rattle.monitor_laws.specs.MonitorLaws.{HasTele}
+use Rattle.linked_halves.specs.Widths.{HasWidths}
 
 -- a port is one of some ports
 abbrev pub is_in : ℕ → List ℕ → Bool
@@ -32,9 +33,8 @@ module _ {T Z C : Type 0} (m : Monitor T Z C) (Fit : T → Type 0) (Keeps : Z �
     pub entries : OwnEntries f a.tables
     pub monitor : Keeps z c b
 
-module _ {T Z C : Type 0} (m : Monitor T Z C) (Fit : T → Type 0) (Keeps : Z → (ℕ → C) → Kept → Type 0) where
-  -- a queued packet, with the plain length in its place: the own headers, metadata and remaining bytes, the telemetry, and
-  -- the port by which the frame came
+  -- a queued packet, with the plain length in its place: the own headers and metadata, in their widths, and the remaining
+  -- bytes, the telemetry, and the port by which the frame came
   pub record HoldsCore (links : ℕ → List ℕ) (s : ℕ) (first : Bool) (q : Queued) (t : T) (q' : Queued) : Type 0 where
     pub alike : Alike (bare q.store) (bare q'.store)
     pub tele : HasTele m Fit Keeps q'.store t
@@ -42,6 +42,7 @@ module _ {T Z C : Type 0} (m : Monitor T Z C) (Fit : T → Type 0) (Keeps : Z �
     pub going : IsPort (q'.store.values egress_port)
     pub spec : IsPort (q'.store.values egress_spec)
     pub came : IsPort (q'.store.values ingress_port)
+    pub widths : HasWidths f q.store
     pub arrived : first ≡ not (is_in (q'.store.values ingress_port).value (links s))
 
   -- a queued packet of the linked network, in which the length without telemetry is kept elsewhere

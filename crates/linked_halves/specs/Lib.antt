@@ -1,4 +1,5 @@
 -- What callers rest on: the linked parts, and what is said of them.
+pub mod Widths
 pub mod Statements
 pub mod ParserStates
 pub mod LinkedParts

@@ -27,8 +27,9 @@ rejects_cells = record { name = rejects_register; width = 32; count = 1 }
 abbrev pub length_field : Field
 length_field = record { name = codes "hydra_length"; width = 32 }
 
--- what a linked program declares by names, in the order of its text
+-- what a linked program declares by names, in the order of its text, and how its parser names its packet
 pub record Declarations : Type 0 where
+  pub packet : List ℕ
   pub registers : List Cells
   pub actions : List Action
   pub tables : List Table
@@ -46,6 +47,7 @@ pub record Joins {T Z C : Type 0} (m : Monitor T Z C) (f : Parts) (d : Declarati
 abbrev pub declarations : {T Z C : Type 0} → Monitor T Z C → Parts → Declarations
 declarations m f =
     record {
+      packet = codes "packet";
       registers = rejects_cells ∷ (m.registers ++ f.registers);
       actions = m.actions ++ f.actions;
       tables = m.tables ++ f.tables;
@@ -74,7 +76,7 @@ module _ {T Z C : Type 0} (m : Monitor T Z C) (s : ℕ) (links : List ℕ) where
         registers = d.registers;
         headers = telemetry m.fields ∷ f.headers;
         metadata = length_field ∷ f.metadata;
-        states = linked_states (suc m.room) links f.states;
+        states = linked_states d.packet (suc m.room) links f.states;
         actions = d.actions;
         tables = d.tables;
         verify = f.verify;

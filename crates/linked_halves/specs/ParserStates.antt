@@ -30,13 +30,14 @@ first_state linked_ports =
       next = select 0 (path 0 ingress_port ∷ []) (link_cases linked_ports);
     }
 
-abbrev pub taken_state : (size : ℕ) → ParserState
-taken_state size =
+-- packet: how the parser names its packet
+abbrev pub taken_state : (packet : List ℕ) (size : ℕ) → ParserState
+taken_state packet size =
     record {
       at = 0;
       name = codes "hydra_taken";
       body =
-          call 0 (codes "packet" ∷ codes "extract" ∷ []) (one 0 (path 0 tele_header) ∷ [])
+          call 0 (packet ∷ codes "extract" ∷ []) (one 0 (path 0 tele_header) ∷ [])
           ∷ assign 0 length_path (binary 0 p4.Sub (path 0 packet_length) (number 0 size)) ∷ [];
       next = to 0 (codes "hydra_start");
     }
@@ -61,5 +62,5 @@ abbrev pub own_state : ParserState → ParserState
 own_state s = renamed_state (plain_state s)
 
 -- how the frame arrived, the telemetry where it stands, and then the program's own states
-abbrev pub linked_states : (size : ℕ) (linked_ports : List ℕ) → List ParserState → List ParserState
-linked_states size linked_ports own = first_state linked_ports ∷ taken_state size ∷ map own_state own
+abbrev pub linked_states : (packet : List ℕ) (size : ℕ) (linked_ports : List ℕ) → List ParserState → List ParserState
+linked_states packet size linked_ports own = first_state linked_ports ∷ taken_state packet size ∷ map own_state own

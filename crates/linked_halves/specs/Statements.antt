@@ -80,7 +80,7 @@ module _ {T Z C : Type 0} (m : Monitor T Z C) (s : ℕ) (links : List ℕ) where
   -- at the first hop, where the frame came by a port without a link, the header is made and marked, and the entry part
   -- follows
   abbrev pub entry_stmts : Stmts
-  entry_stmts = next (on_header (codes "setValid")) (next (assign 0 mark_path (number 8 72)) (m.entry s))
+  entry_stmts = next (on_header (codes "setValid")) (next (assign 0 mark_path (number 8 m.mark)) (m.entry s))
 
   abbrev pub entry_stmt : Stmt
   entry_stmt = only_if (none_of ingress_port links) entry_stmts

@@ -14,4 +14,4 @@
 
 mod laws;
 
-pub use laws::{monitored_halves_agree, monitored_parts_are_a_linkage};
+pub use laws::{monitored_halves_agree, monitored_parts_are_a_linkage, views_have_their_widths};

@@ -1,10 +1,12 @@
 -- The monitor's own names and paths are apart from the forwarding program's.
 use Rattle.std.specs.Prelude.{nat_eq}
-use Rattle.std.proofs.Common.{◌≡◌, codes, ℕ, List, [], ◌∷◌, ◌++◌, Bool, true, false, not, ◌&&◌, refl, ap, ap₂, ◌∙◌, arith}
+use Rattle.std.proofs.Common.{◌≡◌, codes, ℕ, List, [], ◌∷◌, ◌++◌, Bool, true, false, not, ◌&&◌, cond, Some, None, refl, ap, ap₂, ◌∙◌, arith}
 use Rattle.std.proofs.lemmas.Bool.Decides.{nat_tests}
+use Rattle.std.specs.List.{AllByRecursion}
 use Rattle.lex_text.specs.Names.{same_text, same_path, parent}
 use Rattle.lex_text.specs.Comments.{begins}
 use Rattle.p4_meaning.specs.Standard.{headers_root}
+use Rattle.p4_meaning.specs.Tables.{Table, table_named}
 use Rattle.own_code.specs.Regions.{is_mine, is_free}
 use Rattle.own_code.proofs.Apart.{not_both, apart_names, both_left, both_right, free_apart, free_parent}
 use Rattle.monitor_laws.specs.Names.{tele_header, is_flag, is_lowered, is_sensor, is_variable}
@@ -75,3 +77,9 @@ own_sensor x o = go (is_sensor x) refl
     go : (b : Bool) → is_sensor x ≡ b → is_sensor x ≡ false
     go true e = not_both (sensor_mine x e) o
     go false e = e
+
+-- no table of the monitor's has an own name
+pub none_named : (ts : List Table) (x : List ℕ) → AllByRecursion (λ t. is_mine t.name ≡ true) ts → is_mine x ≡ false → table_named ts x ≡ None
+none_named [] x mine own = refl
+none_named (t ∷ ts) x mine own =
+    ap (λ b. cond b (Some t) (table_named ts x)) (apart_names is_mine t.name x mine.0 own) ∙ none_named ts x mine.1 own

@@ -20,6 +20,8 @@ use Rattle.monitor_laws.specs.Telemetry.{tele_bytes}
 -- linked program
 pub record Monitor (T Z C : Type 0) : Type 0 where
   pub property : Property T Z C
+  -- the telemetry's first byte, which names the edition: 72 or 73
+  pub mark : ℕ
   -- the telemetry's fields behind the mark, the words that stand in them, and how many bytes these are
   pub fields : List Field
   pub words : T → List Word
@@ -50,4 +52,4 @@ fields_of ls = map (λ l. record { name = l.1; width = sound_width (width_of l.0
 
 -- the telemetry, as the network law takes it
 abbrev pub telemetry_of : {T Z C : Type 0} → Monitor T Z C → Telemetry T
-telemetry_of m = record { bytes = λ t. tele_bytes (m.words t); size = suc m.room }
+telemetry_of m = record { bytes = λ t. tele_bytes m.mark (m.words t); size = suc m.room }

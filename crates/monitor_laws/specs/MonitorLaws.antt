@@ -1,8 +1,8 @@
 -- What a lowering has to show of what it gives. The laws on linked programs follow from this record alone. Read `Monitor`
 -- before it, `OwnCode` of `own_code` and `Lengths` of `packet_lengths`.
-use Rattle.std.specs.Prelude.{◌≡◌, codes, ℕ, ◌*◌, List, [], ◌∷◌, ◌++◌, map, Bool, true, false, ◌||◌, not, Some, None, All}
+use Rattle.std.specs.Prelude.{◌≡◌, codes, ℕ, ◌*◌, ◌<◌, List, [], ◌∷◌, ◌++◌, map, Bool, true, false, ◌||◌, not, Some, None, All}
 use Rattle.std.specs.List.{filter, AllByRecursion}
-use Rattle.bit_values.specs.Bits.{word}
+use Rattle.bit_values.specs.Bits.{Word, word}
 use Rattle.bit_values.specs.Widths.{bit}
 use Rattle.lex_text.specs.Names.{same_text}
 use Rattle.p4_tree.specs.Tree.{Expr, path, valid}
@@ -67,7 +67,7 @@ module _ {T Z C : Type 0} (m : Monitor T Z C) (Fit : T → Type 0) (Keeps : Z �
     pub plain : s.headers [] ≡ None
     pub standard : s.headers (standard_root ∷ []) ≡ None
     pub valid : s.headers tele_header ≡ Some true
-    pub mark : s.values mark_path ≡ mark_word
+    pub mark : s.values mark_path ≡ mark_word m.mark
     pub words : HasWords tele_header m.fields (m.words t) s
     pub fits : Fit t
 
@@ -88,27 +88,30 @@ module _ {T Z C : Type 0} (m : Monitor T Z C) (Fit : T → Type 0) (Keeps : Z �
     pub reports : filter is_report e.0.digests ≡ filter is_report a.digests ++ map report_digest d.reports
     pub goes : e.1 ≡ Go
 
-  module _ (IsVariable : ℕ → Type 0) (IsFitContents : (variable : ℕ) → C → Type 0) where
+  -- `FitView ws`: the header variables' words are such as fields of the declared widths hold
+  module _ (FitView : List Word → Type 0) (IsVariable : ℕ → Type 0) (IsFitContents : (variable : ℕ) → C → Type 0) where
     pub record MonitorLaws : Type 0 where
       -- the statements: init at the first hop, and telemetry with the checker at the last
       pub entry :
           (calls : Calls) (held : Tables) → MeansTops held calls → (r : Run) (h : Reads C) (t : T) (z : Z) →
-          h.first ≡ true → h.last ≡ false → StandsFor (fields_of m.entry_locals) held r h t z →
+          h.first ≡ true → h.last ≡ false → FitView h.view → StandsFor (fields_of m.entry_locals) held r h t z →
           Does held r (meaning_of calls (m.entry h.switch) r) h.contents (m.property.init h (nothing_yet t z))
       pub exit :
           (calls : Calls) (held : Tables) → MeansTops held calls → (r : Run) (h : Reads C) (t : T) (z : Z) →
-          Flags h.first h.last r.store → StandsFor (fields_of m.exit_locals) held r h t z →
+          Flags h.first h.last r.store → FitView h.view → StandsFor (fields_of m.exit_locals) held r h t z →
           Does held r (meaning_of calls (m.exit h.switch) r) h.contents (exit_part m.property h t z)
       -- at the last hop the verdict is in its flag
       pub verdict :
           (calls : Calls) (held : Tables) → MeansTops held calls → (r : Run) (h : Reads C) (t : T) (z : Z) →
-          Flags h.first h.last r.store → StandsFor (fields_of m.exit_locals) held r h t z → h.last ≡ true →
+          Flags h.first h.last r.store → FitView h.view → StandsFor (fields_of m.exit_locals) held r h t z → h.last ≡ true →
           (meaning_of calls (m.exit h.switch) r).0.store.values (rejected_name ∷ []) ≡ bit (exit_part m.property h t z).rejected
       -- no statement writes the packet's length, or where the length without telemetry is
       pub entry_keeps : (s : ℕ) → KeepLength (m.entry s)
       pub exit_keeps : (s : ℕ) → KeepLength (m.exit s)
       pub actions_keep : AllByRecursion KeepsAction m.actions
-      -- the telemetry: its words fit its fields, which have names of their own and fill whole bytes. At the start all are 0
+      -- the telemetry: its mark is a byte, and its words fit its fields, which have names of their own and fill whole bytes.
+      -- At the start all are 0
+      pub marked : m.mark < 256
       pub fitting : (t : T) → Fit t → AreFor m.fields (m.words t)
       pub apart : AreApart (mark_field ∷ m.fields)
       pub whole : width_sum m.fields ≡ m.room * 8
@@ -139,7 +142,8 @@ module _ {T Z C : Type 0} (m : Monitor T Z C) (Fit : T → Type 0) (Keeps : Z �
       pub keeps_set :
           (v : ℕ) (x : C) (z : Z) (c : ℕ → C) (b : Kept) → IsVariable v → IsFitContents v x → Keeps z c b →
           Keeps z (put c v x) (record b { tables = m.controls.set v x b.tables })
-      pub loads_none : (c : ℕ → C) (held : Tables) (x : List ℕ) → is_mine x ≡ false → m.controls.loaded c held x ≡ held x
-      pub sets_none : (v : ℕ) (x : C) (held : Tables) (y : List ℕ) → is_mine y ≡ false → m.controls.set v x held y ≡ held y
+      -- both change what the monitor's tables hold, and under other names nothing
+      pub loads_others : (c : ℕ → C) (held : Tables) (x : List ℕ) → table_named m.tables x ≡ None → m.controls.loaded c held x ≡ held x
+      pub sets_others : (v : ℕ) (x : C) (held : Tables) (y : List ℕ) → table_named m.tables y ≡ None → m.controls.set v x held y ≡ held y
       -- the cells of a sensor's register are the sensor's, xor its initial value
       pub shown : (z : Z) (c : ℕ → C) (b : Kept) → Keeps z c b → All (λ x. cells_of b x.name ≡ map (xor_with x.initial) (x.cells z)) m.sensors

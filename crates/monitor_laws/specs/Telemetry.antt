@@ -9,16 +9,16 @@ use Rattle.p4_meaning.specs.Store.{Store}
 use Rattle.p4_meaning.specs.Parsing.{Field}
 use Rattle.monitor_laws.specs.Names.{mark_name}
 
--- the telemetry's first byte is hexadecimal 48
+-- the telemetry's first byte is its mark
 abbrev pub mark_field : Field
 mark_field = record { name = mark_name; width = 8 }
 
-abbrev pub mark_word : Word
-mark_word = word 8 72
+abbrev pub mark_word : (mark : ℕ) → Word
+mark_word n = word 8 n
 
 -- the bytes that stand before a frame on a link, where the telemetry has these words behind the mark
-abbrev pub tele_bytes : List Word → List ℕ
-tele_bytes ws = bytes_of (words_bits (mark_word ∷ ws))
+abbrev pub tele_bytes : (mark : ℕ) → List Word → List ℕ
+tele_bytes n ws = bytes_of (words_bits (mark_word n ∷ ws))
 
 -- the words have the widths of the fields
 abbrev pub AreFor : List Field → List Word → Type 0

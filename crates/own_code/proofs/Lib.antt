@@ -1,3 +1,4 @@
 pub mod Apart
 pub mod Own
 pub mod OwnCalls
+pub mod Held

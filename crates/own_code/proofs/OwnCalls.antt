@@ -86,11 +86,11 @@ keys_same [] a b o h = refl
 keys_same (k ∷ ks) a b o h = ap₂ (λ (w : Word) (ws : List Word). w ∷ ws) (value_alike a b k.value 0 h o.0) (keys_same ks a b o.1 h)
 
 -- what is found among own tables is own, or there is none
-abbrev IsOwnTableIf : Option Table → Type 0
+abbrev pub IsOwnTableIf : Option Table → Type 0
 IsOwnTableIf None = Unit {0}
 IsOwnTableIf (Some t) = IsOwnTable t
 
-found_table : (ts : List Table) (x : List ℕ) → AllByRecursion IsOwnTable ts → IsOwnTableIf (table_named ts x)
+pub found_table : (ts : List Table) (x : List ℕ) → AllByRecursion IsOwnTable ts → IsOwnTableIf (table_named ts x)
 found_table [] x o = tt
 found_table (t ∷ ts) x o = pick (same_text t.name x) (Some t) (table_named ts x) o.0 (found_table ts x o.1)
   where

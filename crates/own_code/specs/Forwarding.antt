@@ -107,10 +107,12 @@ pub record IsOwnAction (a : Action) : Type 0 where
   pub params : AllByRecursion (λ p. is_mine p.name ≡ false) a.params
   pub body : AreOwnStmts a.body
 
--- a table has an own name, and its keys read own paths. It may hold anything
+-- a table has an own name, its keys read own paths, and its default and the actions of its list have own names. It may
+-- hold anything
 pub record IsOwnTable (t : Table) : Type 0 where
   pub name : is_mine t.name ≡ false
   pub keys : AllByRecursion (λ k. IsOwnExpr k.value) t.keys
+  pub actions : AllByRecursion (λ x. is_mine x ≡ false) (t.default.action ∷ t.actions)
 
 pub record IsForwarding (f : Parts) : Type 0 where
   pub registers : AllByRecursion (λ c. is_mine c.name ≡ false) f.registers

@@ -14,10 +14,11 @@ ghost use Rattle.std.specs.List.{AllByRecursion};
 ghost use Rattle.p4_tree.specs.Tree.{Expr, Stmts};
 ghost use Rattle.p4_meaning.specs.Statements.{Run, Act, done_by, Calls, no_calls, tested, meaning_of};
 ghost use Rattle.p4_meaning.specs.Actions.{Action};
-ghost use Rattle.p4_meaning.specs.Tables.{Table, table_named, Tables, calls_in};
+ghost use Rattle.p4_meaning.specs.Tables.{Table, table_named, Entries, Tables, calls_in};
+ghost use Rattle.p4_meaning.specs.Laws.{RunsListed};
 ghost use Rattle.own_code.specs.Forwarding.{IsOwnAct, IsOwnTest, AreOwnStmts, IsOwnAction, IsOwnTable};
 ghost use Rattle.own_code.specs.Relations.{Alike};
-ghost use Rattle.own_code.specs.OwnCode.{Ran, RanTest, AreAlikeCalls, HasOwn, HoldSame, RunsSame};
+ghost use Rattle.own_code.specs.OwnCode.{Ran, RanTest, AreAlikeCalls, HasOwn, HoldSame, RunsSame, AreOwnEntries};
 
 /// Own code on runs that are alike ends alike, goes on, and leaves the monitor's part as it was,
 /// whatever actions and tables do, if these keep to the same. So do own actions, and own tables
@@ -39,4 +40,10 @@ pub fn own_code_does_the_same()
         HoldSame held held' → ((x : List ℕ) (t : Table) → table_named tables x ≡ Some t → RunsSame actions actions' (held x)) →
         AreAlikeCalls (calls_in actions tables held) (calls_in actions' tables' held') }
     ensures no_calls { AreAlikeCalls no_calls no_calls }
+{}
+
+/// Own tables run own actions, where what they hold runs actions of their lists or their defaults.
+pub fn own_tables_run_own_actions()
+    ensures { (tables : List Table) → AllByRecursion IsOwnTable tables → (x : List ℕ) (t : Table) → table_named tables x ≡ Some t →
+        (held : Entries) → RunsListed (table_named tables x) held → AreOwnEntries held }
 {}

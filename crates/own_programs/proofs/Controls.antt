@@ -1,5 +1,5 @@
 -- The declarations of a control: its variables, actions and tables are own.
-use Rattle.std.proofs.Common.{◌≡◌, ℕ, List, [], ◌∷◌, ◌++◌, map, Bool, false, cond, codes, Some, None, refl, sym, ap, ◌∙◌}
+use Rattle.std.proofs.Common.{◌≡◌, ℕ, List, [], ◌∷◌, ◌++◌, map, Bool, false, cond, codes, Option, Some, None, refl, sym, ap, ◌∙◌}
 use Rattle.std.specs.List.{list_any, AllByRecursion}
 use Rattle.lex_text.specs.Names.{same_text}
 use Rattle.rule_tests.specs.Tests.{IsFine}
@@ -9,14 +9,14 @@ use Rattle.p4_meaning.specs.Scope as meaning
 use Rattle.p4_meaning.specs.Scope.{is_among, full, full_name, first_name, own_names}
 use Rattle.p4_meaning.specs.Under.{behind_local, settings_under}
 use Rattle.p4_meaning.specs.Actions.{Action, in_action, param_under, action_under, actions_in, action_named}
-use Rattle.p4_meaning.specs.Tables.{key_under, tables_in}
+use Rattle.p4_meaning.specs.Tables.{key_under, default_under, tables_in}
 use Rattle.p4_meaning.specs.Parts.{registers_in}
 use Rattle.p4_scopes.specs.Scopes.{Scope}
 use Rattle.p4_statement_rules.specs.declared.rule.Part.{Part}
 use Rattle.p4_declaration_rules.specs.Declarations.{with_params}
 use Rattle.p4_declaration_rules.specs.Controls.{action_part, after_local, locals_tests}
-use Rattle.p4_rule_laws.specs.Old.{OldFields}
-use Rattle.p4_rule_laws.specs.OldPrograms.{OldKeys, OldLocals}
+use Rattle.p4_rule_laws.specs.Old.{OldPath, OldFields}
+use Rattle.p4_rule_laws.specs.OldPrograms.{OldKeys, OldDefault, OldLocals}
 use Rattle.p4_typing_laws.proofs.Fine.{neither}
 use Rattle.p4_typing_laws.proofs.FullNames.{among_head, other_text, Knows, knows_rest}
 use Rattle.exit_statements.specs.Without.{no_exits, stmts_leave}
@@ -54,9 +54,23 @@ keys_own : (sd : meaning.Scope) (ks : List (Expr × List ℕ)) → OldKeys is_ow
 keys_own sd [] o = tt
 keys_own sd (k ∷ ks) o = (expr_own sd k.0 o.0, keys_own sd ks o.1)
 
+names_own : (sd : meaning.Scope) (xs : List (List ℕ)) → OldPath is_own xs → AllByRecursion (λ x. is_mine x ≡ false) (map (full_name sd) xs)
+names_own sd [] o = tt
+names_own sd (x ∷ xs) o = (own_not (full_name sd x) (name_own sd x o.0), names_own sd xs o.1)
+
+-- `NoAction`, where no default is written
+default_own : (sd : meaning.Scope) (as' : List Action) (d : Option (List ℕ × List Expr)) → OldDefault is_own d → is_mine (default_under sd as' d).action ≡ false
+default_own sd as' None o = refl
+default_own sd as' (Some d) o = own_not (full_name sd d.0) (name_own sd d.0 o.0)
+
 pub tables_own : (as' : List Action) (ls : List Local) (sd : meaning.Scope) → OldLocals is_own ls → AllByRecursion IsOwnTable (tables_in sd as' ls)
 tables_own as' [] sd o = tt
-tables_own as' (local_table p t ∷ ls) sd o = (record { name = own_not (full_name sd t.name) (name_own sd t.name o.0.name); keys = keys_own sd t.keys o.0.keys }, tables_own as' ls sd o.1)
+tables_own as' (local_table p t ∷ ls) sd o =
+    (record {
+      name = own_not (full_name sd t.name) (name_own sd t.name o.0.name);
+      keys = keys_own sd t.keys o.0.keys;
+      actions = (default_own sd as' t.default o.0.default, names_own sd t.actions o.0.actions);
+    }, tables_own as' ls sd o.1)
 tables_own as' (local_var p t x e ∷ ls) sd o = tables_own as' ls sd o.1
 tables_own as' (local_action p a ∷ ls) sd o = tables_own as' ls sd o.1
 tables_own as' (local_register p r ∷ ls) sd o = tables_own as' ls sd o.1

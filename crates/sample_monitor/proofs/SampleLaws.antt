@@ -1,5 +1,5 @@
 -- The monitor keeps the laws.
-use Rattle.std.proofs.Common.{◌≡◌, ℕ, ◌<◌, ◌^◌, List, [], ◌∷◌, map, Bool, true, false, cond, Some, None, refl, sym, ap, ◌∙◌, subst, arith}
+use Rattle.std.proofs.Common.{◌≡◌, ℕ, ◌<◌, ◌^◌, List, [], ◌∷◌, map, Bool, true, false, Some, None, refl, sym, ap, ◌∙◌, subst, arith}
 use Rattle.std.specs.Prelude.{if◌then◌else◌, nat_eq, All}
 use Rattle.std.specs.List.{AllByRecursion}
 use Rattle.std.proofs.lemmas.List.Elements.{All-nil, All-cons}
@@ -10,11 +10,10 @@ use Rattle.p4_meaning.specs.Pass.{Kept}
 use Rattle.network_run.specs.NetworkRun.{put}
 use Rattle.linkage.specs.Linkage.{SensorRegister, xor_with}
 use Rattle.switch_machines.specs.Programs.{cells_of}
-use Rattle.own_code.specs.Regions.{is_mine}
-use Rattle.own_code.proofs.Apart.{apart_names, text_decides}
+use Rattle.own_code.proofs.Apart.{text_decides}
 use Rattle.monitor_laws.specs.MonitorLaws.{AreMonitorEntries, IsMonitorAction, MonitorLaws}
-use Rattle.sample_monitor.specs.Property.{IsFit, OnlyZero, AreBytes}
-use Rattle.sample_monitor.specs.Sample.{Lookup, checks, starts, counter_name, entry_for, entries_for, table_for, holding, both_holding, sample, kept_cell, SampleKeeps}
+use Rattle.sample_monitor.specs.Property.{IsFit, AreByteViews, OnlyZero, AreBytes}
+use Rattle.sample_monitor.specs.Sample.{Lookup, checks, starts, counter_name, entry_for, entries_for, table_for, both_holding, sample, kept_cell, SampleKeeps}
 use Rattle.sample_monitor.proofs.Entry.{entry_does}
 use Rattle.sample_monitor.proofs.Exit.{exit_does, exit_verdict}
 
@@ -49,14 +48,18 @@ keeps_set v ks z c b is h =
     (record { cells = h.cells; count = h.count; bytes = h.bytes; checked = refl; started = refl })
 
 -- and no table of another name
-holds_none : (ks : List Word) (held : Tables) (x : List ℕ) → is_mine x ≡ false → both_holding ks held x ≡ held x
-holds_none ks held x out =
-    ap (λ b. cond b (entries_for checks ks) (holding starts ks held x)) (apart_names is_mine checks.table x refl out)
-    ∙ ap (λ b. cond b (entries_for starts ks) (held x)) (apart_names is_mine starts.table x refl out)
+holds_others : (ks : List Word) (held : Tables) (x : List ℕ) → table_named sample.tables x ≡ None → both_holding ks held x ≡ held x
+holds_others ks held x out = go (same_text checks.table x) (same_text starts.table x) out
+  where
+    go : (a b : Bool) → (if a then Some (table_for checks) else if b then Some (table_for starts) else None) ≡ None
+        → (if a then entries_for checks ks else if b then entries_for starts ks else held x) ≡ held x
+    go true b e = absurd (cc)
+    go false true e = absurd (cc)
+    go false false e = refl
 
-sets_none : (b : Bool) (ks : List Word) (held : Tables) (x : List ℕ) → is_mine x ≡ false → (if b then both_holding ks held else held) x ≡ held x
-sets_none true ks held x out = holds_none ks held x out
-sets_none false ks held x out = refl
+sets_others : (b : Bool) (ks : List Word) (held : Tables) (x : List ℕ) → table_named sample.tables x ≡ None → (if b then both_holding ks held else held) x ≡ held x
+sets_others true ks held x out = holds_others ks held x out
+sets_others false ks held x out = refl
 
 -- the numbers in the counter's register
 shown_cells : (z : List ℕ) → map (λ (w : Word). w.value) (map kept_cell z) ≡ map (xor_with 7) z
@@ -68,15 +71,16 @@ shown z c b h =
     let P : SensorRegister (List ℕ) (List ℕ) → Type 0 = λ x. cells_of b x.name ≡ map (xor_with x.initial) (x.cells z) in
     All-cons P (record { name = counter_name; cells = λ z. z; initial = 7 }) [] (ap (λ ws. map (λ (w : Word). w.value) ws) h.cells ∙ shown_cells z) (All-nil P)
 
-pub sample_laws : MonitorLaws sample IsFit SampleKeeps OnlyZero AreBytes
+pub sample_laws : MonitorLaws sample IsFit SampleKeeps AreByteViews OnlyZero AreBytes
 sample_laws =
     record {
-      entry = λ calls held means r h t z first last s. entry_does calls held means r h t z s;
-      exit = λ calls held means r h t z flags s. exit_does calls held means r h t z flags s;
-      verdict = λ calls held means r h t z flags s is. exit_verdict calls held means r h t z flags s is;
+      entry = λ calls held means r h t z first last fit s. entry_does calls held means r h t z s;
+      exit = λ calls held means r h t z flags fit s. exit_does calls held means r h t z flags s;
+      verdict = λ calls held means r h t z flags fit s is. exit_verdict calls held means r h t z flags s is;
       entry_keeps = λ s. (refl, (refl, (tt, (((refl, tt), tt), tt))));
       exit_keeps = λ s. (refl, (refl, (tt, (tt, (((refl, (refl, tt)), ((refl, (refl, tt)), (refl, (refl, tt)))), (tt, (((refl, (refl, (tt, (((refl, tt), tt), tt)))), tt), tt)))))));
       actions_keep = ((refl, tt), ((refl, tt), tt));
+      marked = omega arith;
       fitting = λ t f. (f.width, subst (λ n. t.five.value < 2 ^ n) (sym f.width) f.low, (refl, omega arith, (f.count.width, subst (λ n. t.count.value < 2 ^ n) (sym f.count.width) f.count.low, (f.front.width, subst (λ n. t.front.value < 2 ^ n) (sym f.front.width) f.front.low, (f.back.width, subst (λ n. t.back.value < 2 ^ n) (sym f.back.width) f.back.low, tt)))));
       apart = ((refl, (refl, (refl, (refl, (refl, tt))))), ((refl, (refl, (refl, (refl, tt)))), ((refl, (refl, (refl, tt))), ((refl, (refl, tt)), ((refl, tt), (tt, tt))))));
       whole = refl;
@@ -94,7 +98,7 @@ sample_laws =
       keeps_named = λ z c b h x t is. keeps_named z c b h x t is;
       keeps_start = λ c b fits cells. record { cells = cells counter_name refl; count = refl; bytes = (omega arith, (omega arith, (omega arith, (omega arith, tt)))); checked = refl; started = refl };
       keeps_set = λ v ks z c b is fits h. keeps_set v ks z c b is h;
-      loads_none = λ c held x out. holds_none (c 0) held x out;
-      sets_none = λ v ks held x out. sets_none (nat_eq v 0) ks held x out;
+      loads_others = λ c held x out. holds_others (c 0) held x out;
+      sets_others = λ v ks held x out. sets_others (nat_eq v 0) ks held x out;
       shown = λ z c b h. shown z c b h;
     }

@@ -35,7 +35,7 @@ abbrev pub example_store : (kind : ℕ) → Store
 example_store k =
     set_valid (set_value (set_value (set_value (set_value (set_value (set_value (set_value (set_value (set_value (set_value (set_value (set_value (set_value (set_value (set_value blank
     kind_path (word 8 k))
-    mark_path mark_word)
+    mark_path (mark_word 72))
     five_path (word 5 19))
     (tele_path (codes "hydra_fill")) (word 3 0))
     count_path (word 8 2))

@@ -89,6 +89,10 @@ pub record IsFit (t : Tele) : Type 0 where
   pub front : IsByte t.front
   pub back : IsByte t.back
 
+-- header variables are bytes
+abbrev pub AreByteViews : List Word → Type 0
+AreByteViews ws = AllByRecursion IsByte ws
+
 -- the one control variable, and what it may hold
 abbrev pub OnlyZero : ℕ → Type 0
 OnlyZero v = v ≡ 0

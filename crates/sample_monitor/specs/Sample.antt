@@ -162,6 +162,7 @@ abbrev pub sample : Monitor Tele (List ℕ) (List Word)
 sample =
     record {
       property = sample_property;
+      mark = 72;
       fields =
           record { name = codes "five"; width = 5 } ∷ record { name = codes "hydra_fill"; width = 3 } ∷ record { name = codes "count"; width = 8 }
           ∷ record { name = codes "front"; width = 8 } ∷ record { name = codes "back"; width = 8 } ∷ [];

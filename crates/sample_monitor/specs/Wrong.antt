@@ -1,19 +1,20 @@
 -- Monitors that are the sample but for one thing, each of which breaks a law. Read `Sample` before it.
 use Rattle.std.specs.Prelude.{ℕ, List, [], ◌∷◌, ◌++◌, false, get_or, if◌then◌else◌, nat_eq}
-use Rattle.bit_values.specs.Bits.{Word, word}
-use Rattle.p4_tree.specs.Tree.{flag, path, binary, slice, Stmt, Stmts, assign, done, next, and_then}
+use Rattle.bit_values.specs.Bits.{Word, word, invert, slice}
+use Rattle.p4_tree.specs.Tree.{flag, path, inversion, binary, slice as taken, cast, Stmt, Stmts, assign, done, next, and_then}
 use Rattle.p4_tree.specs.declared.statement.Op.TheVariants.{Equal}
+use Rattle.p4_tree.specs.declared.statement.PTy.TheVariants as type
 use Rattle.network_run.specs.PathMeaning.{Property}
 use Rattle.monitor_laws.specs.Names.{mark_path, first_name, last_name}
 use Rattle.monitor_laws.specs.Trees.{number, only_if}
 use Rattle.monitor_laws.specs.Monitor.{Monitor}
 use Rattle.monitor_laws.specs.MonitorLaws.{MonitorLaws}
-use Rattle.sample_monitor.specs.Property.{Tele, pushed, byte_of, cell_of, counter_report, length_report, sample_property, IsFit, OnlyZero, AreBytes}
+use Rattle.sample_monitor.specs.Property.{Tele, pushed, byte_of, first_of, is_known, cell_of, counter_report, length_report, sample_property, IsFit, AreByteViews, OnlyZero, AreBytes}
 use Rattle.sample_monitor.specs.Sample.{kind_path, five_path, counter_name, cell_name, checks, starts, variable, lookup, read_cell, turn_cell, report, write_cell, push, tell_count, check, holding, both_holding, sample, SampleKeeps}
 
 -- the monitor keeps the laws, where a switch keeps what it keeps for the sample
 abbrev pub IsLawful : Monitor Tele (List ℕ) (List Word) → Type 0
-IsLawful m = MonitorLaws m IsFit SampleKeeps OnlyZero AreBytes
+IsLawful m = MonitorLaws m IsFit SampleKeeps AreByteViews OnlyZero AreBytes
 
 -- another property, or other statements
 abbrev pub changed : Property Tele (List ℕ) (List Word) → (entry exit : ℕ → Stmts) → Monitor Tele (List ℕ) (List Word)
@@ -40,7 +41,17 @@ writes_mark = exit_with (assign 0 mark_path (number 8 0))
 abbrev pub reads_flag : Monitor Tele (List ℕ) (List Word)
 reads_flag =
     changed sample_property
-    (λ n. lookup starts (next (only_if (binary 0 Equal (variable first_name) (number 1 1)) (next (assign 0 five_path (slice 0 (path 0 kind_path) 4 0)) done)) done))
+    (λ n. lookup starts (next (only_if (binary 0 Equal (variable first_name) (number 1 1)) (next (assign 0 five_path (taken 0 (path 0 kind_path) 4 0)) done)) done))
+    sample.exit
+
+-- the header variable is taken to have 16 bits, of which the complement fills the upper ones; its field has 8
+abbrev pub reads_wide : Monitor Tele (List ℕ) (List Word)
+reads_wide =
+    changed
+    (record sample_property {
+      init = λ h d. if is_known h then record d { tele = record d.tele { five = word 5 (slice (invert 16 (first_of h.view).value) 12 8) } } else d;
+    })
+    (λ n. lookup starts (next (only_if (binary 0 Equal (variable starts.found) (number 1 1)) (next (assign 0 five_path (taken 0 (cast 0 (type.Bit 16) (inversion 0 (path 0 kind_path))) 12 8)) done)) done))
     sample.exit
 
 -- the values of a report stand the other way round, and the two reports do

@@ -11,7 +11,7 @@ mod rows;
 mod wrong;
 
 ghost use Rattle.monitor_laws.specs.MonitorLaws.{MonitorLaws};
-ghost use Rattle.sample_monitor.specs.Property.{IsFit, OnlyZero, AreBytes};
+ghost use Rattle.sample_monitor.specs.Property.{IsFit, AreByteViews, OnlyZero, AreBytes};
 ghost use Rattle.sample_monitor.specs.Sample.{sample, SampleKeeps};
 
 pub use rows::{a_packet_is_judged, statements_judge_it, telemetry_is_bytes};
@@ -19,5 +19,5 @@ pub use wrong::wrong_monitors_break_a_law;
 
 /// The monitor keeps the laws.
 pub fn sample_keeps_the_laws()
-    ensures { MonitorLaws sample IsFit SampleKeeps OnlyZero AreBytes }
+    ensures { MonitorLaws sample IsFit SampleKeeps AreByteViews OnlyZero AreBytes }
 {}

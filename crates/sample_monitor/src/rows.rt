@@ -40,8 +40,8 @@ pub fn statements_judge_it()
 /// The telemetry's bytes: the mark, five bits with three of fill, and the list. So it is before init too,
 /// which takes 40 modulo 32.
 pub fn telemetry_is_bytes()
-    ensures some { tele_bytes (sample.words example_tele) ≡ 72 ∷ 152 ∷ 2 ∷ 5 ∷ 9 ∷ [] }
-    ensures none { tele_bytes (sample.words no_tele) ≡ 72 ∷ 0 ∷ 0 ∷ 0 ∷ 0 ∷ [] }
-    ensures init { tele_bytes (sample.words (sample_property.init (example_reads 40) (nothing_yet no_tele example_cells)).tele) ≡ 72 ∷ 64 ∷ 0 ∷ 0 ∷ 0 ∷ [] }
-    ensures first { tele_bytes (sample.words (pushed (byte_of 258) no_tele)) ≡ 72 ∷ 0 ∷ 1 ∷ 2 ∷ 0 ∷ [] }
+    ensures some { tele_bytes 72 (sample.words example_tele) ≡ 72 ∷ 152 ∷ 2 ∷ 5 ∷ 9 ∷ [] }
+    ensures none { tele_bytes 72 (sample.words no_tele) ≡ 72 ∷ 0 ∷ 0 ∷ 0 ∷ 0 ∷ [] }
+    ensures init { tele_bytes 72 (sample.words (sample_property.init (example_reads 40) (nothing_yet no_tele example_cells)).tele) ≡ 72 ∷ 64 ∷ 0 ∷ 0 ∷ 0 ∷ [] }
+    ensures first { tele_bytes 72 (sample.words (pushed (byte_of 258) no_tele)) ≡ 72 ∷ 0 ∷ 1 ∷ 2 ∷ 0 ∷ [] }
 {}

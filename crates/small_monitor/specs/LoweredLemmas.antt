@@ -36,7 +36,7 @@ pub record HoldsTele (ds : List indus.Decl) (s : Store) (t : Held) : Type 0 wher
   pub plain : s.headers [] ≡ None
   pub standard : s.headers (standard_root ∷ []) ≡ None
   pub valid : s.headers tele_header ≡ Some true
-  pub mark : s.values mark_path ≡ mark_word
+  pub mark : s.values mark_path ≡ mark_word 72
   pub tele : (x : List ℕ) → is_declared ds x ≡ true → s.values (tele_path x) ≡ tele_word t x
   pub fits : IsFitTele ds t
 

@@ -1,6 +1,7 @@
 -- What the first small grammar lowers to: `tele` variables of 8 bits travel with a packet, and nothing else is held or
 -- kept. Read `Monitor` of `monitor_laws`, `Lowered` and `Telemetry` before it, and `MonitorLaws` of `monitor_laws` after it.
-use Rattle.std.specs.Prelude.{ℕ, [], ◌∷◌, length, map, false}
+use Rattle.std.specs.Prelude.{ℕ, List, [], ◌∷◌, length, map, false}
+use Rattle.bit_values.specs.Bits.{Word}
 use Rattle.p4_tree.specs.Tree.{Stmt, flag, path, assign, done, next, and_then}
 use Rattle.p4_meaning.specs.Pass.{Kept}
 use Rattle.indus_tree.specs.Tree.{Property}
@@ -22,6 +23,7 @@ abbrev pub small_monitor : Property → Monitor Held Held Contents
 small_monitor p =
     record {
       property = law_of p;
+      mark = 72;
       fields = map tele_field p.decls;
       words = tele_words p.decls;
       room = length p.decls;
@@ -40,6 +42,10 @@ small_monitor p =
 -- a switch keeps nothing of the property's
 abbrev pub NoneKept : Held → (ℕ → Contents) → Kept → Type 0
 NoneKept z c b = Unit {0}
+
+-- no header variable is read, so their words may be any
+abbrev pub AnyView : List Word → Type 0
+AnyView ws = Unit {0}
 
 -- no number is a control variable's
 abbrev pub NoVariable : ℕ → Type 0

@@ -1,12 +1,12 @@
 -- The lowering of a small property keeps the laws of a monitor, whatever calls do and tables hold: its statements call
 -- nothing. Each block does what the property's block does, from a state in which nothing is reported; the exit part is
 -- telemetry, and then, by the test of the flag, the checker from a state in which nothing is rejected.
-use Rattle.std.proofs.Common.{◌≡◌, ℕ, List, [], ◌∷◌, ◌++◌, map, Bool, true, false, None, refl, sym, ap, ap₂, ◌∙◌, subst, append-nil}
+use Rattle.std.proofs.Common.{◌≡◌, ℕ, List, [], ◌∷◌, ◌++◌, map, Bool, true, false, None, refl, sym, ap, ap₂, ◌∙◌, subst, append-nil, arith}
 use Rattle.std.specs.Prelude.{if◌then◌else◌}
 use Rattle.std.specs.List.{filter}
 use Rattle.std.proofs.lemmas.List.Elements.{All-nil}
 use Rattle.bit_values.specs.Widths.{bit, holds}
-use Rattle.p4_tree.specs.Tree.{Stmts, flag, assign, done, next, and_then}
+use Rattle.p4_tree.specs.Tree.{flag, assign, done, next}
 use Rattle.p4_meaning.specs.Store.{Store, shown, set_value}
 use Rattle.p4_meaning.specs.Statements.{Go, Run, Ended, after, in_store, Calls, meaning_of_stmt, meaning_of}
 use Rattle.p4_meaning.specs.Tables.{Tables}
@@ -26,7 +26,7 @@ use Rattle.monitor_laws.specs.MonitorLaws.{report_digest, Flags, HasTele, Does, 
 use Rattle.monitor_laws.proofs.Frames.{others_then, others_set, last_ended, open_by, assignment}
 use Rattle.small_monitor.specs.Lowered.{lowered_stmt, lowered_block, lowered_else}
 use Rattle.small_monitor.specs.Telemetry.{IsFitTele}
-use Rattle.small_monitor.specs.Small.{checker_of, small_monitor, NoneKept, NoVariable, NoContents}
+use Rattle.small_monitor.specs.Small.{checker_of, small_monitor, NoneKept, AnyView, NoVariable, NoContents}
 use Rattle.small_monitor.specs.LoweredLemmas.{HoldsTele, Lowered, lowers}
 use Rattle.small_monitor.specs.TelemetryLemmas.{words_for, has_all, has_at, start_fits, start_zero, names_apart, mark_apart, bytes_sum}
 
@@ -170,15 +170,16 @@ module _ (p : Property) (small : IsSmall p) where
           ∙ checked.stands.rejected refl
           ∙ sym (ap (λ (l : Bool). bit (if l then check_state else clear_state).rejected) is)
 
-  pub small_laws : MonitorLaws (small_monitor p) (IsFitTele ds) NoneKept NoVariable NoContents
+  pub small_laws : MonitorLaws (small_monitor p) (IsFitTele ds) NoneKept AnyView NoVariable NoContents
   small_laws =
       record {
-        entry = λ calls held means r h t z first last s. entry calls held r h t z s.tele;
-        exit = λ calls held means r h t z flags s. exit_does calls held r h t z flags s.tele;
-        verdict = λ calls held means r h t z flags s is. exit_verdict calls held r h t z flags s.tele is;
+        entry = λ calls held means r h t z first last fit s. entry calls held r h t z s.tele;
+        exit = λ calls held means r h t z flags fit s. exit_does calls held r h t z flags s.tele;
+        verdict = λ calls held means r h t z flags fit s is. exit_verdict calls held r h t z flags s.tele is;
         entry_keeps = λ s. low_keeps p.init;
         exit_keeps = λ s. both_keep (lowered_block p.tele) (next (checker_of p) done) (low_keeps p.tele) (((refl, low_keeps p.check), tt), tt);
         actions_keep = tt;
+        marked = omega arith;
         fitting = λ t fits. words_for ds t fits;
         apart = (mark_apart ds, names_apart ds small.distinct);
         whole = bytes_sum ds;
@@ -196,7 +197,7 @@ module _ (p : Property) (small : IsSmall p) where
         keeps_named = λ z c b h x t is. absurd (cc);
         keeps_start = λ c b fits cells. tt;
         keeps_set = λ v x z c b variable fits h. absurd variable;
-        loads_none = λ c held x o. refl;
-        sets_none = λ v x held y o. refl;
+        loads_others = λ c held x o. refl;
+        sets_others = λ v x held y o. refl;
         shown = λ z c b h. All-nil _;
       }

@@ -25,7 +25,7 @@ tele_words ds t = map (λ d. tele_word t d.name) ds
 
 -- the bytes that stand before a frame on a link: the mark and these words
 abbrev pub tele_bytes : List Decl → Held → List ℕ
-tele_bytes ds t = linked.tele_bytes (tele_words ds t)
+tele_bytes ds t = linked.tele_bytes 72 (tele_words ds t)
 
 -- the telemetry, as the network law takes it
 abbrev pub telemetry_of : List Decl → law.Telemetry Held

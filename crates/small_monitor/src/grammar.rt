@@ -4,7 +4,7 @@ ghost use Rattle.indus_tree.specs.State.{Contents, Held};
 ghost use Rattle.indus_tree.specs.Small.{IsSmall};
 ghost use Rattle.monitor_laws.specs.MonitorLaws.{MonitorLaws};
 ghost use Rattle.small_monitor.specs.Telemetry.{IsFitTele};
-ghost use Rattle.small_monitor.specs.Small.{small_monitor, NoneKept, NoVariable, NoContents};
+ghost use Rattle.small_monitor.specs.Small.{small_monitor, NoneKept, AnyView, NoVariable, NoContents};
 ghost use Rattle.small_monitor.specs.SmallLaws.{small_laws};
 
 use monitor_laws::{LinkedMonitor, LoweredMonitor};
@@ -27,6 +27,8 @@ impl LoweredMonitor for SmallGrammar {
 
     ghost IsFitTele = { λ p. IsFitTele p.decls };
 
+    ghost IsFitView = { λ p. AnyView };
+
     ghost Keeps = { λ p. NoneKept };
 
     ghost IsVariable = { λ p. NoVariable };
@@ -42,5 +44,5 @@ impl LinkedMonitor for SmallGrammar {
 /// entry statements do what `init` does, the exit statements do what the telemetry block does, and at the
 /// last hop the checker behind it, and neither writes anything but the monitor's.
 pub fn small_grammar_keeps_the_laws()
-    ensures { (p : Property) → IsSmall p → MonitorLaws (small_monitor p) (IsFitTele p.decls) NoneKept NoVariable NoContents }
+    ensures { (p : Property) → IsSmall p → MonitorLaws (small_monitor p) (IsFitTele p.decls) NoneKept AnyView NoVariable NoContents }
 {}

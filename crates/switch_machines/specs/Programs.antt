@@ -63,19 +63,20 @@ pub record Controls (C : Type 0) : Type 0 where
 abbrev pub no_controls : {C : Type 0} → Controls C
 no_controls = record { loaded = λ contents held. held; set = λ v c held. held }
 
--- the programs, whose forwarding entries are what their tables hold, by their full names
-abbrev pub machine_with : {C : Type 0} → Controls C → Programs → Machine Tables Kept Queued C
+-- the programs, whose forwarding entries are what their tables hold, by their full names. Which tables hold control
+-- variables may differ from switch to switch
+abbrev pub machine_with : {C : Type 0} → ((switch : ℕ) → Controls C) → Programs → Machine Tables Kept Queued C
 machine_with controls p =
     record {
-      start = λ s held contents. kept_before (p.program s) (controls.loaded contents held);
+      start = λ s held contents. kept_before (p.program s) ((controls s).loaded contents held);
       enter = λ s k port frame. entered_of p.reads k.tables (parts_enter (p.program s) k.tables k.registers port frame);
       leave = λ s k q. leaving_of p.reads k.tables (parts_leave (p.program s) k.tables k.registers q);
-      set = λ s k v c. record k { tables = controls.set v c k.tables };
+      set = λ s k v c. record k { tables = (controls s).set v c k.tables };
     }
 
 -- new contents of a control variable change nothing
 abbrev pub machine_of : {C : Type 0} → Programs → Machine Tables Kept Queued C
-machine_of = machine_with no_controls
+machine_of = machine_with (λ s. no_controls)
 
 -- the numbers in a register's cells
 abbrev pub cells_of : Kept → (name : List ℕ) → List ℕ

@@ -166,7 +166,7 @@ built size fields cases entry exit =
       metadata = length_field ∷ [];
       states =
           record { at = 0; name = codes "start"; body = assign 0 length_path (path 0 packet_length) ∷ []; next = select 0 (path 0 ingress_port ∷ []) cases }
-          ∷ taken_state size
+          ∷ taken_state (codes "packet") size
           ∷ passing_state (codes "hydra_start") (codes "accept")
           ∷ [];
       actions = [];

@@ -18,7 +18,7 @@ use Rattle.linked_halves.specs.LinkedParts.{rejects_cells, declarations, linked_
 use Rattle.linked_halves.specs.Held.{OwnEntries}
 use Rattle.linked_halves.specs.Given.{registers_of, IsHost, IsLinkage}
 use Rattle.small_monitor.specs.Telemetry.{telemetry_of, IsFitTele}
-use Rattle.small_monitor.specs.Small.{small_monitor, NoneKept, NoVariable}
+use Rattle.small_monitor.specs.Small.{small_monitor, NoneKept, AnyView, NoVariable}
 use Rattle.wire_program.specs.WireProgram.{wire_program}
 use Rattle.wire_program.specs.Network.{wire_line}
 use Rattle.wire_linkage.specs.Line.{AnyEntries, NoContents, machine_at, program_at, plain_line, line_of}
@@ -36,14 +36,16 @@ fit_world w v = record { hops = v.hops; entries = λ s known. any_entries s (w.e
 -- the linkage that the laws on any lowering give, on this line
 abbrev pub Given : Property → Type 0
 Given p =
-    IsHost (small_monitor p) (parts_of wire_program) wire_line (λ s. declarations (small_monitor p) (parts_of wire_program)) →
+    IsHost (small_monitor p) AnyView (parts_of wire_program) wire_line (λ s. declarations (small_monitor p) (parts_of wire_program)) →
     IsLinkage (small_monitor p) (parts_of wire_program) wire_line (λ s. declarations (small_monitor p) (parts_of wire_program)) (IsFitTele p.decls) NoneKept NoVariable (λ v. NoContents 0 v)
 
 module _ (p : Property) (given : Given p) where
-  host : IsHost (small_monitor p) (parts_of wire_program) wire_line (λ s. declarations (small_monitor p) (parts_of wire_program))
+  host : IsHost (small_monitor p) AnyView (parts_of wire_program) wire_line (λ s. declarations (small_monitor p) (parts_of wire_program))
   host =
       record {
         forwarding = wire_forwards;
+        fields = record { metadata = tt; headers = tt };
+        views = λ s h. tt;
         network = wire_line_is;
         joins = λ s. record {
           own_registers = λ x o. own_cells x o;

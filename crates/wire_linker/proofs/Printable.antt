@@ -1,5 +1,5 @@
 -- The linked programs of a small property can be printed: the monitor's names are names, since a variable's is one.
-use Rattle.std.proofs.Common.{◌≡◌, ℕ, zero, suc, ◌<◌, ◌^◌, Bool, true, false, List, [], ◌∷◌, length, map, refl, sym, ap, ◌∙◌, arith, inl, inr}
+use Rattle.std.proofs.Common.{codes, ◌≡◌, ℕ, zero, suc, ◌<◌, ◌^◌, Bool, true, false, List, [], ◌∷◌, length, map, refl, sym, ap, ◌∙◌, arith, inl, inr}
 use Rattle.std.specs.List.{All}
 use Rattle.std.proofs.lemmas.List.Elements.{All-head, All-tail}
 use Rattle.std.specs.Cmp.Lexicographic.{same_text as texts_same}
@@ -146,7 +146,7 @@ wire_can = (inl ((((refl, refl), ((refl, refl), tt)), (omega arith, omega arith)
 first_can : (ns : List ℕ) → All (λ n. n < 2 ^ 16) ns → CanSpellState (first_state ns)
 first_can ns low = ((refl, refl), ((((refl, refl), ((refl, refl), tt)), ((refl, refl), ((refl, refl), tt))), tt), ((((refl, refl), ((refl, refl), tt)), tt), cases_can ns low))
 
-taken_can : (size : ℕ) → size < 2 ^ 128 → CanSpellState (taken_state size)
+taken_can : (size : ℕ) → size < 2 ^ 128 → CanSpellState (taken_state (codes "packet") size)
 taken_can size short = (
   (refl, refl),
   (

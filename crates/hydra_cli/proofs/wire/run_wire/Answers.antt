@@ -5,7 +5,7 @@ use Rattle.indus_tree.specs.Tree.{Property}
 use Rattle.linked_halves.specs.LinkedParts.{declarations}
 use Rattle.linked_halves.proofs.Theorem.{linked}
 use Rattle.small_monitor.specs.Telemetry.{IsFitTele}
-use Rattle.small_monitor.specs.Small.{small_monitor, NoneKept, NoVariable, NoContents}
+use Rattle.small_monitor.specs.Small.{small_monitor, NoneKept, AnyView, NoVariable, NoContents}
 use Rattle.small_monitor.specs.SmallLaws.{small_laws}
 use Rattle.wire_program.specs.WireProgram.{wire_program}
 use Rattle.wire_program.specs.Network.{wire_line}
@@ -20,7 +20,7 @@ use Rattle.hydra_cli.proofs.wire.run_wire.Goals as goal
 -- the linkage that the small grammar's laws give
 small_given : (p : Property) → IsSmall p → Given p
 small_given p small =
-    λ host. linked (small_monitor p) (IsFitTele p.decls) NoneKept NoVariable NoContents (small_laws p small) (parts_of wire_program) wire_line (λ s. declarations (small_monitor p) (parts_of wire_program)) host
+    λ host. linked (small_monitor p) (IsFitTele p.decls) NoneKept AnyView NoVariable NoContents (small_laws p small) (parts_of wire_program) wire_line (λ s. declarations (small_monitor p) (parts_of wire_program)) host
 
 pub returns : goal.returns
 returns c =

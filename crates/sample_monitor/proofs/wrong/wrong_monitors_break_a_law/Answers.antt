@@ -1,4 +1,4 @@
-use Rattle.sample_monitor.proofs.Refused.{header_refused, first_refused, flag_refused, mark_refused, values_refused, reports_refused, set_refused, load_refused, cells_refused, fill_refused}
+use Rattle.sample_monitor.proofs.Refused.{header_refused, first_refused, wide_refused, flag_refused, mark_refused, values_refused, reports_refused, set_refused, load_refused, cells_refused, fill_refused}
 use Rattle.sample_monitor.proofs.wrong.wrong_monitors_break_a_law.Goals as goal
 
 pub returns-clause-header : goal.returns-clause-header
@@ -6,6 +6,9 @@ returns-clause-header c = λ laws. header_refused laws
 
 pub returns-clause-first : goal.returns-clause-first
 returns-clause-first c = λ laws. first_refused laws
+
+pub returns-clause-wide : goal.returns-clause-wide
+returns-clause-wide c = λ laws. wide_refused laws
 
 pub returns-clause-flag : goal.returns-clause-flag
 returns-clause-flag c = λ laws. flag_refused laws
