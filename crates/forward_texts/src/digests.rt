@@ -33,7 +33,7 @@ fn digest_text<'a>(
         packet: told.packet,
         switch: name_of(network, told.switch),
         number: told.digest.receiver,
-        values: &told.digest.values,
+        values: told.digest.values.as_slice(),
     };
     reports_text(alloc, &[row])
 }

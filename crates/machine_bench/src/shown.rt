@@ -1,7 +1,6 @@
 //! What leaves a switch, as a text.
 
-use p4_machine::{FrameBuf, Passed};
-use p4_statements::Digest;
+use p4_machine::{Digest, FrameBuf, Passed};
 use std::alloc::{AllocError, Global};
 
 /// A number, decimal.

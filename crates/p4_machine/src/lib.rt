@@ -18,6 +18,7 @@ mod queued;
 mod switch;
 
 pub use buffer::FrameBuf;
+pub use p4_statements::Digest;
 pub use pass::{Entered, Pass, Passed};
 pub use queued::Queued;
 pub use switch::Switch;

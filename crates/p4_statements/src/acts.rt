@@ -1,6 +1,6 @@
 //! What calls in a control do, but for calls of actions and applications of tables.
 
-ghost use Rattle.std.specs.Prelude.{◌≡◌, OnOk, IfOk, map, take};
+ghost use Rattle.std.specs.Prelude.{◌≡◌, ◌≤◌, OnOk, length, map, take};
 ghost use Rattle.p4_tree.specs.View.{arg_of, expr_of};
 ghost use Rattle.p4_meaning.specs.Store.{made};
 ghost use Rattle.p4_meaning.specs.Value.{value_of};
@@ -10,11 +10,12 @@ ghost use Rattle.p4_packets.specs.Fields.{store_of};
 
 use crate::registers::{read_cell, write_cell};
 use crate::run::{Digest, Run};
+use arrayvec::ArrayVec;
 use bit_values::{Bits, sound_width};
 use lex_text::{Literal, Name};
 use p4_packets::{Fields, assign, standard_path};
 use p4_tree::{Arg, Expr};
-use p4_values::{Sight, same_text, value_of, values_of};
+use p4_values::{Sight, same_text, value_of};
 use std::alloc::{AllocError, Global};
 
 /// setValid and setInvalid.
@@ -124,26 +125,43 @@ fn receiver_of(n: &Literal) -> u32
     number.cast(32).value as u32
 }
 
-/// The values that a digest hands up, nine at most.
-fn told_values(alloc: Global, list: &[Expr], s: &Fields) -> Result<Vec<Bits>, AllocError>
-    ensures { IfOk result (λ v. v.items ≡ take 9 (map (λ e. value_of e 0 (store_of s.now)) (map expr_of list.now))) }
+/// The values of so many expressions.
+fn values_of(list: &[Expr], s: &Fields) -> ArrayVec<Bits, 9>
+    requires { length list.now ≤ 9 }
+    ensures { result.items ≡ map (λ e. value_of e 0 (store_of s.now)) (map expr_of list.now) }
 {
-    let mut values = values_of(alloc, list, s)?;
-    values.truncate(9);
-    Ok(values)
+    let mut values = ArrayVec::new();
+    for e in list {
+        values.push(value_of(e, 0, s));
+    }
+    values
+}
+
+/// The first nine of a list.
+fn first_nine(list: &[Expr]) -> &[Expr]
+    ensures { result.now ≡ take 9 list.now }
+{
+    if list.len() < 9 { list } else { &list[..9] }
+}
+
+/// The values that a digest hands up, nine at most.
+fn told_values(list: &[Expr], s: &Fields) -> ArrayVec<Bits, 9>
+    ensures { result.items ≡ take 9 (map (λ e. value_of e 0 (store_of s.now)) (map expr_of list.now)) }
+{
+    values_of(first_nine(list), s)
 }
 
 /// A digest, of the receiver and the values.
-fn tell_to(alloc: Global, receiver: u32, list: &[Expr], r: &mut Run) -> Result<(), AllocError>
+fn tell_to(receiver: u32, list: &[Expr], r: &mut Run) -> Result<(), AllocError>
     ensures { OnOk result (Does (tells receiver (map expr_of list.now)) r.old r.new) }
 {
-    let values = told_values(alloc, list, &r.fields)?;
+    let values = told_values(list, &r.fields);
     r.digests.push(Digest { receiver, values })?;
     Ok(())
 }
 
 /// digest.
-pub fn tell(alloc: Global, args: &[Arg], r: &mut Run) -> Result<(), AllocError>
+pub fn tell(args: &[Arg], r: &mut Run) -> Result<(), AllocError>
     ensures { OnOk result (Does (digest_of (map arg_of args.now)) r.old r.new) }
 {
     match args {
@@ -156,7 +174,7 @@ pub fn tell(alloc: Global, args: &[Arg], r: &mut Run) -> Result<(), AllocError>
                     [second, more @ ..] => match second {
                         Arg::One(_, _) => Ok(()),
                         Arg::Many(_, list) => match more {
-                            [] => tell_to(alloc, receiver_of(n), list, r),
+                            [] => tell_to(receiver_of(n), list, r),
                             [_third, _others @ ..] => Ok(()),
                         },
                     },

@@ -23,15 +23,10 @@ fn on_drop<C: Calls>(alloc: Global, calls: &C, r: &mut Run) -> Result<Flow, Allo
 }
 
 /// A digest, as a statement.
-fn on_digest<C: Calls>(
-    alloc: Global,
-    calls: &C,
-    args: &[Arg],
-    r: &mut Run,
-) -> Result<Flow, AllocError>
+fn on_digest<C: Calls>(calls: &C, args: &[Arg], r: &mut Run) -> Result<Flow, AllocError>
     ensures { IfOk result (λ flow. ended (run_of r.new) (flow_of flow) ≡ done_by (C.means calls.now) (digest_of (map arg_of args.now)) (run_of r.old)) }
 {
-    tell(alloc, args, r)?;
+    tell(args, r)?;
     Ok(Flow::Go)
 }
 
@@ -106,7 +101,7 @@ fn call_named<C: Calls>(
     if same_text(name, "mark_to_drop") {
         on_drop(alloc, calls, r)
     } else if same_text(name, "digest") {
-        on_digest(alloc, calls, args, r)
+        on_digest(calls, args, r)
     } else if same_text(name, "verify_checksum") {
         on_sum(alloc, calls, true, args, r)
     } else if same_text(name, "update_checksum") {

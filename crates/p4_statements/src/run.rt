@@ -1,15 +1,35 @@
 //! What statements work on.
 
+ghost use Rattle.std.specs.Prelude.{◌≡◌};
+ghost use Rattle.p4_statements.specs.Runs.{digest_of};
+
+use arrayvec::ArrayVec;
 use bit_values::Bits;
 use lex_text::Name;
 use p4_packets::Fields;
 use p4_registers::Cells;
 
-/// What a `digest` hands up: the receiver's number, and the words.
+/// What a `digest` hands up: the receiver's number, and the words, nine at most. It takes no memory.
 #[derive(Drop)]
 pub struct Digest {
     pub receiver: u32,
-    pub values: Vec<Bits>,
+    pub values: ArrayVec<Bits, 9>,
+}
+
+impl Digest {
+    /// An equal digest.
+    pub fn copy(&self) -> Digest
+        ensures { digest_of result ≡ digest_of self.now }
+    {
+        let mut values = ArrayVec::new();
+        for value in self.values.as_slice() {
+            values.push(*value);
+        }
+        Digest {
+            receiver: self.receiver,
+            values,
+        }
+    }
 }
 
 /// What is in sight, the cells of the registers, and the digests so far.

@@ -47,7 +47,7 @@ pub(crate) fn enter<P: Pass + Drop>(
     ensures lost { traffic.new.lost ≡ traffic.old.lost }
 {
     let queued = station.enter(alloc, flight.port, &flight.frame)?;
-    traffic.tell(alloc, packet, flight.switch, station.buf.digests())?;
+    traffic.tell(packet, flight.switch, station.buf.digests())?;
     match queued {
         Some(queued) => Ok(Place::Waiting(Parked {
             switch: flight.switch,
@@ -86,7 +86,7 @@ fn sent<P: Pass + Drop>(
     ensures lost { traffic.new.lost ≡ traffic.old.lost }
 {
     let out = station.leave(alloc, queued)?;
-    traffic.tell(alloc, packet, switch, station.buf.digests())?;
+    traffic.tell(packet, switch, station.buf.digests())?;
     match out {
         Some(port) => {
             let frame = station.buf.frame().to_vec(alloc)?;

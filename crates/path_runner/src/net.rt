@@ -39,7 +39,7 @@ pub struct Net<P: Pass + Drop> {
 }
 
 impl<P: Pass + Drop> Net<P> {
-    ghost use Rattle.std.specs.Prelude.{◌≡◌, ◌<◌, ◌↔◌, [], ◌∷◌, length, map, false, IfOk, IsErr, IsTrue, OnOk};
+    ghost use Rattle.std.specs.Prelude.{◌≡◌, ◌<◌, ◌↔◌, [], ◌∷◌, length, map as each, false, IfOk, IsErr, IsTrue, OnOk};
     ghost use Rattle.network_run.specs.Events.{Enter, Leave, to_its_end, closing};
     ghost use Rattle.network_file.specs.Events.{event_of};
     ghost use Rattle.path_runner.specs.Nets.{AreKept, IsSame, RunsTo, Starts, state_before};
@@ -48,8 +48,8 @@ impl<P: Pass + Drop> Net<P> {
     ghost use Rattle.path_runner.specs.Switches.{switch_of};
     ghost use Rattle.path_runner.specs.Views.{state_of, is_given_up, log_of};
 
-    /// A network before the first event: switches, each with a buffer for its passages and with the list
-    /// of its tables that hold control variables, and the packets, each in flight at an edge port. A
+    /// A network before the first event: switches, each with a buffer for its passages and, in `map`, with
+    /// the list of its tables that hold control variables, and the packets, each in flight at an edge port. A
     /// packet may pass `hops` switches, and a frame on a link has at most `limit` bytes.
     ///
     /// # Errors
@@ -61,20 +61,20 @@ impl<P: Pass + Drop> Net<P> {
         bufs: Vec<FrameBuf>,
         network: Network,
         packets: Vec<Packet>,
-        tables: Vec<Vec<(u32, u32, u32, Decl)>>,
+        map: Vec<Vec<(u32, u32, u32, Decl)>>,
         hops: u8,
         limit: u32,
     ) -> Result<Net<P>, AllocError>
-        requires { IsHandedIn network (record { hops = hops; link = limit }) (map (switch_of P.program P.tables P.cells) switches.items)
-            bufs.items (map (λ l. length l.items) tables.items) (map arrival_of packets.items) }
+        requires { IsHandedIn network (record { hops = hops; link = limit }) (each (switch_of P.program P.tables P.cells) switches.items)
+            bufs.items (each (λ l. length l.items) map.items) (each arrival_of packets.items) }
         ensures state { IfOk result (λ n. state_of n ≡ state_before network (record { hops = hops; link = limit })
-            (map (switch_of P.program P.tables P.cells) switches.items) (map arrival_of packets.items)) }
-        ensures starts { IfOk result (λ n. Starts (map (switch_of P.program P.tables P.cells) switches.items)
-            (map arrival_of packets.items) (state_of n)) }
+            (each (switch_of P.program P.tables P.cells) switches.items) (each arrival_of packets.items)) }
+        ensures starts { IfOk result (λ n. Starts (each (switch_of P.program P.tables P.cells) switches.items)
+            (each arrival_of packets.items) (state_of n)) }
         ensures given_up { IfOk result (λ n. is_given_up n ≡ false) }
     {
         // No table holds a control variable yet.
-        drop(tables);
+        drop(map);
         let stations = stations(alloc, network.count(), switches, bufs)?;
         let places = flights(alloc, packets)?;
         Ok(Net {

@@ -1,6 +1,6 @@
 //! Packets, and what becomes of them.
 
-use p4_statements::Digest;
+use p4_machine::Digest;
 
 /// A packet at the start: the switch and the edge port to which it comes, and its frame.
 #[derive(Drop)]

@@ -1,13 +1,12 @@
 //! What has happened in a network so far.
 
-ghost use Rattle.std.specs.Prelude.{◌≡◌, ◌+◌, ◌++◌, map, IfOk, OnOk};
+ghost use Rattle.std.specs.Prelude.{◌≡◌, ◌+◌, ◌++◌, map, OnOk};
 ghost use Rattle.p4_statements.specs.Runs.{digest_of};
 ghost use Rattle.switch_machines.specs.Programs.{network_digest};
 ghost use Rattle.network_run.specs.NetworkRun.{told_by};
 
 use crate::packet::{Sent, Told};
-use bit_values::Bits;
-use p4_statements::Digest;
+use p4_machine::Digest;
 use std::alloc::{AllocError, Global};
 
 /// The frames put on links, the frames that left by edge ports and the digests, each in the order of
@@ -19,16 +18,6 @@ pub(crate) struct Traffic {
     pub told: Vec<Told>,
     pub dropped: u32,
     pub lost: u32,
-}
-
-/// A copy of a digest.
-fn copy(alloc: Global, digest: &Digest) -> Result<Digest, AllocError>
-    ensures { IfOk result (λ d. digest_of d ≡ digest_of digest.now) }
-{
-    Ok(Digest {
-        receiver: digest.receiver,
-        values: digest.values.to_vec(alloc)?,
-    })
 }
 
 impl Traffic {
@@ -51,7 +40,6 @@ impl Traffic {
     /// A packet's digests at a switch go behind those so far.
     pub fn tell(
         &mut self,
-        alloc: Global,
         packet: u32,
         switch: u16,
         digests: &[Digest],
@@ -63,11 +51,10 @@ impl Traffic {
         ensures lost { self.new.lost ≡ self.old.lost }
     {
         for digest in digests {
-            let digest = copy(alloc, digest)?;
             self.told.push(Told {
                 packet,
                 switch,
-                digest,
+                digest: digest.copy(),
             })?;
         }
         Ok(())

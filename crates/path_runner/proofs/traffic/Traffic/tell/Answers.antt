@@ -13,7 +13,7 @@ loop-digest-preserved c =
           (map told_of c.args.self.now.told.items) before (map told_of c.push.new.self.items)
           c.loop-digest-test.true c.digest-item.is c.loop-digest.invariant.told
           (ap (map told_of) c.in_ok-push.ensures.items ∙ map-append told_of c.loop-digest.self.told.items _
-          ∙ ap (λ d. before ++ record { packet = c.args.packet; switch = c.args.switch; digest = network_digest d } ∷ []) c.in_ok-digest.ensures);
+          ∙ ap (λ d. before ++ record { packet = c.args.packet; switch = c.args.switch; digest = network_digest d } ∷ []) c.copy.ensures);
       wires = c.loop-digest.invariant.wires;
       edges = c.loop-digest.invariant.edges;
       dropped = c.loop-digest.invariant.dropped;
