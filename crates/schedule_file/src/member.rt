@@ -39,7 +39,7 @@ pub(crate) enum Member {
 }
 
 fn known_packet(around: Around<'_>, at: u32, number: u64) -> Result<u32, ScheduleFault>
-    ensures { Gives (λ n. n) result (members.known_packet (around_view around.entry) at number) }
+    ensures { result ≡ members.known_packet (around_view around.entry) at number }
 {
     if number < around.packets as u64 {
         Ok(number as u32)
@@ -49,7 +49,7 @@ fn known_packet(around: Around<'_>, at: u32, number: u64) -> Result<u32, Schedul
 }
 
 fn packet(around: Around<'_>, at: u32, value: &Value) -> Result<u32, ScheduleFault>
-    ensures { Gives (λ n. n) result (members.packet_at (around_view around.entry) at (view value.now)) }
+    ensures { result ≡ members.packet_at (around_view around.entry) at (view value.now) }
 {
     match value.as_u64() {
         Some(number) => known_packet(around, at, number),
