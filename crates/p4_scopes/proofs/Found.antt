@@ -5,7 +5,7 @@ use Rattle.std.proofs.Math.Seq.{take-append_seam}
 use Rattle.lex_text.specs.Names.{same_text}
 use Rattle.p4_tree.specs.declared.statement.PTy.{PTy}
 use Rattle.p4_tree.specs.declared.statement.PTy.TheVariants as type
-use Rattle.p4_scopes.specs.Scopes.{Stands, missing, typed, act, state, function, algorithm, other, Scope, What, alias, fields, value, register, action, table, parser_state, part, as_typed, as_held, type_at, field_at, behind, declare, standard_at, core}
+use Rattle.p4_scopes.specs.Scopes.{Stands, missing, typed, act, function, algorithm, other, Scope, What, alias, fields, value, register, action, table, parser_state, part, as_typed, as_held, type_at, field_at, behind, declare, standard_at, core}
 use Rattle.p4_scopes.specs.View.{Declaration, declare_all, scope_of}
 use Rattle.p4_scopes.specs.Resolving.{last_from, last_at, end_of, core_resolved, standard_field, what_resolved, number_resolved, name_resolved, resolve, field_resolved, or_missing, what_field, number_field, field_of, walk}
 use Rattle.p4_scopes.specs.declared.kind.Kind.TheVariants.{Number, Error}
@@ -249,16 +249,14 @@ core_untyped : (x : List ℕ) → as_typed (cond (same_text x (codes "NoAction")
     (cond (same_text x (codes "digest")) (function Digest)
     (cond (same_text x (codes "verify_checksum")) (function VerifyChecksum)
     (cond (same_text x (codes "update_checksum")) (function UpdateChecksum)
-    (cond (same_text x (codes "accept") || same_text x (codes "reject")) state
-    (cond (same_text x (codes "HashAlgorithm")) other missing))))))) ≡ missing
+    (cond (same_text x (codes "HashAlgorithm")) other missing)))))) ≡ missing
 core_untyped x =
     untyped (same_text x (codes "NoAction")) (act [] 0) _ refl
     (untyped (same_text x (codes "mark_to_drop")) (function MarkToDrop) _ refl
     (untyped (same_text x (codes "digest")) (function Digest) _ refl
     (untyped (same_text x (codes "verify_checksum")) (function VerifyChecksum) _ refl
     (untyped (same_text x (codes "update_checksum")) (function UpdateChecksum) _ refl
-    (untyped (same_text x (codes "accept") || same_text x (codes "reject")) state _ refl
-    (untyped (same_text x (codes "HashAlgorithm")) other missing refl refl))))))
+    (untyped (same_text x (codes "HashAlgorithm")) other missing refl refl)))))
 
 end_cond : (b : Bool) (r s : Resolved) (u v : Stands) → end_of r ≡ u → end_of s ≡ v → end_of (cond b r s) ≡ cond b u v
 end_cond true r s u v g h = g

@@ -174,7 +174,6 @@ core_name x =
     if same_text x (codes "digest") then function Digest else
     if same_text x (codes "verify_checksum") then function VerifyChecksum else
     if same_text x (codes "update_checksum") then function UpdateChecksum else
-    if same_text x (codes "accept") || same_text x (codes "reject") then state else
     if same_text x (codes "HashAlgorithm") then other else missing
 
 abbrev pub core_field : List ℕ → List ℕ → Stands

@@ -1,7 +1,7 @@
 -- As what a path may be used. A path that stands for nothing fits every use: another test speaks of it. Read `Scopes`
 -- before it.
 use Rattle.std.specs.Prelude.{ℕ, Bool, true, false}
-use Rattle.p4_scopes.specs.Scopes.{Stands, missing, typed, held, act, rows, state, algorithm}
+use Rattle.p4_scopes.specs.Scopes.{Stands, missing, typed, held, act, rows, algorithm}
 use Rattle.p4_scopes.specs.declared.thing.Thing.{Thing}
 use Rattle.p4_scopes.specs.declared.thing.Thing.TheVariants.{Scalar, Header, Standard}
 use Rattle.p4_scopes.specs.declared.thing.Access.{Access}
@@ -48,11 +48,6 @@ abbrev pub is_action : Stands → Bool
 is_action missing = true
 is_action (act ks m) = true
 is_action _ = false
-
-abbrev pub is_state : Stands → Bool
-is_state missing = true
-is_state state = true
-is_state _ = false
 
 abbrev pub is_algorithm : Stands → Bool
 is_algorithm missing = true

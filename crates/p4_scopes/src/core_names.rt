@@ -72,8 +72,6 @@ fn core_name<'s>(x: &Name) -> Stands<'s>
         Stands::Function(Function::VerifyChecksum)
     } else if is(x, "update_checksum") {
         Stands::Function(Function::UpdateChecksum)
-    } else if is(x, "accept") || is(x, "reject") {
-        Stands::State
     } else if is(x, "HashAlgorithm") {
         Stands::Other
     } else {

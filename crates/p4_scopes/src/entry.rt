@@ -27,7 +27,7 @@ pub enum Declared<'a> {
 /// A declaration of a name.
 #[derive(Drop)]
 pub struct Entry<'a> {
-    pub name: &'a Name,
+    pub name: &'a str,
     pub declared: Declared<'a>,
     /// The number of the declaration before it that has the same name.
     pub older: Option<usize>,

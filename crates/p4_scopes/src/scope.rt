@@ -89,10 +89,10 @@ impl<'a> Scope<'a> {
     }
 
     /// The number of the last declaration of a name.
-    fn newest(&self, name: &Name) -> Option<usize>
+    fn newest(&self, name: &str) -> Option<usize>
         ensures { result ≡ last_at self.now name.now }
     {
-        match self.names.get(name.as_str()) {
+        match self.names.get(name) {
             Some(i) => *i,
             None => None,
         }
@@ -102,7 +102,7 @@ impl<'a> Scope<'a> {
     fn name_resolved(&self, name: &Name) -> Resolved
         ensures { result ≡ name_resolved self.now name.now (last_at self.now name.now) }
     {
-        match self.newest(name) {
+        match self.newest(name.as_str()) {
             None => core_resolved(name),
             Some(i) => match self.entries.get(i) {
                 Some(e) => entry_resolved(&e.declared, i),
@@ -166,7 +166,7 @@ impl<'a> Scope<'a> {
     fn find_from<'s>(&'s self, name: &Name, rest: &[Name]) -> Stands<'s>
         ensures { stands_of result ≡ scope_of self.now (name.now ∷ rest.now) }
     {
-        match self.newest(name) {
+        match self.newest(name.as_str()) {
             None => core(name, rest),
             Some(i) => match self.entries.get(i) {
                 Some(e) => self.behind(&e.declared, rest),
@@ -270,6 +270,15 @@ impl<'a> Scope<'a> {
         ensures declared { OnOk result (scope_of self.new ≡ declare (scope_of self.old) name.now (what_of what.entry)) }
         ensures err { OnErr result (self.new ≡ self.old) }
     {
+        self.declare_text(name.as_str(), what)
+    }
+
+    /// Puts a name that is no program's into sight.
+    pub fn declare_text(&mut self, name: &'a str, what: What<'a>) -> Result<(), AllocError>
+        ensures ok { OnOk result (self.new ≡ with_declaration self.old name.now (what_of what.entry)) }
+        ensures declared { OnOk result (scope_of self.new ≡ declare (scope_of self.old) name.now (what_of what.entry)) }
+        ensures err { OnErr result (self.new ≡ self.old) }
+    {
         let declared = self.known(what)?;
         let older = self.newest(name);
         let number = self.entries.len();
@@ -278,7 +287,7 @@ impl<'a> Scope<'a> {
             declared,
             older,
         })?;
-        match self.names.insert(name.as_str(), Some(number)) {
+        match self.names.insert(name, Some(number)) {
             Ok(_) => Ok(()),
             Err(_) => {
                 self.entries.truncate(number);
@@ -295,7 +304,7 @@ impl<'a> Scope<'a> {
         if let Some(e) = self.entries.get(left) {
             let (name, older) = (e.name, e.older);
             self.entries.truncate(left);
-            let _ = self.names.insert(name.as_str(), older);
+            let _ = self.names.insert(name, older);
         }
     }
 

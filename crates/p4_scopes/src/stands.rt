@@ -2,7 +2,7 @@
 
 ghost use Rattle.std.specs.Prelude.{◌≡◌};
 ghost use Rattle.p4_scopes.specs.Scopes.{as_held, is_missing, value_kind, typed_thing};
-ghost use Rattle.p4_scopes.specs.Uses.{reads, holds_header, holds_standard, is_table, is_action, is_state, is_algorithm, is_type, is_writable, is_constant, most_in};
+ghost use Rattle.p4_scopes.specs.Uses.{reads, holds_header, holds_standard, is_table, is_action, is_algorithm, is_type, is_writable, is_constant, most_in};
 ghost use Rattle.p4_scopes.specs.View.{stands_of};
 
 use crate::kind::Kind;
@@ -120,16 +120,6 @@ impl<'s> Stands<'s> {
         match self {
             Stands::Missing => true,
             Stands::Act(_, _) => true,
-            _ => false,
-        }
-    }
-
-    pub fn is_state(&self) -> bool
-        ensures { result ≡ is_state (stands_of self.now) }
-    {
-        match self {
-            Stands::Missing => true,
-            Stands::State => true,
             _ => false,
         }
     }

@@ -122,10 +122,15 @@ abbrev pub bits_over : Scope → List Expr → ℕ
 bits_over s [] = 0
 bits_over s (e ∷ es) = (bits_in (own s e) + bits_over s es) % 16
 
--- a list of numbers and truth values that fill 16 bits each time
+-- the width of each value of a list is known
+abbrev pub have_bits : Scope → List Expr → Bool
+have_bits s [] = true
+have_bits s (e ∷ es) = not (nat_eq (bits_in (own s e)) 0) && have_bits s es
+
+-- a list of numbers and truth values that fill 16 bits each time, which is told where the width of each is known
 abbrev pub summed_arg : Scope → Arg → Tests ProgramRule
 summed_arg s (one p e) = misfit p
-summed_arg s (many p es) = both (test p BadSize (not (nat_eq (bits_over s es) 0))) (all_free s es)
+summed_arg s (many p es) = both (test p BadSize (have_bits s es && not (nat_eq (bits_over s es) 0))) (all_free s es)
 
 -- a constant stands there, which is no field
 abbrev pub is_known : Stands → Bool

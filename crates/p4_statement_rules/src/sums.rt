@@ -5,7 +5,7 @@ ghost use Rattle.p4_tree.specs.View.{arg_of, expr_of};
 ghost use Rattle.p4_scopes.specs.View.{scope_of, stands_of};
 ghost use Rattle.p4_statement_rules.specs.Ranks.{first_from};
 ghost use Rattle.p4_statement_rules.specs.Forms.{path_in};
-ghost use Rattle.p4_statement_rules.specs.Calls.{bits_over, summed_arg, is_known, summed_path, summed_field, field_arg, sum_tests};
+ghost use Rattle.p4_statement_rules.specs.Calls.{bits_over, have_bits, summed_arg, is_known, summed_path, summed_field, field_arg, sum_tests};
 
 use crate::calls::{Wanted, check_arg, check_path_arg, check_target, misfit};
 use crate::expressions::{check_all_free, check_fit};
@@ -30,6 +30,18 @@ fn bits_over(scope: &Scope, values: &[Expr]) -> u16
     bits
 }
 
+/// Whether the width of each value of a list is known.
+fn have_bits(scope: &Scope, values: &[Expr]) -> bool
+    ensures { result ≡ have_bits (scope_of scope.now) (map expr_of values.now) }
+{
+    for e in values {
+        if bits_in(scope.own(e)) == 0 {
+            return false;
+        }
+    }
+    true
+}
+
 /// A list of numbers and truth values that fill 16 bits each time.
 fn check_summed(found: &mut Found, scope: &Scope, arg: &Arg) -> Result<(), AllocError>
     ensures { IfOk result (λ _. found.new.first
@@ -41,7 +53,8 @@ fn check_summed(found: &mut Found, scope: &Scope, arg: &Arg) -> Result<(), Alloc
             Ok(())
         }
         Arg::Many(at, values) => {
-            found.test(*at, ProgramRule::BadSize, bits_over(scope, values) != 0);
+            let odd = have_bits(scope, values) && bits_over(scope, values) != 0;
+            found.test(*at, ProgramRule::BadSize, odd);
             check_all_free(found, scope, values)
         }
     }
