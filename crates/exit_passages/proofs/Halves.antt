@@ -1,8 +1,8 @@
 -- Both halves of a passage of a program without exits.
 use Rattle.std.proofs.Common.{◌≡◌, ℕ, List, [], ◌∷◌, ◌++◌, length, Bool, true, false, ◌||◌, cond, Some, None, refl, ap, ap₂, ◌∙◌, subst}
+use Rattle.std.specs.Prelude.{nat_eq}
 use Rattle.std.specs.List.{AllByRecursion}
-use Rattle.std.specs.Option.{option_map}
-use Rattle.bit_values.specs.Bits.{word, cast}
+use Rattle.bit_values.specs.Bits.{Word, word, cast}
 use Rattle.bit_values.specs.Bytes.{bits_of}
 use Rattle.lex_text.specs.Names.{same_path}
 use Rattle.p4_tree.specs.Tree.{Program}
@@ -15,13 +15,13 @@ use Rattle.p4_meaning.specs.Parts.{Parts, whole, parts_of}
 use Rattle.p4_meaning.specs.Pass.{Registers, Queued, Going, run_from, store_before, store_behind, is_dropped, unless_dropped, is_field_of, is_header_field, is_one_path, is_declared_path, is_declared_header, declared, to_egress, parts_enter, parts_leave, left_behind}
 use Rattle.p4_meaning.specs.Laws.{AreListed}
 use Rattle.exit_statements.specs.Actions.{RunListed}
-use Rattle.exit_statements.specs.Controls.{is_long, AreLong, LeaveAlike}
+use Rattle.exit_statements.specs.Controls.{is_long, AreLong, SameButVariables, LeaveAlike}
 use Rattle.exit_statements.proofs.Controlled.{longer}
 use Rattle.exit_programs.specs.Programs.{flags}
 use Rattle.exit_programs.specs.Names.{HasGivenNames}
 use Rattle.exit_programs.specs.Owned.{all_actions, all_tables, OwnsWhatItUses, ComputeIsPlain}
 use Rattle.exit_programs.specs.Without.{parts_without}
-use Rattle.exit_passages.specs.Passages.{IsQueued, end_of, LeavesSame, PassesSame, PassesAgree}
+use Rattle.exit_passages.specs.Passages.{IsQueued, SameEnds, LeavesSame, PassesSame, PassesAgree}
 use Rattle.exit_programs.proofs.Apart.{OwnApart, apart}
 use Rattle.exit_passages.proofs.Listed.{run_listed}
 use Rattle.exit_passages.proofs.Starts.{long_off, starts}
@@ -70,11 +70,11 @@ unless_is : (b : Bool) (q w : Queued) → unless_dropped b q ≡ Some w → q �
 unless_is true q w e = absurd (cc e)
 unless_is false q w e = cc e
 
-ends_by : (p : Parts) (b c : Bool) (g h : Going) → b ≡ c → declared p g.exit_state ≡ declared p h.exit_state → option_map (end_of p) (unless_dropped b g) ≡ option_map (end_of p) (unless_dropped c h)
-ends_by p true true g h e k = refl
-ends_by p false false g h e k = ap Some k
-ends_by p true false g h e k = absurd (cc e)
-ends_by p false true g h e k = absurd (cc e)
+ends_by : (b c : Bool) (g h : Going) → c ≡ b → SameButVariables g.exit_state h.exit_state → SameEnds (unless_dropped b g) (unless_dropped c h)
+ends_by true true g h e k = tt
+ends_by false false g h e k = k
+ends_by true false g h e k = absurd (cc e)
+ends_by false true g h e k = absurd (cc e)
 
 -- ---- the halves
 
@@ -92,17 +92,17 @@ module _ (p : Program) (given : HasGivenNames p) (apart : OwnApart p.tops) (ingr
       let kept = starts flags.left (parts_of p) cells port frame long (states_spared p given apart) (verify_spared p given apart) in
       enter_same p 2 ingress held (listed held l) long r.store e.reading.rest r (record { plain = kept.plain; unset = λ off. kept.value }))
 
-  leaves : (held : Tables) → AreListed (parts_of p) held → (cells : Registers) (w : Queued) → IsQueued w → LeavesSame (parts_of p) (parts_leave (parts_of p) held cells w) (parts_leave (parts_without p) held cells w)
+  leaves : (held : Tables) → AreListed (parts_of p) held → (cells : Registers) (w : Queued) → IsQueued w → LeavesSame (parts_leave (parts_of p) held cells w) (parts_leave (parts_without p) held cells w)
   unfolding parts_leave
   leaves held l cells w q = shown (leave_alike p 3 egress held (listed held l) long computes w.rest (run_from w.store cells) (record { plain = q.plain; unset = λ off. q.blank flags.left }))
     where
-      shown : {x y : Run} → LeaveAlike (parts_of p) w.rest x y → LeavesSame (parts_of p) (left_behind (parts_of p) w.rest x) (left_behind (parts_without p) w.rest y)
+      shown : {x y : Run} → LeaveAlike (parts_of p) w.rest x y → LeavesSame (left_behind (parts_of p) w.rest x) (left_behind (parts_without p) w.rest y)
       shown {x = x} {y = y} k =
           record {
             registers = k.registers;
             digests = k.digests;
             sent_same = k.sent_same;
-            ends = ends_by (parts_of p) (is_dropped y.store) (is_dropped x.store) _ _ (ap is_dropped k.ends) k.ends;
+            ends = ends_by (is_dropped x.store) (is_dropped y.store) _ _ (ap (λ (w : Word). nat_eq w.value 511) (k.ends.values egress_spec refl)) k.ends;
           }
 
   queues : (held : Tables) (cells : Registers) (port : ℕ) (frame : List ℕ) (w : Queued) → (parts_enter (parts_of p) held cells port frame).queued ≡ Some w → IsQueued w

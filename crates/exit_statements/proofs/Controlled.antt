@@ -194,7 +194,7 @@ no_variable p l (x ∷ []) d =
     not_both (is_declared_path p (x ∷ [])) d none
 no_variable p l (x ∷ y ∷ rest) d = refl
 
-pub same_declared : (p : Parts) → AreLong p.headers → (a b : Run) → Alike (all_but nothing_seen) a b → declared p b.store ≡ declared p a.store
+same_declared : (p : Parts) → AreLong p.headers → (a b : Run) → Alike (all_but nothing_seen) a b → declared p b.store ≡ declared p a.store
 same_declared p l a b h = λ i. record { values = λ q. values q i; headers = λ q. if is_declared_header p.headers q then h.headers i q else None }
   where
     values : (q : List (List ℕ)) → (if is_declared_path p q then b.store.values q else word 1 0) ≡ (if is_declared_path p q then a.store.values q else word 1 0)

@@ -24,7 +24,7 @@ use Rattle.exit_statements.proofs.Values.{value_alike, start_alike, assigned_ran
 use Rattle.exit_statements.proofs.Guards.{weaker}
 use Rattle.exit_statements.proofs.Runs.{or_left, or_right, behind_less, behind_flags}
 use Rattle.exit_statements.proofs.Acted.{set_shows}
-use Rattle.exit_statements.proofs.Controlled.{longer, same_declared, control_alike}
+use Rattle.exit_statements.proofs.Controlled.{longer, control_alike}
 
 -- ---- what cannot leave
 
@@ -134,5 +134,5 @@ leaves_agree flagged n returned own p b held free listed l computes rest r begin
           registers = h.cells;
           digests = h.digests;
           sent_same = sent_by _ _ ∙ (λ i. unless_dropped (drop i) (port i, frame i)) ∙ sym (sent_by _ _);
-          ends = same_declared p l x y h;
+          ends = record { headers = h.headers; values = λ q o. h.values q (long_shown q o) };
         }

@@ -14,7 +14,7 @@ use Rattle.p4_meaning.specs.Actions.{Action}
 use Rattle.p4_meaning.specs.Tables.{Table, Tables, calls_in}
 use Rattle.p4_meaning.specs.Parts as parts
 use Rattle.p4_meaning.specs.Parts.{Parts, whole}
-use Rattle.p4_meaning.specs.Pass.{Going, Leaving, declared, entered, left_behind}
+use Rattle.p4_meaning.specs.Pass.{Going, Leaving, entered, left_behind}
 use Rattle.exit_statements.specs.Without.{in_control, Flags, no_exits, stmts_leave, stmts_without}
 use Rattle.exit_statements.specs.Free.{AreFreeStmts}
 use Rattle.exit_statements.specs.Laws.{is_other}
@@ -53,12 +53,13 @@ pub record IsFreeControl (n : Flags) (returned : List ℕ → List ℕ) (own : L
   pub actions : AllByRecursion (IsFreeAction n.left returned own (is_among (var_names b.locals))) as'
   pub tables : AllByRecursion (IsFreeTable (is_among (var_names b.locals))) ts
 
--- each header has a path of two names at least
+-- a path of two names at least
 abbrev pub is_long : List (List ℕ) → Bool
 is_long [] = false
 is_long (x ∷ []) = false
 is_long (x ∷ y ∷ rest) = true
 
+-- each header has such a path
 abbrev pub AreLong : List Header → Type 0
 AreLong hs = AllByRecursion (λ h. is_long h.path ≡ true) hs
 
@@ -93,12 +94,17 @@ sent_of g = (g.port, g.frame)
 abbrev pub sent : Leaving → Option (ℕ × List ℕ)
 sent l = option_map sent_of l.going
 
--- what leaves and what is kept is the same, and the stores at the end agree on what the program declares
+-- stores that differ in variables alone: headers are the same, and so is what stands at paths of two names or more
+pub record SameButVariables (s t : Store) : Type 0 where
+  pub headers : t.headers ≡ s.headers
+  pub values : (q : List (List ℕ)) → is_long q ≡ true → t.values q ≡ s.values q
+
+-- what leaves and what is kept is the same, and the stores at the end differ in variables alone
 pub record LeaveAlike (p : Parts) (rest : List ℕ) (a b : Run) : Type 0 where
   pub registers : (left_behind p rest b).registers ≡ (left_behind p rest a).registers
   pub digests : (left_behind p rest b).digests ≡ (left_behind p rest a).digests
   pub sent_same : sent (left_behind p rest b) ≡ sent (left_behind p rest a)
-  pub ends : declared p b.store ≡ declared p a.store
+  pub ends : SameButVariables a.store b.store
 
 -- the exit half gives the same but for variables at its end, whatever tables hold
 abbrev pub LeavesAgree : Type 0
