@@ -1,5 +1,5 @@
-//! Texts of programs with their trees, and texts that spell none, with the token at which that is
-//! seen.
+//! Texts of programs with their trees, and one that is cut behind each of its tokens. Texts that spell none stand as rows
+//! of `forward` under `tests/` at the top of the repository.
 
 ghost use Rattle.std.specs.Prelude.{◌≤◌, length, IfOk};
 ghost use Rattle.p4_tree.specs.View.{program_of};
@@ -38,27 +38,6 @@ fn answer(rt: &impl Abort, alloc: Global, text: &[u8]) -> Result<String, Fail> {
         }
         Err(ProgramFault::TooDeep { at }) => Ok(format!(in alloc; "too deep {at}")?),
     }
-}
-
-/// The text has this answer.
-fn same(rt: &impl Abort, alloc: Global, text: &str, wanted: &str) -> Result<(), Fail> {
-    assert_eq!(rt;
-        answer(rt, alloc, text.as_bytes())?,
-        String::from_str(alloc, wanted)?,
-        "{text}"
-    );
-    Ok(())
-}
-
-/// Each line of a table is a text and its answer, with ` => ` between.
-fn each(rt: &impl Abort, alloc: Global, table: &str) -> Result<(), Fail> {
-    for row in table.lines() {
-        let Some((text, wanted)) = row.split_once(" => ") else {
-            return Err(Fail::new("a row has no answer"));
-        };
-        same(rt, alloc, text, wanted)?;
-    }
-    Ok(())
 }
 
 /// Words with a line feed behind each.
@@ -132,103 +111,6 @@ fn samples(rt: HostRuntime) -> Result<(), Fail> {
 }
 
 #[test]
-fn declarations(rt: HostRuntime) -> Result<(), Fail> {
-    each(
-        &rt,
-        rt.alloc(),
-        "\
-V1Switch(a()) main; => a program
-register<bit<8>>(4) r; V1Switch(a()) main; => a program
-register<bit<8> >(4) r; V1Switch(a()) main; => a program
-register<bit>(4) r; V1Switch(a()) main; => a program
-register<h>(4w4) r; V1Switch(a()) main; => a program
-register<bool>>(4) r; => syntax 3
-register<bit<8>(4) r; => syntax 6
-typedef bit<8w8> t; V1Switch(a()) main; => a program
-typedef bit<256> t; => syntax 3
-header h { bit<8> x; } struct s { h key; } V1Switch(a(), b()) main; => a program
-const bit<8> A = 1 + ; => syntax 9
-V1Switch() main; => syntax 2
-V1Switch(a()) maim; => syntax 6
-V1Switch(a()) main; x => syntax 8
-parser p() { => syntax 3
-parser p(in h a) { state s { packet.extract(hdr.h); } } V1Switch(a()) main; => a program
-parser p(in h a) { state s { x = 1; transition t; } } V1Switch(a()) main; => a program
-parser p(in h a) { state s { transition t; x = 1; } } => syntax 14
-parser p(in h a) { state s { if => syntax 11
-parser p(in h a) { state s { transition select(a, b) { (1, _): x; default: y; 3 &&& 1: z; } } } V1Switch(a()) main; => a program
-parser p(in h a) { state s { transition select() => syntax 14
-control c(in h a) { action f(bit<8> x, h y) { } bit<8> x = 1; h y; apply { } } V1Switch(a()) main; => a program
-control c(in h a) { apply x; => syntax 9
-control c(in h a) { apply { } bit<8> y; } => syntax 11",
-    )
-}
-
-#[test]
-fn tables(rt: HostRuntime) -> Result<(), Fail> {
-    each(
-        &rt,
-        rt.alloc(),
-        "\
-control c(in h a) { table t { } apply { } } V1Switch(a()) main; => a program
-control c(in h a) { table t { size = 1; const default_action = f(1, 2); actions = { f; g(); } key = { a.b: exact; } } apply { } } V1Switch(a()) main; => a program
-control c(in h a) { table t { size = 1; size = 2; } => syntax 15
-control c(in h a) { table t { key = { } key = { } } => syntax 15
-control c(in h a) { table t { actions = { } size = 1; actions = { } } => syntax 19
-control c(in h a) { table t { default_action = f; default_action = g; } => syntax 15
-control c(in h a) { table t { const default_action = f; const default_action = g; } => syntax 16
-control c(in h a) { table t { default_action = f; const entries = { } } => syntax 15
-control c(in h a) { table t { const entries = { } } => left out 12 entries
-control c(in h a) { table t { entries = { } } => left out 11 entries
-control c(in h a) { table t { const size = 1; } => syntax 12
-control c(in h a) { table t { foo = 1; } => syntax 11
-control c(in h a) { table t { key = { a: range; } } apply { } } V1Switch(a()) main; => a program",
-    )
-}
-
-#[test]
-fn parts_left_out(rt: HostRuntime) -> Result<(), Fail> {
-    each(
-        &rt,
-        rt.alloc(),
-        "\
-header_union u { } => left out 0 header_union
-enum e { a } => left out 0 enum
-error { X } => left out 0 error
-extern x; => left out 0 extern
-counter(4, c) d; => left out 0 counter
-@name(x) => left out 0 @
-#define X 1 => left out 0 #
-\"x\" header a { } => left out 0 \"x\"
-/**/ #include <core.p4> => left out 0 #
-const bit<8> A = 1 |+| 2; => left out 8 |+|
-const bit<8> A = 6 / 2; => left out 8 /
-parser p(in h a) { state s { transition select(a) { 1..2: x; } } } => left out 18 ..
-control c(in h a) { apply { switch (t.apply().action_run) { } } } => syntax 18
-switch (a) { } => left out 0 switch
-struct s { int<8> x; } => syntax 4",
-    )
-}
-
-#[test]
-fn inclusions(rt: HostRuntime) -> Result<(), Fail> {
-    let alloc = rt.alloc();
-    same(
-        &rt,
-        alloc,
-        "#include <core.p4>\nV1Switch(a()) main;",
-        "a program",
-    )?;
-    same(
-        &rt,
-        alloc,
-        "const bit<8> A = 1;\n#include <core.p4>\n",
-        "syntax 9",
-    )?;
-    same(&rt, alloc, "", "syntax 0")
-}
-
-#[test]
 fn cut_after_each_token(rt: HostRuntime) -> Result<(), Fail> {
     let alloc = rt.alloc();
     let text = BASIC.as_bytes();
@@ -249,42 +131,4 @@ fn cut_after_each_token(rt: HostRuntime) -> Result<(), Fail> {
     }
     assert_eq!(rt; left, list.len());
     Ok(())
-}
-
-/// A text so often, behind another and before a third.
-fn repeated(
-    alloc: Global,
-    front: &str,
-    text: &str,
-    count: usize,
-    end: &str,
-) -> Result<String, AllocError> {
-    let mut out = String::from_str(alloc, front)?;
-    for _ in 0..count {
-        out.push_str(text)?;
-    }
-    out.push_str(end)?;
-    Ok(out)
-}
-
-#[test]
-fn limits(rt: HostRuntime) -> Result<(), Fail> {
-    let alloc = rt.alloc();
-    let control = "control c(in h a) { apply { ";
-    let ifs = repeated(alloc, control, "if (a) ", 300, ";")?;
-    same(&rt, alloc, ifs.as_str(), "too deep 1018")?;
-    let main = "V1Switch(a()) main;";
-    let many = repeated(alloc, "", "typedef bit<8> t; ", 14000, main)?;
-    same(&rt, alloc, many.as_str(), "a program")?;
-    let fields = repeated(
-        alloc,
-        "header h { ",
-        "bit<8> x; ",
-        3000,
-        "} V1Switch(a()) main;",
-    )?;
-    same(&rt, alloc, fields.as_str(), "a program")?;
-    let front = "parser p(in h a) { ";
-    let states = repeated(alloc, front, "state s { } ", 2000, "} V1Switch(a()) main;")?;
-    same(&rt, alloc, states.as_str(), "a program")
 }
