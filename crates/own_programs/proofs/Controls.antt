@@ -65,12 +65,14 @@ default_own sd as' (Some d) o = own_not (full_name sd d.0) (name_own sd d.0 o.0)
 
 pub tables_own : (as' : List Action) (ls : List Local) (sd : meaning.Scope) → OldLocals is_own ls → AllByRecursion IsOwnTable (tables_in sd as' ls)
 tables_own as' [] sd o = tt
-tables_own as' (local_table p t ∷ ls) sd o =
-    (record {
-      name = own_not (full_name sd t.name) (name_own sd t.name o.0.name);
-      keys = keys_own sd t.keys o.0.keys;
-      actions = (default_own sd as' t.default o.0.default, names_own sd t.actions o.0.actions);
-    }, tables_own as' ls sd o.1)
+tables_own as' (local_table p t ∷ ls) sd o = (
+  record {
+    name = own_not (full_name sd t.name) (name_own sd t.name o.0.name);
+    keys = keys_own sd t.keys o.0.keys;
+    actions = (default_own sd as' t.default o.0.default, names_own sd t.actions o.0.actions);
+  },
+  tables_own as' ls sd o.1,
+)
 tables_own as' (local_var p t x e ∷ ls) sd o = tables_own as' ls sd o.1
 tables_own as' (local_action p a ∷ ls) sd o = tables_own as' ls sd o.1
 tables_own as' (local_register p r ∷ ls) sd o = tables_own as' ls sd o.1

@@ -1,0 +1,2 @@
+-- What is linked, and what is said of it.
+pub mod Given
