@@ -1,4 +1,5 @@
-// The law over any monitor, any program and any network.
+//! The law over any monitor, any program and any network.
+
 ghost use Rattle.std.specs.Prelude.{ℕ};
 ghost use Rattle.p4_tree.specs.Tree.{Program};
 ghost use Rattle.network_run.specs.Network.{Wiring};
