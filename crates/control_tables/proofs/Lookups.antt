@@ -5,7 +5,7 @@ use Rattle.indus_tree.specs.State.{Contents, single, members, pairs}
 use Rattle.indus_tree.specs.Keys.{same_words, has_key, found}
 use Rattle.p4_meaning.specs.Choice as choice
 use Rattle.p4_meaning.specs.Choice.{exact, fits_keys, prefix_of, higher, choice_of}
-use Rattle.p4_tables.specs.Entries.{named}
+use Rattle.table_entries.specs.Entries.{named}
 use Rattle.control_tables.specs.Contents.{entry_for}
 use Rattle.control_tables.specs.Laws.{chosen_in, given_in, OfChosen, ChoiceIsLookup}
 

@@ -4,7 +4,7 @@ use Rattle.std.specs.Prelude.{ℕ, List, [], ◌∷◌, map, Option, Some, None}
 use Rattle.bit_values.specs.Bits.{Word}
 use Rattle.indus_tree.specs.State.{Contents, single, members, pairs}
 use Rattle.p4_meaning.specs.Choice.{exact}
-use Rattle.p4_tables.specs.Entries.{Entry, Act}
+use Rattle.table_entries.specs.Entries.{Entry, Act}
 
 -- the entry of a key: it runs the table's first action with these arguments
 abbrev pub entry_for : (action : ℕ) → (key args : List Word) → Entry

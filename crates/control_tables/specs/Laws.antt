@@ -7,7 +7,7 @@ use Rattle.indus_tree.specs.State.{Contents, single, members, pairs, nothing_of}
 use Rattle.indus_tree.specs.Keys.{held_in, found_in}
 use Rattle.p4_meaning.specs.Choice as choice
 use Rattle.p4_meaning.specs.Choice.{choice_of}
-use Rattle.p4_tables.specs.Entries.{named}
+use Rattle.table_entries.specs.Entries.{named}
 use Rattle.control_tables.specs.Contents.{entries_for, default_for}
 
 -- what the table chooses on a key, whatever actions are called: its keys are exact, so none is ternary

@@ -7,9 +7,9 @@ use Rattle.p4_tree.specs.Tree as tree
 use Rattle.p4_tree.specs.View.{table_of, action_of}
 use Rattle.p4_tree.specs.declared.program.Table.{Table}
 use Rattle.p4_tree.specs.declared.program.Action.{Action}
-use Rattle.p4_tables.specs.Entries as entries
-use Rattle.p4_tables.specs.View.{entry_of, given_act}
-use Rattle.p4_tables.specs.declared.entry.Entry.{Entry}
+use Rattle.table_entries.specs.Entries as entries
+use Rattle.table_entries.specs.View.{entry_of, given_act}
+use Rattle.table_entries.specs.declared.entry.Entry.{Entry}
 
 abbrev pub pair_of : Table × Action → tree.Table × tree.Action
 pair_of p = (table_of p.0, action_of p.1)

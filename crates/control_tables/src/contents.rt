@@ -3,7 +3,7 @@
 ghost use Rattle.std.specs.Prelude.{◌≡◌, ◌∷◌, [], map, IfOk};
 ghost use Rattle.indus_values.specs.View.{contents_of, cells_of, entry_of as pair_seen};
 ghost use Rattle.p4_meaning.specs.Choice.{exact};
-ghost use Rattle.p4_tables.specs.View.{match_of, entry_of};
+ghost use Rattle.table_entries.specs.View.{match_of, entry_of};
 ghost use Rattle.control_tables.specs.Contents as contents;
 ghost use Rattle.control_tables.specs.Views.{loaded_of};
 

@@ -12,7 +12,7 @@ use Rattle.table_faults.specs.declared.table.TableFault.{TableFault}
 use Rattle.table_faults.specs.declared.table.TableFault.TheVariants as fault
 use Rattle.p4_types.specs.Numbers.{dotted, number_in}
 use Rattle.table_shapes.specs.Shapes.{Shape, params_in}
-use Rattle.p4_tables.specs.Entries.{Entry, Act}
+use Rattle.table_entries.specs.Entries.{Entry, Act}
 use Rattle.table_shapes.specs.declared.shape.KeyShape.{KeyShape}
 use Rattle.value_shapes.specs.declared.values.ValueShape.{ValueShape}
 use Rattle.json_values.specs.Words.{fault_of}

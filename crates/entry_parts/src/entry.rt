@@ -8,7 +8,7 @@ ghost use Rattle.table_faults.specs.declared.table.TableFault.TheVariants.{NoMem
 ghost use Rattle.p4_tree.specs.View.{program_of};
 ghost use Rattle.p4_types.specs.Numbers as numbers;
 ghost use Rattle.json_parts.specs.Paths.{below};
-ghost use Rattle.p4_tables.specs.View.{act_of, entry_of, match_of};
+ghost use Rattle.table_entries.specs.View.{act_of, entry_of, match_of};
 ghost use Rattle.table_shapes.specs.View.{shape_of};
 ghost use Rattle.entry_parts.specs.Matches.{matches_of};
 ghost use Rattle.entry_parts.specs.Entries as entries;

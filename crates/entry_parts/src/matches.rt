@@ -4,7 +4,7 @@ ghost use Rattle.std.specs.Prelude.{◌≡◌, map, option_map};
 ghost use Rattle.serde_json.specs.View.{view};
 ghost use Rattle.json_parts.specs.Paths.{item_below};
 ghost use Rattle.json_values.specs.Views.{Gives};
-ghost use Rattle.p4_tables.specs.View.{match_of};
+ghost use Rattle.table_entries.specs.View.{match_of};
 ghost use Rattle.entry_parts.specs.Matches as matches;
 ghost use Rattle.entry_parts.specs.Written.{masked as masked_part};
 ghost use Rattle.entry_parts.specs.Views.{part_view, part_views};

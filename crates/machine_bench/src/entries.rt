@@ -10,10 +10,9 @@ ghost use Rattle.p4_tables.specs.Programs.{shapes, IsStateOf};
 use crate::fault::{BenchFault, Tried};
 use crate::texts::{count, width, word};
 use bit_values::Bits;
-use p4_tables::{Entry, Match, TableState};
+use p4_tables::{Entry, EntryFault, Match, TableState};
 use p4_types::TypedProgram;
 use std::alloc::Global;
-use table_faults::EntryFault;
 
 /// What an entry asks of a key.
 fn asked(key: &str) -> Tried<Match> {
@@ -77,11 +76,16 @@ fn entry(alloc: Global, p: &TypedProgram, keys: &str, text: &str) -> Tried<Entry
 }
 
 /// Offers an entry to a table.
-fn offer_entry(state: &mut TableState, table: u32, e: Entry) -> Tried<Result<(), EntryFault>>
+fn offer_entry(
+    alloc: Global,
+    state: &mut TableState,
+    table: u32,
+    e: Entry,
+) -> Tried<Result<(), EntryFault>>
     ensures { shapes state.new ≡ shapes state.old }
 {
     if state.has(table) {
-        Ok(state.insert(table, e))
+        Ok(state.insert(alloc, table, e))
     } else {
         Err(BenchFault::NoSuchTable)
     }
@@ -89,6 +93,7 @@ fn offer_entry(state: &mut TableState, table: u32, e: Entry) -> Tried<Result<(),
 
 /// Offers a default to a table.
 fn offer_default(
+    alloc: Global,
     state: &mut TableState,
     table: u32,
     action: u32,
@@ -97,7 +102,7 @@ fn offer_default(
     ensures { shapes state.new ≡ shapes state.old }
 {
     if state.has(table) {
-        Ok(state.set_default(table, action, args))
+        Ok(state.set_default(alloc, table, action, args))
     } else {
         Err(BenchFault::NoSuchTable)
     }
@@ -114,13 +119,13 @@ pub fn offer(
     ensures { shapes state.new ≡ shapes state.old }
 {
     if let Some((keys, text)) = item.split_once(" -> ") {
-        return offer_entry(state, table, entry(alloc, p, keys, text)?);
+        return offer_entry(alloc, state, table, entry(alloc, p, keys, text)?);
     }
     let Some(text) = item.strip_prefix("default ") else {
         return Err(BenchFault::NoItem);
     };
     let action = action(p, text)?;
-    offer_default(state, table, action, args(alloc, text)?)
+    offer_default(alloc, state, table, action, args(alloc, text)?)
 }
 
 /// Loads one item into a table, which takes it.

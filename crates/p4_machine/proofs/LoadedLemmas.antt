@@ -16,7 +16,7 @@ use Rattle.p4_parts.specs.PartsIn.{action_in}
 use Rattle.p4_parts.specs.declared.parts.Action as code_action
 use Rattle.p4_statements.specs.Outcomes.{Outcome, outcome_from, outcome_in, outcome_at}
 use Rattle.table_shapes.specs.Shapes.{Shape, has_ternary}
-use Rattle.p4_tables.specs.Entries.{Act, named}
+use Rattle.table_entries.specs.Entries.{Act, named}
 use Rattle.p4_tables.specs.State.{Held, held_at, no_table}
 use Rattle.p4_tables.specs.Answers.{IsHit, IsMiss}
 use Rattle.p4_tables.specs.Programs.{shapes, kind_of, key_shapes, table_before, tables_before, state_before, keys_hold, params_hold}

@@ -1,6 +1,6 @@
 //! What a switch does with a packet.
 
-ghost use Rattle.std.specs.Prelude.{◌≡◌, ◌≤◌, ◌<◌, List, [], None, length, map, IfOk, OnOk};
+ghost use Rattle.std.specs.Prelude.{◌≡◌, ◌≤◌, ◌<◌, List, [], None, length, map, IfOk, OnOk, OnErr};
 ghost use Rattle.std.specs.Option.{option_map};
 ghost use Rattle.p4_tree.specs.Tree as tree;
 ghost use Rattle.p4_meaning.specs.Statements.{cell_at};
@@ -8,7 +8,7 @@ ghost use Rattle.p4_meaning.specs.Pass as meaning;
 ghost use Rattle.p4_tables.specs.State as state;
 ghost use Rattle.p4_tables.specs.State.{replaced};
 ghost use Rattle.p4_tables.specs.Faults.{IsReplaceable};
-ghost use Rattle.p4_tables.specs.View.{entry_of, given_act};
+ghost use Rattle.table_entries.specs.View.{entry_of, given_act};
 ghost use Rattle.p4_machine.specs.Passages.{entry_in, exit_in, passage_in, register_name};
 ghost use Rattle.p4_machine.specs.Buffers.{IsFor, goes_out, is_queued, is_some_packet, place_of};
 ghost use Rattle.p4_machine.specs.declared.pass.Passed.TheVariants as passed;
@@ -123,9 +123,11 @@ pub trait Pass {
             ≡ (passage_in (program self.old) (tables self.old) (cells self.old) port frame.now).digests) }
         ensures buffer { IsFor (program self.new) buf.new };
 
-    /// One table holds these entries, and, where one is given, this default.
+    /// One table holds these entries, and, where one is given, this default. After want of memory the
+    /// tables are as they were.
     fn set_table(
         &mut self,
+        alloc: Global,
         table: u32,
         list: Vec<Entry>,
         default: Option<(u32, Vec<Bits>)>,
@@ -135,7 +137,8 @@ pub trait Pass {
         ensures program { program self.new ≡ program self.old }
         ensures cells { cells self.new ≡ cells self.old }
         ensures tables { OnOk result (tables self.new
-            ≡ replaced (tables self.old) table (map entry_of list.items) (option_map given_act default)) };
+            ≡ replaced (tables self.old) table (map entry_of list.items) (option_map given_act default)) }
+        ensures kept { OnErr result (tables self.new ≡ tables self.old) };
 
     /// A cell of the register of a number.
     fn cell(&self, register: u32, index: u32) -> Bits

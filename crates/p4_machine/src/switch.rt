@@ -282,11 +282,12 @@ impl Pass for Switch {
 
     fn set_table(
         &mut self,
+        alloc: Global,
         table: u32,
         list: Vec<Entry>,
         default: Option<(u32, Vec<Bits>)>,
     ) -> Result<(), AllocError> {
-        self.tables.replace(table, list, default)?;
+        self.tables.replace(alloc, table, list, default)?;
         Ok(())
     }
 

@@ -4,7 +4,6 @@ ghost use Rattle.std.specs.Prelude.{IfOk};
 ghost use Rattle.p4_tree.specs.View.{program_of};
 ghost use Rattle.p4_tables.specs.Programs.{IsStateOf};
 
-use carried_tables::carried;
 use machine_bench::{Bench, Tried, bench_with, bytes, loaded, program, split_row, text_of};
 use p4_tables::TableState;
 use p4_types::TypedProgram;
@@ -14,6 +13,11 @@ use std::process::Abort;
 /// The pieces of both programs. Those of the other one stand in front of the first one's.
 const TABLE: &str = "action a(bit<8> v) { h.e.x = v; } action b() { h.e.y = 1; } \
 table t { key = { h.e.x: exact; } actions = { b; a; NoAction; } default_action = a(5); } \
+@ingress t.apply();";
+
+/// The same with a default that no file changes.
+const FIXED: &str = "action a(bit<8> v) { h.e.x = v; } action b() { h.e.y = 1; } \
+table t { key = { h.e.x: exact; } actions = { b; a; NoAction; } const default_action = a(5); } \
 @ingress t.apply();";
 
 const FRONT: &str = "action z(bit<8> v) { h.e.x = v; h.e.y = 9; } action y() { h.e.y = 7; } \
@@ -34,10 +38,18 @@ const ROWS: &str = "\
 s.apply(); => Ing.t: 8:1 -> Ing.a 8:8 => 010203 => 2 080007
 s.apply(); => Ing.t: 8:1 -> Ing.b => 010203 => 2 010007";
 
+/// Likewise, where the default is `const`: it is carried as it is written.
+const FIXED_ROWS: &str = "\
+; =>  => 010203 => 2 050203
+; => Ing.t: 8:1 -> Ing.a 8:8 => 010203 => 2 080203
+; => Ing.t: 8:1 -> Ing.a 8:8 => 020203 => 2 050203
+; => Ing.t: 8:1 -> Ing.b => 010203 => 2 010001
+s.apply(); => Ing.t: 8:1 -> Ing.b => 020203 => 2 050007";
+
 /// The program of these pieces of ingress.
-fn program_with(alloc: Global, front: &str, behind: &str) -> Tried<TypedProgram> {
+fn program_with(alloc: Global, front: &str, table: &str, behind: &str) -> Tried<TypedProgram> {
     let mut row = String::from_str(alloc, "@in ")?;
-    for piece in [front, TABLE, behind] {
+    for piece in [front, table, behind] {
         row.push_str(piece)?;
     }
     program(alloc, &text_of(alloc, &row)?)
@@ -45,18 +57,18 @@ fn program_with(alloc: Global, front: &str, behind: &str) -> Tried<TypedProgram>
 
 /// The tables of the program `to`, which hold what those of the first program hold, where this is
 /// loaded.
-fn carried_over(alloc: Global, to: &TypedProgram, items: &str) -> Tried<TableState>
+fn carried_over(alloc: Global, to: &TypedProgram, table: &str, items: &str) -> Tried<TableState>
     ensures { IfOk result (λ s. IsStateOf (program_of to.now) s) }
 {
-    let from = program_with(alloc, "", "")?;
+    let from = program_with(alloc, "", table, "")?;
     let state = loaded(alloc, &from, items)?;
-    Ok(carried(alloc, &state, &from, to)?)
+    Ok(state.carried(alloc, &from, to)?)
 }
 
 /// A switch where that is carried; its program has `behind` at the end of its ingress.
-fn bench(alloc: Global, behind: &str, items: &str) -> Tried<Bench> {
-    let to = program_with(alloc, FRONT, behind)?;
-    let tables = carried_over(alloc, &to, items)?;
+fn bench(alloc: Global, table: &str, behind: &str, items: &str) -> Tried<Bench> {
+    let to = program_with(alloc, FRONT, table, behind)?;
+    let tables = carried_over(alloc, &to, table, items)?;
     bench_with(alloc, to, tables)
 }
 
@@ -66,22 +78,27 @@ fn out(alloc: Global, bench: &mut Bench, frame: &str) -> Tried<String> {
 }
 
 /// Whether a line is as it says.
-fn right(alloc: Global, line: &str) -> Tried<bool> {
+fn right(alloc: Global, table: &str, line: &str) -> Tried<bool> {
     let (behind, rest) = split_row(line)?;
     let (items, rest) = split_row(rest)?;
     let (frame, wanted) = split_row(rest)?;
-    let mut bench = bench(alloc, behind, items)?;
+    let mut bench = bench(alloc, table, behind, items)?;
     Ok(out(alloc, &mut bench, frame)?.as_str() == wanted)
 }
 
 /// Each line is as it says.
-fn all_right(rt: &impl Abort, alloc: Global) {
-    for line in ROWS.lines() {
-        assert!(rt; right(alloc, line) == Ok(true), "{line}");
+fn all_right(rt: &impl Abort, alloc: Global, table: &str, rows: &str) {
+    for line in rows.lines() {
+        assert!(rt; right(alloc, table, line) == Ok(true), "{line}");
     }
 }
 
 #[test]
 fn entries_and_defaults(rt: HostRuntime) {
-    all_right(&rt, rt.alloc());
+    all_right(&rt, rt.alloc(), TABLE, ROWS);
+}
+
+#[test]
+fn const_defaults(rt: HostRuntime) {
+    all_right(&rt, rt.alloc(), FIXED, FIXED_ROWS);
 }

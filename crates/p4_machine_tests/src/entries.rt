@@ -1,12 +1,11 @@
 //! Which entries and defaults tables take, and why they refuse others.
 
 use machine_bench::{BenchFault, Tried, offer, program, split_row};
-use p4_tables::TableState;
+use p4_tables::{EntryFault, TableState};
 use p4_types::TypedProgram;
 use std::alloc::Global;
 use std::process::Abort;
 use std::test::Fail;
-use table_faults::EntryFault;
 
 const BEFORE: &str = "header e_t { bit<8> x; bit<16> y; bit<32> k; } struct headers_t { e_t e; } \
 struct meta_t { } parser Prs(packet_in p, out headers_t h, inout meta_t m, \

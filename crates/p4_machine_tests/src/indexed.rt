@@ -6,12 +6,11 @@ ghost use Rattle.std.specs.Prelude.{◌≡◌, ◌≤◌};
 use crate::entries::program_with;
 use bit_values::Bits;
 use machine_bench::{BenchFault, Tried};
-use p4_tables::{Entry, Match, TableState};
+use p4_tables::{Entry, EntryFault, Match, TableState};
 use p4_types::TypedProgram;
 use std::alloc::{AllocError, Global};
 use std::process::Abort;
 use std::test::Fail;
-use table_faults::EntryFault;
 
 const TABLES: &str = "action note(bit<32> n) { h.e.k = n; } \
 table one { key = { h.e.k: exact; } actions = { note; } default_action = note(0); } \
@@ -97,17 +96,17 @@ impl Rig {
     }
 
     /// What the table answers for an entry.
-    fn offer(&mut self, e: Entry) -> Result<(), EntryFault> {
+    fn offer(&mut self, alloc: Global, e: Entry) -> Result<(), EntryFault> {
         if self.state.has(self.table) {
-            self.state.insert(self.table, e)
+            self.state.insert(alloc, self.table, e)
         } else {
             Err(EntryFault::NoSuchAction)
         }
     }
 
     /// Whether the table takes an entry: it may be refused for another one alone.
-    fn takes(&mut self, e: Entry) -> Tried<bool> {
-        match self.offer(e) {
+    fn takes(&mut self, alloc: Global, e: Entry) -> Tried<bool> {
+        match self.offer(alloc, e) {
             Ok(()) => Ok(true),
             Err(EntryFault::SameEntry | EntryFault::SamePriority) => Ok(false),
             Err(_) => Err(BenchFault::Refused),
@@ -176,7 +175,7 @@ impl Rig {
     /// An entry is taken.
     fn put(&mut self, alloc: Global, asked: Match, note: u32, priority: u32) -> Tried<()> {
         let e = self.entry(alloc, &[asked], note, priority)?;
-        if self.takes(e)? {
+        if self.takes(alloc, e)? {
             Ok(())
         } else {
             Err(BenchFault::Refused)
@@ -207,7 +206,7 @@ impl Rig {
     /// Why an entry is refused.
     fn refusal(&mut self, alloc: Global, asked: Match, priority: u32) -> Result<(), EntryFault> {
         let e = self.entry(alloc, &[asked], 1, priority)?;
-        self.offer(e)
+        self.offer(alloc, e)
     }
 }
 
@@ -406,7 +405,7 @@ impl Rig {
             some_prefix(numbers)
         };
         let e = self.entry(alloc, &asked, note, numbers.below(100_000))?;
-        self.takes(e)
+        self.takes(alloc, e)
     }
 
     /// How many of some random entries are taken, of which each notes its number.

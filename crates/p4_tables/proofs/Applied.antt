@@ -12,7 +12,7 @@ use Rattle.p4_meaning.specs.Tables.{Key, Table, Entries, table_named, key_words,
 use Rattle.p4_meaning.proofs.Choices.{choice_is, below}
 use Rattle.table_shapes.specs.Shapes.{Shape, is_ternary, has_ternary, are_for_keys, takes}
 use Rattle.p4_tables.specs.Faults.{takes_entry}
-use Rattle.p4_tables.specs.Entries.{Entry, Act, named}
+use Rattle.table_entries.specs.Entries.{Entry, Act, named}
 use Rattle.p4_tables.specs.State.{Held, held_at, no_table}
 use Rattle.p4_tables.specs.Answers.{IsMiss}
 use Rattle.p4_tables.specs.Programs.{kind_of, key_shapes}
@@ -47,7 +47,7 @@ taken_listed s (e ∷ es) h = ((and_parts (are_for_keys s.keys e.keys) (takes s.
 
 pub runs_listed : (st : List Held) → AllByRecursion IsSound st → RunsListed st
 runs_listed [] h = tt
-runs_listed (g ∷ gs) h = (record { entries = taken_listed g.shape g.listed h.0.taken; default = h.0.default }, runs_listed gs h.1)
+runs_listed (g ∷ gs) h = (record { entries = taken_listed g.shape g.listed h.0.taken; default = h.0.default; fixed = h.0.fixed }, runs_listed gs h.1)
 
 -- ---- keys under masks
 

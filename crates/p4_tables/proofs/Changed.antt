@@ -2,7 +2,7 @@
 use Rattle.std.proofs.Common.{◌≡◌, ℕ, ◌<◌, List, length, get_or, set, Option, Some, None, refl, sym, ap, subst, ◌∙◌}
 use Rattle.std.proofs.lemmas.List.{get_or_default, set-get_or}
 use Rattle.std.proofs.Math.Seq.{map-set_same}
-use Rattle.p4_tables.specs.Entries.{Entry, Act}
+use Rattle.table_entries.specs.Entries.{Entry, Act}
 use Rattle.p4_tables.specs.State.{Held, held_at, no_table, with_listed, with_default, replaced}
 use Rattle.p4_tables.specs.Programs.{shapes}
 

@@ -14,12 +14,12 @@ use Rattle.std.proofs.lemmas.Cmp.{ranked}
 use Rattle.std.proofs.lemmas.Map.Keys.{sorted_head, sorted_tail}
 use Rattle.bit_values.specs.Bits.{Word}
 use Rattle.p4_meaning.specs.Choice.{fits_keys}
-use Rattle.p4_tables.specs.Entries.{Entry}
+use Rattle.table_entries.specs.Entries.{Entry}
 use Rattle.p4_tables.specs.State.{Held}
 use Rattle.p4_tables.specs.Kept.{AreApart, IsSound}
-use Rattle.p4_tables.specs.Walk.{found_in}
-use Rattle.p4_tables.specs.Index.{place_in, has_rank, priority_place, fit_or, first_fit}
-use Rattle.p4_tables.proofs.Noted.{stands, nowhere, equal_ranks}
+use Rattle.table_entries.specs.Walk.{found_in}
+use Rattle.table_entries.specs.Index.{place_in, has_rank, priority_place, fit_or, first_fit}
+use Rattle.table_entries.proofs.Noted.{stands, nowhere, equal_ranks}
 use Rattle.p4_tables.proofs.Ranked.{contains_at, highest_found, no_found}
 use Rattle.p4_tables.proofs.Unique.{no_mask, of_one, one_of}
 

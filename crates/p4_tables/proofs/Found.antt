@@ -9,10 +9,10 @@ use Rattle.p4_meaning.specs.Choice as choice
 use Rattle.p4_meaning.specs.Choice.{fits_keys, higher, IsChoice, choice_of}
 use Rattle.p4_meaning.proofs.Choices.{choice_is}
 use Rattle.table_shapes.specs.Shapes.{has_ternary}
-use Rattle.p4_tables.specs.Entries.{Entry, Act, act_in, named}
+use Rattle.table_entries.specs.Entries.{Entry, Act, act_in, named}
 use Rattle.p4_tables.specs.State.{Held}
 use Rattle.p4_tables.specs.Answers.{IsHit, IsMiss}
-use Rattle.p4_tables.specs.Walk.{rank_in, higher_in, found_in}
+use Rattle.table_entries.specs.Walk.{rank_in, higher_in, found_in}
 
 module _ (name : ℕ → List ℕ) (t : Bool) where
   higher_named : (e : Entry) (o : Option Entry) → higher t (named name e) (option_map (named name) o) ≡ named name (higher_in t e o)

@@ -1,4 +1,3 @@
-pub mod Keys
 pub mod Changed
 pub mod Sound
 pub mod Found
@@ -8,10 +7,11 @@ pub mod Steps
 pub mod Started
 pub mod Applied
 pub mod Rows
-pub mod Noted
-pub mod Packed
-pub mod Listed
 pub mod Same
 pub mod Ranked
 pub mod Signed
 pub mod Fallen
+pub mod ActionNames
+pub mod CarrySteps
+pub mod CarryWalk
+pub mod Words

@@ -5,9 +5,9 @@ use Rattle.std.specs.List.{Contains}
 use Rattle.std.proofs.lemmas.Bool.{eqb-true}
 use Rattle.bit_values.specs.Bits.{Word}
 use Rattle.p4_meaning.specs.Choice.{fits_keys}
-use Rattle.p4_tables.specs.Entries.{Entry}
+use Rattle.table_entries.specs.Entries.{Entry}
 use Rattle.p4_tables.specs.Kept.{clash, AreApart}
-use Rattle.p4_tables.specs.Walk.{rank_in, higher_in, found_in}
+use Rattle.table_entries.specs.Walk.{rank_in, higher_in, found_in}
 use Rattle.p4_tables.proofs.Unique.{one_of}
 
 contains_behind : (x : Entry) (xs : List Entry) (e : Entry) → Contains xs e → Contains (x ∷ xs) e

@@ -8,11 +8,11 @@ use Rattle.p4_tree.specs.declared.program.Param.{Param}
 use Rattle.p4_scopes.specs.Scopes.{declare, core}
 use Rattle.p4_meaning.specs.Choice.{Match, exact, lpm, ternary}
 use Rattle.table_shapes.specs.Shapes.{ActionShape, Shape}
-use Rattle.p4_tables.specs.Entries.{Entry}
+use Rattle.table_entries.specs.Entries.{Entry}
 use Rattle.p4_tables.specs.State.{Held, inserted, replaced, entries_in}
 use Rattle.p4_tables.specs.Faults.{fault_in, default_fault_in}
 use Rattle.p4_tables.specs.Programs.{state_before}
-use Rattle.p4_tables.specs.Walk.{found_in}
+use Rattle.table_entries.specs.Walk.{found_in}
 use Rattle.table_shapes.specs.declared.shape.KeyKind.TheVariants.{Exact, Lpm, Ternary}
 use Rattle.table_shapes.specs.declared.shape.KeyShape.{KeyShape}
 use Rattle.value_shapes.specs.declared.values.ValueShape.{ValueShape}
@@ -31,7 +31,7 @@ abbrev listed_actions : List ActionShape
 listed_actions = record { number = 2; params = bits 4 ∷ [] } ∷ record { number = 7; params = [] } ∷ []
 
 abbrev table : List KeyShape → List Entry → Held
-table ks es = record { shape = record { keys = ks; actions = listed_actions; written = 7; fixed = false }; listed = es; default = record { action = 7; args = [] } }
+table ks es = record { shape = record { keys = ks; actions = listed_actions; written = 7; written_args = []; fixed = false }; listed = es; default = record { action = 7; args = [] } }
 
 abbrev entry : List Match → ℕ → Entry
 entry ms p = record { keys = ms; action = 7; args = []; priority = p }
@@ -118,7 +118,7 @@ not_full = refl
 -- ---- what a default is refused for
 
 abbrev constant : Shape
-constant = record { keys = []; actions = listed_actions; written = 7; fixed = true }
+constant = record { keys = []; actions = listed_actions; written = 7; written_args = []; fixed = true }
 
 const_default : default_fault_in constant (record { action = 2; args = word 4 3 ∷ [] }) ≡ Some ConstDefault
 const_default = refl
@@ -185,6 +185,6 @@ program =
     }
 
 -- `set` has number 0, and `NoAction` stands behind it
-started : state_before program ≡ record { shape = record { keys = record { kind = Lpm; value = bits 8 } ∷ record { kind = Exact; value = truth } ∷ []; actions = record { number = 0; params = bits 4 ∷ truth ∷ [] } ∷ record { number = 1; params = [] } ∷ []; written = 0; fixed = true }; listed = []; default = record { action = 0; args = word 4 3 ∷ word 1 1 ∷ [] } } ∷ []
+started : state_before program ≡ record { shape = record { keys = record { kind = Lpm; value = bits 8 } ∷ record { kind = Exact; value = truth } ∷ []; actions = record { number = 0; params = bits 4 ∷ truth ∷ [] } ∷ record { number = 1; params = [] } ∷ []; written = 0; written_args = word 4 3 ∷ word 1 1 ∷ []; fixed = true }; listed = []; default = record { action = 0; args = word 4 3 ∷ word 1 1 ∷ [] } } ∷ []
 unfolding state_before declare core
 started = refl

@@ -8,16 +8,16 @@ use Rattle.std.proofs.lemmas.Bool.{and_parts, or_parts}
 use Rattle.std.proofs.lemmas.Cmp.{nat_eq_equiv}
 use Rattle.p4_meaning.specs.Choice.{Match, exact, lpm, ternary}
 use Rattle.table_shapes.specs.Shapes.{Shape, is_ternary, has_ternary, is_for_key, are_for_keys, takes}
-use Rattle.p4_tables.specs.Entries.{Entry, same_keys, has_same, has_priority}
+use Rattle.table_entries.specs.Entries.{Entry, same_keys, has_same, has_priority}
 use Rattle.p4_tables.specs.State.{Held}
 use Rattle.p4_tables.specs.Faults.{takes_entry}
 use Rattle.p4_tables.specs.Kept.{clash, AreApart, IsSound}
-use Rattle.p4_tables.specs.Walk.{clash_in}
-use Rattle.p4_tables.specs.Signs.{signs_of}
-use Rattle.p4_tables.specs.Index.{place_in, asks, has_rank}
+use Rattle.p4_tables.specs.Indexed.{clash_in}
+use Rattle.table_entries.specs.Signs.{signs_of}
+use Rattle.table_entries.specs.Index.{place_in, asks, has_rank}
 use Rattle.table_shapes.specs.declared.shape.KeyShape.{KeyShape}
 use Rattle.table_faults.specs.declared.entry.EntryFault.TheVariants.{SameEntry, SamePriority}
-use Rattle.p4_tables.proofs.Noted.{nowhere}
+use Rattle.table_entries.proofs.Noted.{nowhere}
 use Rattle.p4_tables.proofs.Unique.{exact_or_lpm, no_mask}
 
 -- ---- one sign

@@ -8,20 +8,20 @@ use Rattle.std.proofs.lemmas.Bool.{and_parts, or_parts, eqb-true, eq-eqb, false�
 use Rattle.bit_values.specs.Bits.{Word}
 use Rattle.p4_meaning.specs.Choice.{Match, exact, lpm, ternary, fits_key, fits_keys, prefix_of}
 use Rattle.table_shapes.specs.Shapes.{is_exact, is_lpm, is_ternary, has_ternary, has_lpm, has_two_prefixes, is_for_key, are_for_keys, takes, have_widths}
-use Rattle.p4_tables.specs.Entries.{Entry, Act, act_in}
+use Rattle.table_entries.specs.Entries.{Entry, Act, act_in}
 use Rattle.p4_tables.specs.State.{Held}
 use Rattle.p4_tables.specs.Faults.{takes_entry}
 use Rattle.p4_tables.specs.Kept.{AreApart, IsSound}
-use Rattle.p4_tables.specs.View.{act_of}
-use Rattle.p4_tables.specs.Walk.{lent, found_in}
-use Rattle.p4_tables.specs.Signs.{signs_of, wanted_of, wanted, sign_act}
-use Rattle.p4_tables.specs.Index.{longest_of, longest, first_told, first_act, place_in, asks}
-use Rattle.p4_tables.specs.declared.signs.Signs.{Signs}
+use Rattle.table_entries.specs.View.{act_of}
+use Rattle.table_entries.specs.Walk.{lent, found_in}
+use Rattle.table_entries.specs.Signs.{signs_of, wanted_of, wanted, sign_act}
+use Rattle.table_entries.specs.Index.{longest_of, longest, first_told, first_act, place_in, asks}
+use Rattle.table_entries.specs.declared.signs.Signs.{Signs}
 use Rattle.table_shapes.specs.declared.shape.KeyKind.{KeyKind}
 use Rattle.table_shapes.specs.declared.shape.KeyKind.TheVariants.{Exact, Lpm, Ternary}
 use Rattle.table_shapes.specs.declared.shape.KeyShape.{KeyShape}
-use Rattle.p4_tables.proofs.Listed.{no_entry}
-use Rattle.p4_tables.proofs.Noted.{stands, nowhere}
+use Rattle.table_entries.proofs.Listed.{no_entry}
+use Rattle.table_entries.proofs.Noted.{stands, nowhere}
 use Rattle.p4_tables.proofs.Ranked.{contains_at, highest_found, no_found}
 use Rattle.p4_tables.proofs.Same.{flip, and_assoc}
 use Rattle.p4_tables.proofs.Unique.{no_mask, no_prefix, of_one, clash_of}
@@ -263,14 +263,6 @@ module _ (h : Held) (ws : List Word) (sound : IsSound h) (none : has_ternary h.s
       no_found false ws h.listed (λ f cf ff. asked_for f cf ff (none_told at_length (longest h.shape.keys) is (prefix_of f.keys) (within_longest h.shape.keys f.keys sound.one_prefix (for_keys f cf))))
 
 -- ---- what the index tells
-
--- nothing is told of one length, and so the first is that of the shorter ones
-pub shorter : {A : Type 0} (told : ℕ → Option A) (n : ℕ) (o : Option (Bor A)) → lent o ≡ told n → is_some o ≡ false → (n ≡ 0 → ⊥) → first_told told (n - 1) ≡ first_told told n
-shorter told zero o is none some = absurd (some refl)
-shorter told (suc n) (Some x) is none some = absurd (false≢true (sym none))
-shorter {A} told (suc n) None is none some =
-    let one_less : suc n - 1 ≡ n = omega arith in
-    ap (first_told told) one_less ∙ ap (λ (o : Option A). option_or o (first_told told n)) is
 
 first_seen : {A B : Type 0} (f : A → B) (told : ℕ → Option A) (most : ℕ) → option_map f (first_told told most) ≡ first_told (λ (n : ℕ). option_map f (told n)) most
 first_seen f told zero = refl

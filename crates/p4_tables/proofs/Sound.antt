@@ -1,11 +1,11 @@
 -- What is held stays sound: entries that no reason refuses, and defaults.
 use Rattle.std.proofs.Common.{◌≡◌, ℕ, zero, suc, ◌+◌, ◌<◌, List, [], ◌∷◌, ◌++◌, length, get_or, set, Bool, true, false, cond, Option, Some, None, refl, sym, ap, subst, ◌∙◌, arith, length-append, append_assoc}
-use Rattle.std.proofs.lemmas.Bool.{not-false, or_parts, leb-false, or_right}
+use Rattle.std.proofs.lemmas.Bool.{false≢true, not-false, or_parts, leb-false, or_right}
 use Rattle.std.proofs.lemmas.List.{get_or-set_same, set-set, length-set, append-nil}
 use Rattle.std.specs.Prelude.{not, ◌&&◌, nat_eq, nat_le}
 use Rattle.std.specs.List.{AllByRecursion}
-use Rattle.table_shapes.specs.Shapes.{Shape, has_ternary, has_action}
-use Rattle.p4_tables.specs.Entries.{Entry, Act, same_keys, has_same, has_priority}
+use Rattle.table_shapes.specs.Shapes.{Shape, has_ternary, has_action, takes}
+use Rattle.table_entries.specs.Entries.{Entry, Act, same_keys, has_same, has_priority}
 use Rattle.p4_tables.specs.State.{Held, no_table, held_at, entries_in, with_listed, inserted, with_default, replaced}
 use Rattle.p4_tables.specs.Faults.{takes_entry, fault_in, entry_fault, default_fault_in, default_fault, AreAccepted, IsReplaceable}
 use Rattle.p4_tables.specs.Kept.{clash, AreApart, IsSound, AreSound}
@@ -85,6 +85,7 @@ sound_push h count e s f =
       taken = all_push (λ g. takes_entry h.shape g ≡ true) h.listed e s.taken f.taken;
       apart = apart_push (has_ternary h.shape.keys) h.listed e s.apart (apart_from (has_ternary h.shape.keys) h.listed e f.new f.apart);
       default = s.default;
+      fixed = s.fixed;
     }
 
 pub inserted_sound : (st : List Held) (n : ℕ) (e : Entry) → n < length st → AreSound st → entry_fault st n e ≡ None → AreSound (inserted st n e)
@@ -105,13 +106,20 @@ inserted_sound st n e lt s none =
 listed_default : (s : Shape) (d : Act) → default_fault_in s d ≡ None → has_action s.actions d.action ≡ true
 listed_default s d none = not-false (has_action s.actions d.action) (passed (not (has_action s.actions d.action)) _ _ none).0
 
+-- and stands in the place of one that is not `const`
+free_default : (s : Shape) (d : Act) → default_fault_in s d ≡ None → s.fixed ≡ false
+free_default s d none =
+    let listed = passed (not (has_action s.actions d.action)) _ _ none in
+    let wide = passed (not (takes s.actions d.action d.args)) _ _ listed.1 in
+    (passed s.fixed _ _ wide.1).0
+
 pub default_sound : (st : List Held) (n : ℕ) (d : Act) → n < length st → AreSound st → default_fault st n d ≡ None → AreSound (with_default st n d)
 default_sound st n d lt s none =
     let here : IsSound (held_at st n) = all_at IsSound st n no_table s.each lt in
     let counted = entries_set st n (record (held_at st n) { default = d }) lt in
     let few = s.few in
     record {
-      each = all_set IsSound st n _ s.each (record { one_prefix = here.one_prefix; taken = here.taken; apart = here.apart; default = or_right _ _ (listed_default (held_at st n).shape d none) });
+      each = all_set IsSound st n _ s.each (record { one_prefix = here.one_prefix; taken = here.taken; apart = here.apart; default = or_right _ _ (listed_default (held_at st n).shape d none); fixed = λ e. absurd (false≢true (sym (free_default (held_at st n).shape d none) ∙ e)) });
       few = omega (arith, counted, few);
     }
 
@@ -121,7 +129,7 @@ emptied_sound st n lt s =
     let counted = entries_set st n (record (held_at st n) { listed = [] }) lt in
     let few = s.few in
     record {
-      each = all_set IsSound st n _ s.each (record { one_prefix = here.one_prefix; taken = tt; apart = tt; default = here.default });
+      each = all_set IsSound st n _ s.each (record { one_prefix = here.one_prefix; taken = tt; apart = tt; default = here.default; fixed = here.fixed });
       few = omega (arith, counted, few);
     }
 

@@ -99,8 +99,8 @@ written_first n b = or_left (nat_eq n n) b (eq-eqb n n refl)
 
 each_before : (as' : List Action) (pss : List (List ValueShape)) (ts : List Table) (kss : List (List ValueShape)) → AllByRecursion HasOnePrefix ts → AllByRecursion IsSound (tables_before as' pss ts kss)
 each_before as' pss [] kss h = tt
-each_before as' pss (t ∷ ts) [] h = (record { one_prefix = h.0 []; taken = tt; apart = tt; default = written_first (action_place as' t.default.action) (has_action (map (action_shape as' pss) t.actions) (action_place as' t.default.action)) }, each_before as' pss ts [] h.1)
-each_before as' pss (t ∷ ts) (ks ∷ kss) h = (record { one_prefix = h.0 ks; taken = tt; apart = tt; default = written_first (action_place as' t.default.action) (has_action (map (action_shape as' pss) t.actions) (action_place as' t.default.action)) }, each_before as' pss ts kss h.1)
+each_before as' pss (t ∷ ts) [] h = (record { one_prefix = h.0 []; taken = tt; apart = tt; default = written_first (action_place as' t.default.action) (has_action (map (action_shape as' pss) t.actions) (action_place as' t.default.action)); fixed = λ e. refl }, each_before as' pss ts [] h.1)
+each_before as' pss (t ∷ ts) (ks ∷ kss) h = (record { one_prefix = h.0 ks; taken = tt; apart = tt; default = written_first (action_place as' t.default.action) (has_action (map (action_shape as' pss) t.actions) (action_place as' t.default.action)); fixed = λ e. refl }, each_before as' pss ts kss h.1)
 
 none_before : (as' : List Action) (pss : List (List ValueShape)) (ts : List Table) (kss : List (List ValueShape)) → entries_in (tables_before as' pss ts kss) ≡ 0
 none_before as' pss [] kss = refl

@@ -1,6 +1,6 @@
 -- What the program keeps is sound behind each change, and counted.
 use Rattle.std.proofs.Common.{◌≡◌, ℕ, ◌+◌, ◌<◌, List, [], ◌∷◌, ◌++◌, length, get_or, Option, None, sym, ap, ap₂, subst, ◌∙◌, arith, length-append}
-use Rattle.p4_tables.specs.Entries.{Entry, Act}
+use Rattle.table_entries.specs.Entries.{Entry, Act}
 use Rattle.p4_tables.specs.State.{Held, held_at, entries_in, inserted, with_default, replaced}
 use Rattle.p4_tables.specs.Faults.{fault_in, entry_fault, default_fault_in, default_fault, IsReplaceable}
 use Rattle.p4_tables.specs.Kept.{AreSound}

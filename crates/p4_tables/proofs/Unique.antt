@@ -8,7 +8,7 @@ use Rattle.p4_meaning.specs.Choice as choice
 use Rattle.p4_meaning.specs.Choice.{Match, exact, lpm, ternary, fits_key, fits_keys, prefix_of, rank_of, IsChosen}
 use Rattle.p4_meaning.proofs.Choices.{one_rank}
 use Rattle.table_shapes.specs.Shapes.{Shape, is_exact, is_lpm, is_ternary, has_ternary, has_lpm, has_two_prefixes, is_for_key, are_for_keys, takes, have_widths}
-use Rattle.p4_tables.specs.Entries.{Entry, named, same_match, same_keys}
+use Rattle.table_entries.specs.Entries.{Entry, named, same_match, same_keys}
 use Rattle.p4_tables.specs.State.{Held}
 use Rattle.p4_tables.specs.Faults.{takes_entry}
 use Rattle.p4_tables.specs.Kept.{clash, AreApart, IsSound}

@@ -3,7 +3,7 @@ use Rattle.std.specs.Prelude.{◌≡◌, ℕ, List, map, Some, None}
 use Rattle.bit_values.specs.Bits.{Word}
 use Rattle.p4_meaning.specs.Choice.{IsChosen, IsChoice, choice_of}
 use Rattle.table_shapes.specs.Shapes.{has_ternary}
-use Rattle.p4_tables.specs.Entries.{Entry, Act, named}
+use Rattle.table_entries.specs.Entries.{Entry, Act, named}
 use Rattle.p4_tables.specs.State.{Held}
 
 -- some entry is chosen, whatever actions are called, and the answer is its action with its arguments

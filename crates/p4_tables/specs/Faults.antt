@@ -1,7 +1,7 @@
 -- Why an entry or a default is refused. Read `State` before it and `Answers` after it.
 use Rattle.std.specs.Prelude.{◌≡◌, ℕ, List, [], ◌∷◌, Bool, not, ◌&&◌, nat_le, if◌then◌else◌, Option, Some, None}
 use Rattle.table_shapes.specs.Shapes.{Shape, has_ternary, are_for_keys, has_action, takes}
-use Rattle.p4_tables.specs.Entries.{Entry, Act, has_same, has_priority}
+use Rattle.table_entries.specs.Entries.{Entry, Act, has_same, has_priority}
 use Rattle.p4_tables.specs.State.{Held, held_at, entries_in, with_listed, inserted}
 use Rattle.table_faults.specs.declared.entry.EntryFault.{EntryFault}
 use Rattle.table_faults.specs.declared.entry.EntryFault.TheVariants.{NoSuchAction, WidthDiffers, SameEntry, SamePriority, TableLimit, ConstDefault}

@@ -5,8 +5,8 @@ use Rattle.bit_values.specs.Bits.{Word}
 use Rattle.p4_meaning.specs.Choice as choice
 use Rattle.p4_meaning.specs.Choice.{IsChosen}
 use Rattle.table_shapes.specs.Shapes.{has_ternary, has_action, have_widths, takes}
-use Rattle.p4_tables.specs.Entries.{named}
-use Rattle.p4_tables.specs.State.{Held, held_at}
+use Rattle.table_entries.specs.Entries.{named}
+use Rattle.p4_tables.specs.State.{Held, held_at, written_in}
 
 -- keys have the widths of a table's keys
 abbrev pub HaveWidths : Held → List Word → Type 0
@@ -19,10 +19,11 @@ ChoicesAreUnique st =
     (let chosen = IsChosen (has_ternary (held_at st n).shape.keys) (map (named name) (held_at st n).listed) keys in chosen e → chosen f → e ≡ f)
 
 -- each entry of a table runs an action of its list with arguments of its widths, and the default one of the list, or the
--- one that is written
+-- one that is written; a `const` default is the one that is written
 pub record IsListed (h : Held) : Type 0 where
   pub entries : AllByRecursion (λ e. takes h.shape.actions e.action e.args ≡ true) h.listed
   pub default : (nat_eq h.shape.written h.default.action || has_action h.shape.actions h.default.action) ≡ true
+  pub fixed : h.shape.fixed ≡ true → h.default ≡ written_in h.shape
 
 abbrev pub RunsListed : List Held → Type 0
 RunsListed st = AllByRecursion IsListed st

@@ -1,15 +1,14 @@
--- What callers rest on (`Shapes` of `table_shapes` before it): entries, what tables hold, why entries are refused, what a table answers, the
--- tables of a program, and what holds of them. To be read in this order.
-pub mod Entries
+-- What callers rest on (`Shapes` of `table_shapes` and `Entries` of `table_entries` before it): what tables hold, why entries
+-- are refused, what a table answers, the tables of a program, what holds of them, and what is carried into another program. To
+-- be read in this order.
 pub mod State
 pub mod Faults
 pub mod Answers
 pub mod Programs
 pub mod Named
 pub mod Laws
-pub mod View
+pub mod Carried
 -- What serves the proofs.
-pub mod Walk
 pub mod Kept
-pub mod Signs
-pub mod Index
+pub mod Indexed
+pub mod CarriedRows

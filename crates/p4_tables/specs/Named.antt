@@ -5,7 +5,7 @@ use Rattle.lex_text.specs.Names.{same_text}
 use Rattle.p4_meaning.specs.Actions.{Action}
 use Rattle.p4_meaning.specs.Tables.{Table, Chosen, Entries, Tables}
 use Rattle.p4_meaning.specs.Parts.{Parts}
-use Rattle.p4_tables.specs.Entries.{Act, named}
+use Rattle.table_entries.specs.Entries.{Act, named}
 use Rattle.p4_tables.specs.State.{Held}
 
 -- the full name of the action of a number; behind all actions it is `NoAction`

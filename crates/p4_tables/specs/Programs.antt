@@ -9,7 +9,7 @@ use Rattle.p4_meaning.specs.Parts.{parts_of}
 use Rattle.p4_scopes.specs.Scopes.{core}
 use Rattle.value_shapes.specs.Values.{tops_values}
 use Rattle.table_shapes.specs.Shapes.{ActionShape, Shape}
-use Rattle.p4_tables.specs.Entries.{Act}
+use Rattle.table_entries.specs.Entries.{Act}
 use Rattle.p4_tables.specs.State.{Held}
 use Rattle.table_shapes.specs.declared.shape.KeyKind.{KeyKind}
 use Rattle.table_shapes.specs.declared.shape.KeyKind.TheVariants.{Exact, Lpm, Ternary}
@@ -56,7 +56,7 @@ numbered as' c = record { action = action_place as' c.action; args = c.args }
 
 -- what a table takes, where its keys hold `ks`, and the parameters of these actions `pss`
 abbrev pub table_shape : List Action → List (List ValueShape) → Table → List ValueShape → Shape
-table_shape as' pss t ks = record { keys = key_shapes t.keys ks; actions = map (action_shape as' pss) t.actions; written = action_place as' t.default.action; fixed = t.fixed }
+table_shape as' pss t ks = record { keys = key_shapes t.keys ks; actions = map (action_shape as' pss) t.actions; written = action_place as' t.default.action; written_args = t.default.args; fixed = t.fixed }
 
 -- it holds no entry, and has the default that is written
 abbrev pub table_before : List Action → List (List ValueShape) → Table → List ValueShape → Held

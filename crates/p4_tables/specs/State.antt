@@ -1,7 +1,7 @@
 -- What the tables of a switch hold, by their numbers. Read `Entries` before it and `Faults` after it.
 use Rattle.std.specs.Prelude.{ℕ, ◌+◌, List, [], ◌∷◌, ◌++◌, length, false, get_or, set, Option, Some, None}
 use Rattle.table_shapes.specs.Shapes.{Shape}
-use Rattle.p4_tables.specs.Entries.{Entry, Act}
+use Rattle.table_entries.specs.Entries.{Entry, Act}
 
 -- a table: what it takes, its entries in the order in which they came, and what it runs where none fits
 pub record Held : Type 0 where
@@ -9,9 +9,13 @@ pub record Held : Type 0 where
   pub listed : List Entry
   pub default : Act
 
+-- the default that is written
+abbrev pub written_in : Shape → Act
+written_in s = record { action = s.written; args = s.written_args }
+
 -- no table
 abbrev pub no_table : Held
-no_table = record { shape = record { keys = []; actions = []; written = 0; fixed = false }; listed = []; default = record { action = 0; args = [] } }
+no_table = record { shape = record { keys = []; actions = []; written = 0; written_args = []; fixed = false }; listed = []; default = record { action = 0; args = [] } }
 
 -- the table of a number
 abbrev pub held_at : List Held → ℕ → Held

@@ -6,19 +6,20 @@ ghost use Rattle.table_shapes.specs.Shapes.{has_ternary};
 ghost use Rattle.p4_tables.specs.State.{inserted, with_default, with_listed, replaced};
 ghost use Rattle.p4_tables.specs.Faults.{takes_entry, fault_in};
 ghost use Rattle.p4_tables.specs.Kept.{IsSound};
-ghost use Rattle.p4_tables.specs.View.{entry_of, act_of, given_act, chosen_act};
+ghost use Rattle.table_entries.specs.View.{entry_of, act_of, given_act, chosen_act};
 ghost use Rattle.table_shapes.specs.View.{shape_of};
-ghost use Rattle.p4_tables.specs.Entries.{act_in};
-ghost use Rattle.p4_tables.specs.Walk.{found_in, clash_in};
+ghost use Rattle.table_entries.specs.Entries.{act_in};
+ghost use Rattle.table_entries.specs.Walk.{found_in};
+ghost use Rattle.p4_tables.specs.Indexed.{clash_in};
 
-use crate::choice::find;
-use crate::compare::{same_keys, takes_entry};
-use crate::entry::{Act, Chosen, Entry, copy_entries, of_act, of_entry};
-use crate::index::{Index, first_fit, index_of, longest_act, priority_place};
-use crate::signs::sign_of;
+use crate::faults::takes_entry;
 use bit_values::Bits;
 use std::alloc::{AllocError, Global};
 use std::marker::Model;
+use table_entries::{
+    Act, Chosen, Entry, Index, copy_entries, find, first_fit, index_of, longest_act, of_act,
+    of_entry, priority_place, same_keys, sign_of,
+};
 use table_faults::EntryFault;
 use table_shapes::{Shape, copy_shape, has_action};
 
@@ -37,9 +38,9 @@ impl Model for Held {
     ghost Value = { spec.Held };
 
     ghost use Rattle.std.specs.Prelude.{map};
-    ghost use Rattle.p4_tables.specs.View.{entry_of, act_of};
+    ghost use Rattle.table_entries.specs.View.{entry_of, act_of};
     ghost use Rattle.table_shapes.specs.View.{shape_of};
-    ghost use Rattle.p4_tables.specs.Index.{IsIndexed};
+    ghost use Rattle.p4_tables.specs.Indexed.{IsIndexed};
 
     ghost view = { λ h. record { shape = shape_of h.shape; listed = map entry_of h.listed.items; default = act_of h.default } };
 
@@ -114,14 +115,14 @@ impl Held {
     }
 
     /// The first reason for which an entry that the table takes clashes with those that it holds.
-    fn clash(&self, e: &Entry) -> Result<Option<EntryFault>, AllocError>
+    fn clash(&self, alloc: Global, e: &Entry) -> Result<Option<EntryFault>, AllocError>
         requires sound { IsSound self.now }
         requires taken { takes_entry self.now.shape (entry_of e.now) ≡ true }
         ensures { IfOk result (λ fault. fault ≡ clash_in self.now (entry_of e.now)) }
     {
         match &self.index {
             Index::Signs(signs) => {
-                let sign = sign_of(*self.listed.allocator(), &e.keys)?;
+                let sign = sign_of(alloc, &e.keys)?;
                 if signs.act(&self.shape.keys, sign.as_slice()).is_some() {
                     Ok(Some(EntryFault::SameEntry))
                 } else {
@@ -142,7 +143,12 @@ impl Held {
     }
 
     /// The first reason for which the table refuses an entry, where all tables hold so many.
-    pub fn fault_in(&self, count: u32, e: &Entry) -> Result<Option<EntryFault>, AllocError>
+    pub fn fault_in(
+        &self,
+        alloc: Global,
+        count: u32,
+        e: &Entry,
+    ) -> Result<Option<EntryFault>, AllocError>
         requires { IsSound self.now }
         ensures { IfOk result (λ fault. fault ≡ fault_in self.now count (entry_of e.now)) }
     {
@@ -150,7 +156,7 @@ impl Held {
             Ok(Some(EntryFault::NoSuchAction))
         } else if !takes_entry(&self.shape, e) {
             Ok(Some(EntryFault::WidthDiffers))
-        } else if let Some(fault) = self.clash(e)? {
+        } else if let Some(fault) = self.clash(alloc, e)? {
             Ok(Some(fault))
         } else if count >= 65_536 {
             Ok(Some(EntryFault::TableLimit))
@@ -160,12 +166,11 @@ impl Held {
     }
 
     /// An entry goes behind those that the table holds.
-    fn push(&mut self, e: Entry) -> Result<(), AllocError>
+    fn push(&mut self, alloc: Global, e: Entry) -> Result<(), AllocError>
         ensures ok { OnOk result (self.new
             ≡ record self.old { listed = self.old.listed ++ entry_of e ∷ [] }) }
         ensures err { OnErr result (self.new ≡ self.old) }
     {
-        let alloc = *self.listed.allocator();
         let place = self.listed.len();
         self.listed.push(e)?;
         match self
@@ -181,11 +186,10 @@ impl Held {
     }
 
     /// The table has these entries.
-    fn set_listed(&mut self, list: Vec<Entry>) -> Result<(), AllocError>
+    fn set_listed(&mut self, alloc: Global, list: Vec<Entry>) -> Result<(), AllocError>
         ensures ok { OnOk result (self.new ≡ record self.old { listed = map entry_of list.items }) }
         ensures err { OnErr result (self.new ≡ self.old) }
     {
-        let alloc = *list.allocator();
         let has_ternary = self.shape.has_ternary();
         let index = index_of(alloc, &self.shape.keys, has_ternary, &list)?;
         self.listed = list;
@@ -213,22 +217,32 @@ pub(crate) fn copy_tables(alloc: Global, list: &[Held]) -> Result<Vec<Held>, All
 }
 
 /// An entry goes behind those that the table of a number holds.
-pub(crate) fn put_entry(tables: &mut Vec<Held>, table: usize, e: Entry) -> Result<(), AllocError>
+pub(crate) fn put_entry(
+    alloc: Global,
+    tables: &mut Vec<Held>,
+    table: usize,
+    e: Entry,
+) -> Result<(), AllocError>
     requires { table < length tables.old.items }
     ensures ok { OnOk result (tables.new.items ≡ inserted tables.old.items table (entry_of e)) }
     ensures err { OnErr result (tables.new.items ≡ tables.old.items) }
 {
-    tables[table].push(e)
+    tables[table].push(alloc, e)
 }
 
 /// The table of a number has these entries.
-fn put_listed(tables: &mut Vec<Held>, table: usize, list: Vec<Entry>) -> Result<(), AllocError>
+fn put_listed(
+    alloc: Global,
+    tables: &mut Vec<Held>,
+    table: usize,
+    list: Vec<Entry>,
+) -> Result<(), AllocError>
     requires { table < length tables.old.items }
     ensures ok { OnOk result (tables.new.items
         ≡ with_listed tables.old.items table (map entry_of list.items)) }
     ensures err { OnErr result (tables.new.items ≡ tables.old.items) }
 {
-    tables[table].set_listed(list)
+    tables[table].set_listed(alloc, list)
 }
 
 /// The table of a number has this default.
@@ -241,6 +255,7 @@ pub(crate) fn put_default(tables: &mut Vec<Held>, table: usize, default: Act)
 
 /// The table of a number has these entries, and, where one is given, this default.
 pub(crate) fn put_all(
+    alloc: Global,
     tables: &mut Vec<Held>,
     table: usize,
     list: Vec<Entry>,
@@ -251,7 +266,7 @@ pub(crate) fn put_all(
         (map entry_of list.items) (option_map given_act default)) }
     ensures err { OnErr result (tables.new.items ≡ tables.old.items) }
 {
-    put_listed(tables, table, list)?;
+    put_listed(alloc, tables, table, list)?;
     match default {
         Some((action, args)) => put_default(tables, table, Act { action, args }),
         None => {}

@@ -4,17 +4,17 @@ ghost use Rattle.std.specs.Prelude.{◌≡◌, get_or, map, IfOk};
 ghost use Rattle.p4_tree.specs.View.{program_of};
 ghost use Rattle.p4_parts.specs.PartsIn.{action_in, chosen_in, key_in, table_in};
 ghost use Rattle.p4_tables.specs.Programs.{kind_of, no_value, values_at, key_shapes, action_place, action_shape, numbered, table_shape, table_before, tables_before, state_before};
-ghost use Rattle.p4_tables.specs.View.{act_of};
+ghost use Rattle.table_entries.specs.View.{act_of};
 ghost use Rattle.table_shapes.specs.View.{action_shape_of, shape_of};
 ghost use Rattle.value_shapes.specs.Values.{lists_in};
 
-use crate::entry::{Act, copy_words};
 use crate::held::Held;
 use lex_text::Name;
 use p4_parts::{Action, Chosen, Key, Table, parts_of};
 use p4_tree::Program;
 use std::alloc::{AllocError, Global};
-use table_shapes::{ActionShape, KeyKind, KeyShape, Shape, copy_values};
+use table_entries::Act;
+use table_shapes::{ActionShape, KeyKind, KeyShape, Shape, copy_values, copy_words};
 use value_shapes::{Holder, ValueShape, values_of};
 
 /// How a key is matched, by the name of that.
@@ -62,12 +62,12 @@ fn key_shapes(
 }
 
 /// The number of the action of a full name.
-fn action_place(actions: &[Action], name: &Name) -> Result<u32, AllocError>
+pub(crate) fn action_place(actions: &[Action], name: &str) -> Result<u32, AllocError>
     ensures { IfOk result (λ n. n ≡ action_place (map action_in actions.now) name.now) }
 {
     let mut place: u32 = 0;
     for action in actions {
-        if action.name.as_str() == name.as_str() {
+        if action.name.as_str() == name {
             return Ok(place);
         }
         place = place.checked_add(1).ok_or(AllocError)?;
@@ -95,7 +95,7 @@ fn action_shape(
     ensures { IfOk result (λ a. action_shape_of a
         ≡ action_shape (map action_in actions.now) (lists_in params.now) name.now) }
 {
-    let number = action_place(actions, name)?;
+    let number = action_place(actions, name.as_str())?;
     let params = copy_values(alloc, values_at(params, number as usize))?;
     Ok(ActionShape { number, params })
 }
@@ -120,7 +120,7 @@ fn action_shapes(
 fn numbered(alloc: Global, actions: &[Action], c: &Chosen) -> Result<Act, AllocError>
     ensures { IfOk result (λ a. act_of a ≡ numbered (map action_in actions.now) (chosen_in c.now)) }
 {
-    let action = action_place(actions, &c.action)?;
+    let action = action_place(actions, c.action.as_str())?;
     let args = copy_words(alloc, &c.args)?;
     Ok(Act { action, args })
 }
@@ -138,11 +138,13 @@ fn table_shape(
 {
     let keys = key_shapes(alloc, &table.keys, keys)?;
     let list = action_shapes(alloc, actions, params, &table.actions)?;
-    let written = action_place(actions, &table.default.action)?;
+    let written = action_place(actions, table.default.action.as_str())?;
+    let written_args = copy_words(alloc, &table.default.args)?;
     Ok(Shape {
         keys,
         actions: list,
         written,
+        written_args,
         fixed: table.fixed,
     })
 }

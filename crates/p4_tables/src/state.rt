@@ -9,17 +9,17 @@ ghost use Rattle.p4_tables.specs.Faults.{entry_fault, default_fault, IsReplaceab
 ghost use Rattle.p4_tables.specs.Answers.{IsHit, IsMiss};
 ghost use Rattle.p4_tables.specs.Programs.{shapes, state_before};
 ghost use Rattle.p4_tables.specs.Laws.{ChoicesAreUnique, RunsListed};
-ghost use Rattle.p4_tables.specs.View.{entry_of, act_of, given_act, chosen_act};
+ghost use Rattle.table_entries.specs.View.{entry_of, act_of, given_act, chosen_act};
 ghost use Rattle.table_shapes.specs.View.{shape_of};
 
-use crate::compare::default_fault_in;
-use crate::entry::{Act, Chosen, Entry};
+use crate::faults::default_fault_in;
 use crate::held::{Held, copy_tables, put_all, put_default, put_entry};
 use crate::start::state_before;
 use bit_values::Bits;
 use p4_types::TypedProgram;
 use std::alloc::{AllocError, Global};
 use std::marker::Model;
+use table_entries::{Act, Chosen, Entry};
 use table_faults::EntryFault;
 use table_shapes::Shape;
 
@@ -104,7 +104,7 @@ impl TableState {
     }
 
     /// Puts an entry behind those of the table of a number.
-    pub fn insert(&mut self, table: u32, e: Entry) -> Result<(), EntryFault>
+    pub fn insert(&mut self, alloc: Global, table: u32, e: Entry) -> Result<(), EntryFault>
         requires { table < length self.old }
         ensures ok { OnOk result (self.new ≡ inserted self.old table (entry_of e)) }
         ensures free { OnOk result (entry_fault self.old table (entry_of e) ≡ None) }
@@ -113,10 +113,10 @@ impl TableState {
         ensures kept { OnErr result (self.new ≡ self.old) }
         ensures shapes { shapes self.new ≡ shapes self.old }
     {
-        match self.tables[table as usize].fault_in(self.count, &e)? {
+        match self.tables[table as usize].fault_in(alloc, self.count, &e)? {
             Some(fault) => Err(fault),
             None => {
-                put_entry(&mut self.tables, table as usize, e)?;
+                put_entry(alloc, &mut self.tables, table as usize, e)?;
                 self.count += 1;
                 Ok(())
             }
@@ -126,6 +126,7 @@ impl TableState {
     /// Gives the table of a number a default.
     pub fn set_default(
         &mut self,
+        _alloc: Global,
         table: u32,
         action: u32,
         args: Vec<Bits>,
@@ -154,6 +155,7 @@ impl TableState {
     /// given, that into the place of its default.
     pub fn replace(
         &mut self,
+        alloc: Global,
         table: u32,
         list: Vec<Entry>,
         default: Option<(u32, Vec<Bits>)>,
@@ -166,7 +168,7 @@ impl TableState {
         ensures kept { OnErr result (self.new ≡ self.old) }
         ensures shapes { shapes self.new ≡ shapes self.old }
     {
-        put_all(&mut self.tables, table as usize, list, default)?;
+        put_all(alloc, &mut self.tables, table as usize, list, default)?;
         self.count = count_in(&self.tables);
         Ok(())
     }
@@ -212,7 +214,8 @@ pub fn choices_are_unique(state: &TableState)
     let _tables = &state.tables;
 }
 
-/// Tables run actions of their lists alone, and as a default the one that is written.
+/// Tables run actions of their lists alone, and as a default also the one that is written; where the
+/// default is `const`, that one alone, with its words.
 pub fn actions_are_listed(state: &TableState)
     ensures { RunsListed state.now }
 {

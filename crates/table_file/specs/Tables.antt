@@ -14,7 +14,7 @@ use Rattle.table_faults.specs.declared.table.TableFault.{TableFault}
 use Rattle.table_faults.specs.declared.table.TableFault.TheVariants as fault
 use Rattle.p4_tree.specs.Tree.{Program}
 use Rattle.p4_types.specs.Numbers.{tables, actions, names, number_in}
-use Rattle.p4_tables.specs.Entries.{Entry, Act}
+use Rattle.table_entries.specs.Entries.{Entry, Act}
 use Rattle.p4_tables.specs.State.{Held, held_at, inserted, with_default}
 use Rattle.p4_tables.specs.Faults.{entry_fault, default_fault}
 use Rattle.json_values.specs.Words.{fault_of}

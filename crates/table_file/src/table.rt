@@ -8,7 +8,7 @@ ghost use Rattle.json_values.specs.Views.{Gives};
 ghost use Rattle.table_faults.specs.declared.table.TableFault.TheVariants.{NoMemory, Entry as Refused};
 ghost use Rattle.p4_tree.specs.View.{program_of};
 ghost use Rattle.p4_tables.specs.Programs.{shapes, IsStateOf};
-ghost use Rattle.p4_tables.specs.View.{act_of, entry_of};
+ghost use Rattle.table_entries.specs.View.{act_of, entry_of};
 ghost use Rattle.table_file.specs.Tables as tables;
 ghost use Rattle.table_file.specs.Views.{place_view};
 
@@ -52,7 +52,7 @@ fn put_entry(
         (tables.put_entry path.now table state.old (entry_of entry)) }
     ensures shapes { shapes state.new ≡ shapes state.old }
 {
-    match state.insert(table, entry) {
+    match state.insert(alloc, table, entry) {
         Ok(()) => Ok(()),
         Err(fault) => Err(refused(alloc, path, fault)),
     }
@@ -70,7 +70,7 @@ fn put_default(
         (tables.put_default path.now table state.old (act_of default)) }
     ensures shapes { shapes state.new ≡ shapes state.old }
 {
-    match state.set_default(table, default.action, default.args) {
+    match state.set_default(alloc, table, default.action, default.args) {
         Ok(()) => Ok(()),
         Err(fault) => Err(refused(alloc, path, fault)),
     }

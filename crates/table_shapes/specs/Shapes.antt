@@ -12,12 +12,13 @@ pub record ActionShape : Type 0 where
   pub number : ℕ
   pub params : List ValueShape
 
--- what a table takes: its keys, the actions of its list, and of the default that is written the number of its action and
--- whether it is `const`
+-- what a table takes: its keys, the actions of its list, and of the default that is written the number of its action, its
+-- words and whether it is `const`
 pub record Shape : Type 0 where
   pub keys : List KeyShape
   pub actions : List ActionShape
   pub written : ℕ
+  pub written_args : List Word
   pub fixed : Bool
 
 -- ---- keys

@@ -9,4 +9,4 @@ abbrev pub action_shape_of : code_action.ActionShape → ActionShape
 action_shape_of a = record { number = a.number; params = a.params.items }
 
 abbrev pub shape_of : code_shape.Shape → Shape
-shape_of s = record { keys = s.keys.items; actions = map action_shape_of s.actions.items; written = s.written; fixed = s.fixed }
+shape_of s = record { keys = s.keys.items; actions = map action_shape_of s.actions.items; written = s.written; written_args = s.written_args.items; fixed = s.fixed }

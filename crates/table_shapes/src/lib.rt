@@ -9,5 +9,5 @@
 mod shape;
 
 pub use shape::{
-    ActionShape, KeyKind, KeyShape, Shape, copy_shape, copy_values, has_action, takes,
+    ActionShape, KeyKind, KeyShape, Shape, copy_shape, copy_values, copy_words, has_action, takes,
 };

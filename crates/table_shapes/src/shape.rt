@@ -31,12 +31,13 @@ pub struct ActionShape {
 }
 
 /// What a table takes: its keys, the actions of its list, and of the default that is written the
-/// number of its action and whether it is `const`.
+/// number of its action, its words and whether it is `const`.
 #[derive(Debug, Drop)]
 pub struct Shape {
     pub keys: Vec<KeyShape>,
     pub actions: Vec<ActionShape>,
     pub written: u32,
+    pub written_args: Vec<Bits>,
     pub fixed: bool,
 }
 
@@ -125,6 +126,18 @@ pub fn takes(actions: &[ActionShape], number: u32, args: &[Bits]) -> bool
     false
 }
 
+/// Equal words.
+pub fn copy_words(alloc: Global, list: &[Bits]) -> Result<Vec<Bits>, AllocError>
+    ensures { IfOk result (λ v. v.items ≡ list.now) }
+{
+    let mut copies = Vec::new(alloc);
+    for w in list {
+        copies.push(*w)?;
+    }
+    Ok(copies)
+}
+
+/// Equal values.
 pub fn copy_values(alloc: Global, list: &[ValueShape]) -> Result<Vec<ValueShape>, AllocError>
     ensures { IfOk result (λ v. v.items ≡ list.now) }
 {
@@ -171,10 +184,12 @@ pub fn copy_shape(alloc: Global, s: &Shape) -> Result<Shape, AllocError>
 {
     let keys = copy_keys(alloc, &s.keys)?;
     let actions = copy_actions(alloc, &s.actions)?;
+    let written_args = copy_words(alloc, &s.written_args)?;
     Ok(Shape {
         keys,
         actions,
         written: s.written,
+        written_args,
         fixed: s.fixed,
     })
 }

@@ -1,6 +1,6 @@
 use Rattle.std.proofs.Common.{◌≡◌, map, take}
 use Rattle.p4_meaning.specs.Choice.{exact}
-use Rattle.p4_tables.specs.View.{match_of}
+use Rattle.table_entries.specs.View.{match_of}
 use Rattle.control_tables.proofs.contents.exact_keys.Given as goal
 
 abbrev pub invariant-loop-part : goal.invariant-loop-part

@@ -1,6 +1,6 @@
 use Rattle.std.proofs.Common.{◌≡◌, [], map, take}
 use Rattle.indus_values.specs.View.{cells_of}
-use Rattle.p4_tables.specs.View.{entry_of}
+use Rattle.table_entries.specs.View.{entry_of}
 use Rattle.control_tables.specs.Contents as contents
 use Rattle.control_tables.proofs.contents.key_entries.Given as goal
 

@@ -1,6 +1,6 @@
 use Rattle.std.proofs.Common.{◌≡◌, ◌∷◌, [], map, take}
 use Rattle.indus_values.specs.View.{entry_of as pair_seen}
-use Rattle.p4_tables.specs.View.{entry_of}
+use Rattle.table_entries.specs.View.{entry_of}
 use Rattle.control_tables.specs.Contents as contents
 use Rattle.control_tables.proofs.contents.pair_entries.Given as goal
 

@@ -3,7 +3,7 @@ use Rattle.std.proofs.lemmas.List.{map_push}
 use Rattle.std.proofs.lemmas.Result.{err_from_is_err_and}
 use Rattle.json_parts.proofs.TurnLemmas.{all_more, all_stop, turn_end}
 use Rattle.json_parts.specs.Turns.{behind}
-use Rattle.p4_tables.specs.View.{match_of}
+use Rattle.table_entries.specs.View.{match_of}
 use Rattle.entry_parts.specs.Matches.{match_at}
 use Rattle.entry_parts.specs.Views.{part_view}
 use Rattle.entry_parts.specs.declared.parts.Part.{Part}

@@ -1,6 +1,6 @@
 use Rattle.std.proofs.Common.{◌≡◌, map, drop}
 use Rattle.json_parts.specs.Turns.{in_turn, behind}
-use Rattle.p4_tables.specs.View.{match_of}
+use Rattle.table_entries.specs.View.{match_of}
 use Rattle.entry_parts.specs.Matches.{match_at, matches_of}
 use Rattle.entry_parts.specs.Views.{part_views}
 use Rattle.entry_parts.proofs.matches.matches.Given as goal

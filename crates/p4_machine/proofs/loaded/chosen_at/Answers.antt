@@ -3,7 +3,7 @@ use Rattle.std.proofs.lemmas.List.{length-map}
 use Rattle.p4_parts.specs.PartsIn.{action_in, parts_in, table_in}
 use Rattle.p4_statements.specs.Outcomes.{outcome_of}
 use Rattle.p4_tables.specs.Programs.{shapes}
-use Rattle.p4_tables.specs.View.{chosen_act}
+use Rattle.table_entries.specs.View.{chosen_act}
 use Rattle.p4_machine.proofs.LoadedLemmas.{same_tables, as_many, outcome_for, on_true, on_false, chosen_there, none_there}
 use Rattle.p4_machine.proofs.loaded.chosen_at.Goals as goal
 

@@ -1,5 +1,5 @@
 use Rattle.p4_tables.specs.State.{Held}
-use Rattle.p4_tables.specs.View.{act_of}
+use Rattle.table_entries.specs.View.{act_of}
 use Rattle.p4_tables.proofs.Changed.{put_at}
 use Rattle.p4_tables.proofs.held.put_default.Goals as goal
 

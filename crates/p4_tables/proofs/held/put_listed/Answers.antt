@@ -1,7 +1,7 @@
 use Rattle.std.proofs.lemmas.Result.{on_ok_weaker, on_err_weaker}
 use Rattle.std.proofs.Common.{map}
 use Rattle.p4_tables.specs.State.{Held}
-use Rattle.p4_tables.specs.View.{entry_of}
+use Rattle.table_entries.specs.View.{entry_of}
 use Rattle.p4_tables.proofs.Changed.{put_at, kept_at}
 use Rattle.p4_tables.proofs.held.put_listed.Goals as goal
 

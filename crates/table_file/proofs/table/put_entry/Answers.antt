@@ -1,6 +1,6 @@
 use Rattle.p4_tables.specs.State.{inserted}
 use Rattle.p4_tables.specs.Faults.{entry_fault}
-use Rattle.p4_tables.specs.View.{entry_of}
+use Rattle.table_entries.specs.View.{entry_of}
 use Rattle.table_file.proofs.Steps.{refuses}
 use Rattle.table_file.proofs.table.put_entry.Goals as goal
 

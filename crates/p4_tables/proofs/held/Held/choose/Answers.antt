@@ -1,14 +1,14 @@
 use Rattle.std.proofs.Common.{◌≡◌, true, map, sym, ap, subst, ◌∙◌}
 use Rattle.std.specs.Option.{option_map}
 use Rattle.table_shapes.specs.Shapes.{has_ternary, have_widths}
-use Rattle.p4_tables.specs.Entries.{act_in}
-use Rattle.p4_tables.specs.Signs.{sign_act, wanted}
-use Rattle.p4_tables.specs.Index.{IsIndex, first_fit, first_told, longest}
+use Rattle.table_entries.specs.Entries.{act_in}
+use Rattle.table_entries.specs.Signs.{sign_act, wanted}
+use Rattle.table_entries.specs.Index.{IsIndex, first_fit, first_told, longest}
 use Rattle.p4_tables.specs.Kept.{AreApart, IsSound}
 use Rattle.p4_tables.specs.State.{Held}
-use Rattle.p4_tables.specs.View.{entry_of, act_of}
+use Rattle.table_entries.specs.View.{entry_of, act_of}
 use Rattle.table_shapes.specs.View.{shape_of}
-use Rattle.p4_tables.specs.Walk.{lent, found_in}
+use Rattle.table_entries.specs.Walk.{lent, found_in}
 use Rattle.p4_tables.proofs.Fallen.{fit_found}
 use Rattle.p4_tables.proofs.Signed.{act_found}
 use Rattle.p4_tables.proofs.held.Held.choose.Goals as goal

@@ -2,18 +2,18 @@ use Rattle.std.proofs.Common.{◌≡◌, ◌<◌, ℕ, Bool, Some, None, true, f
 use Rattle.std.specs.Prelude.{if◌then◌else◌}
 use Rattle.std.proofs.lemmas.List.{get_or-map}
 use Rattle.table_shapes.specs.Shapes.{has_ternary}
-use Rattle.p4_tables.specs.Entries.{Entry, same_keys, has_same}
+use Rattle.table_entries.specs.Entries.{Entry, same_keys, has_same}
 use Rattle.p4_tables.specs.State.{Held}
 use Rattle.p4_tables.specs.Faults.{takes_entry}
-use Rattle.p4_tables.specs.Signs.{signs_of, sign_act}
-use Rattle.p4_tables.specs.Index.{IsIndex, asks, place_in, has_rank}
+use Rattle.table_entries.specs.Signs.{signs_of, sign_act}
+use Rattle.table_entries.specs.Index.{IsIndex, asks, place_in, has_rank}
 use Rattle.p4_tables.specs.Kept.{IsSound}
-use Rattle.p4_tables.specs.Walk.{clash_in}
-use Rattle.p4_tables.specs.View.{match_of, entry_of, act_of}
+use Rattle.p4_tables.specs.Indexed.{clash_in}
+use Rattle.table_entries.specs.View.{match_of, entry_of, act_of}
 use Rattle.table_shapes.specs.View.{shape_of}
 use Rattle.table_faults.specs.declared.entry.EntryFault.TheVariants.{SameEntry, SamePriority}
-use Rattle.p4_tables.proofs.Listed.{no_entry, many_below, long}
-use Rattle.p4_tables.proofs.Noted.{stands, lent_some, seen_some, some_stands}
+use Rattle.table_entries.proofs.Listed.{no_entry, many_below, long}
+use Rattle.table_entries.proofs.Noted.{stands, lent_some, seen_some, some_stands}
 use Rattle.p4_tables.proofs.Same.{same_stands, no_clash, clash_there, clash_same}
 use Rattle.p4_tables.proofs.held.Held.clash.Goals as goal
 

@@ -1,6 +1,6 @@
 use Rattle.std.proofs.Common.{map, sym, subst}
-use Rattle.p4_tables.specs.Index.{IsIndex}
-use Rattle.p4_tables.specs.View.{entry_of}
+use Rattle.table_entries.specs.Index.{IsIndex}
+use Rattle.table_entries.specs.View.{entry_of}
 use Rattle.p4_tables.proofs.held.Held.new.Goals as goal
 
 pub invariant_of-result : goal.invariant_of-result

@@ -1,8 +1,8 @@
 use Rattle.std.proofs.Common.{◌-◌, ℕ, [], ◌∷◌, ◌++◌, map, take, sym, ap, subst, ◌∙◌}
 use Rattle.table_shapes.specs.Shapes.{has_ternary}
-use Rattle.p4_tables.specs.Index.{IsIndex}
-use Rattle.p4_tables.specs.View.{entry_of}
-use Rattle.p4_tables.proofs.Listed.{one_more, all_but_last, many_of, long}
+use Rattle.table_entries.specs.Index.{IsIndex}
+use Rattle.table_entries.specs.View.{entry_of}
+use Rattle.table_entries.proofs.Listed.{one_more, all_but_last, many_of, long}
 use Rattle.p4_tables.proofs.held.Held.push.Goals as goal
 
 pub invariant_of-self-in-Ok : goal.invariant_of-self-in-Ok

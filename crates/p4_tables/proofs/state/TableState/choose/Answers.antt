@@ -1,11 +1,11 @@
 use Rattle.std.proofs.Common.{◌≡◌, None, sym, ap, subst, ◌∙◌}
 use Rattle.std.specs.Option.{option_map}
 use Rattle.table_shapes.specs.Shapes.{has_ternary}
-use Rattle.p4_tables.specs.Entries.{Act}
+use Rattle.table_entries.specs.Entries.{Act}
 use Rattle.p4_tables.specs.State.{held_at}
 use Rattle.p4_tables.specs.Answers.{IsHit, IsMiss}
-use Rattle.p4_tables.specs.View.{chosen_act}
-use Rattle.p4_tables.specs.Walk.{found_in}
+use Rattle.table_entries.specs.View.{chosen_act}
+use Rattle.table_entries.specs.Walk.{found_in}
 use Rattle.p4_tables.proofs.Changed.{read_at, within}
 use Rattle.p4_tables.proofs.Found.{hit, miss, some_entry, no_act, on_true, not_false}
 use Rattle.p4_tables.proofs.state.TableState.choose.Goals as goal

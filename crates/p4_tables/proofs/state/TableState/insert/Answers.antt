@@ -2,7 +2,7 @@ use Rattle.std.proofs.Common.{◌≡◌, ◌<◌, None, [], ◌∷◌, ◌++◌,
 use Rattle.p4_tables.specs.State.{held_at}
 use Rattle.p4_tables.specs.Programs.{shapes}
 use Rattle.p4_tables.specs.Faults.{entry_fault}
-use Rattle.p4_tables.specs.View.{entry_of}
+use Rattle.table_entries.specs.View.{entry_of}
 use Rattle.p4_tables.proofs.Changed.{within, listed_shapes}
 use Rattle.p4_tables.proofs.Stays.{not_refused, behind_insert}
 use Rattle.p4_tables.proofs.state.TableState.insert.Goals as goal

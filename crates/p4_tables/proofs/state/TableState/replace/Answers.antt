@@ -2,7 +2,7 @@ use Rattle.std.proofs.Common.{◌≤◌, map, ap, subst, sym, ◌∙◌}
 use Rattle.std.specs.Option.{option_map}
 use Rattle.p4_tables.specs.State.{entries_in}
 use Rattle.p4_tables.specs.Programs.{shapes}
-use Rattle.p4_tables.specs.View.{entry_of, given_act}
+use Rattle.table_entries.specs.View.{entry_of, given_act}
 use Rattle.p4_tables.specs.Kept.{AreSound}
 use Rattle.p4_tables.proofs.Changed.{replaced_shapes}
 use Rattle.p4_tables.proofs.Stays.{behind_replace}

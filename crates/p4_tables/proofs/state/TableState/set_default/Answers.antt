@@ -1,5 +1,5 @@
 use Rattle.std.proofs.Common.{◌≡◌, ◌<◌, None, length, sym, ap, subst, ◌∙◌}
-use Rattle.p4_tables.specs.Entries.{Act}
+use Rattle.table_entries.specs.Entries.{Act}
 use Rattle.p4_tables.specs.Programs.{shapes}
 use Rattle.p4_tables.specs.Faults.{default_fault_in, default_fault}
 use Rattle.p4_tables.proofs.Changed.{within, default_shapes}

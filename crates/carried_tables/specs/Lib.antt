@@ -1,5 +1,0 @@
--- What callers rest on.
-pub mod Carried
--- What serves the proofs.
-pub mod Rows
-pub mod Same

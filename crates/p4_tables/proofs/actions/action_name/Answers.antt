@@ -1,0 +1,11 @@
+use Rattle.std.proofs.Common.{sym, ap, ◌∙◌, arith}
+use Rattle.p4_parts.specs.declared.parts.Action as code_action
+use Rattle.p4_tables.proofs.ActionNames.{name_there, none_numbered}
+use Rattle.p4_tables.proofs.actions.action_name.Goals as goal
+
+pub returns-then-number-actions : goal.returns-then-number-actions
+returns-then-number-actions c =
+    c.as_str.ensures ∙ ap (λ (a : code_action.Action). a.name) (sym c.index-actions-number.is) ∙ sym (name_there c.args.actions.now c.args.number c.index-actions-number.result (omega arith) c.index-actions-number.is)
+
+pub returns-else-number-actions : goal.returns-else-number-actions
+returns-else-number-actions c = sym (none_numbered c.args.actions.now c.args.number (omega arith))

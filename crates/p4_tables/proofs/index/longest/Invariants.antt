@@ -1,6 +1,0 @@
-use Rattle.std.proofs.Common.{◌≡◌, drop}
-use Rattle.p4_tables.specs.Index.{longest}
-use Rattle.p4_tables.proofs.index.longest.Given as goal
-
-abbrev pub invariant-loop-k : goal.invariant-loop-k
-invariant-loop-k l = longest (drop l.k-index l.kinds) ≡ longest l.kinds

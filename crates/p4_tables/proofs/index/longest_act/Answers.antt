@@ -1,7 +1,0 @@
-use Rattle.std.proofs.Common.{sym, ◌∙◌}
-use Rattle.p4_tables.specs.Signs.{sign_act, wanted}
-use Rattle.p4_tables.proofs.Signed.{shorter}
-use Rattle.p4_tables.proofs.index.longest_act.Goals as goal
-
-pub loop-act-preserved : goal.loop-act-preserved
-loop-act-preserved c = shorter (λ n. sign_act c.args.kinds.now c.args.signs.now (wanted c.args.kinds.now n c.args.keys.now)) c.loop-act.length c.in_ok-act.act c.in_ok-act.ensures (sym c.is_some.ensures ∙ c.if-is_some.false) c.if-length-eq0.false ∙ c.loop-act.invariant

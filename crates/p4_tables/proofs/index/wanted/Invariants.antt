@@ -1,6 +1,0 @@
-use Rattle.std.proofs.Common.{◌≡◌, ◌++◌, drop}
-use Rattle.p4_tables.specs.Signs.{wanted}
-use Rattle.p4_tables.proofs.index.wanted.Given as goal
-
-abbrev pub invariant-loop-i : goal.invariant-loop-i
-invariant-loop-i l = l.sign.items ++ wanted (drop l.i l.kinds) l.length (drop l.i l.keys) ≡ wanted l.kinds l.length l.keys

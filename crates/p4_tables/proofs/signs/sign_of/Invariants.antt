@@ -1,7 +1,0 @@
-use Rattle.std.proofs.Common.{◌≡◌, ◌++◌, map, drop}
-use Rattle.p4_tables.specs.Signs.{signs_of}
-use Rattle.p4_tables.specs.View.{match_of}
-use Rattle.p4_tables.proofs.signs.sign_of.Given as goal
-
-abbrev pub invariant-loop-m : goal.invariant-loop-m
-invariant-loop-m l = l.sign.items ++ signs_of (map match_of (drop l.m-index l.list)) ≡ signs_of (map match_of l.list)

@@ -1,0 +1,4 @@
+pub mod Keys
+pub mod Noted
+pub mod Packed
+pub mod Listed
