@@ -1,7 +1,5 @@
-//! Tests of numbers and of captures, whose expected values come from outside.
+//! Tests of numbers, whose expected values come from outside.
 #![tactic(auto)]
 
-#[cfg(test)]
-mod captures;
 #[cfg(test)]
 mod numbers;

@@ -1,29 +1,12 @@
 //! Texts with their trees.
 
-use crate::show::{put_number, show_property};
-use indus_reader::{PropertyFault, read_property};
-use lex_text::LexFault;
+use crate::show::show_property;
+use indus_reader::read_property;
 use std::alloc::{AllocError, Global};
 use std::process::Abort;
 use std::test::Fail;
 
-/// A fault of a text, with its place.
-fn show_fault(alloc: Global, fault: PropertyFault) -> Result<String, Fail> {
-    let (word, at) = match fault {
-        PropertyFault::NoMemory => return Err(Fail::from(AllocError)),
-        PropertyFault::Lex(LexFault::BadChar { at }) => ("char ", at),
-        PropertyFault::Lex(LexFault::NumberTooWide { at }) => ("number ", at),
-        PropertyFault::Lex(LexFault::OpenComment { at }) => ("comment ", at),
-        PropertyFault::Lex(_) => ("lex ", 0),
-        PropertyFault::Syntax { at } => ("syntax ", at),
-        PropertyFault::TooDeep { at } => ("too deep ", at),
-    };
-    let mut out = String::new(alloc);
-    put_number(alloc, &mut out, word, at as u128)?;
-    Ok(out)
-}
-
-/// What the text spells, or the fault.
+/// What the text spells.
 fn answer(rt: &impl Abort, alloc: Global, text: &str) -> Result<String, Fail> {
     assert!(rt; text.len() <= 65536);
     match read_property(alloc, text.as_bytes()) {
@@ -31,26 +14,21 @@ fn answer(rt: &impl Abort, alloc: Global, text: &str) -> Result<String, Fail> {
             assert!(rt; tree.at == 0);
             Ok(show_property(alloc, &tree)?)
         }
-        Err(fault) => show_fault(alloc, fault),
+        Err(_) => Err(Fail::new("a property is refused")),
     }
 }
 
-/// The text has this answer, or where that ends with `..`, one that begins so.
-pub fn same(rt: &impl Abort, alloc: Global, text: &str, wanted: &str) -> Result<(), Fail> {
-    let found = answer(rt, alloc, text)?;
-    let is_same = match wanted.strip_suffix("..") {
-        Some(front) => found.as_str().starts_with(front),
-        None => found.as_str() == wanted,
-    };
-    assert!(rt; is_same, "{text}");
+/// The text has this tree.
+fn same(rt: &impl Abort, alloc: Global, text: &str, wanted: &str) -> Result<(), Fail> {
+    assert!(rt; answer(rt, alloc, text)?.as_str() == wanted, "{text}");
     Ok(())
 }
 
-/// Each line of a table is a text and its answer, with ` => ` between.
-pub fn each(rt: &impl Abort, alloc: Global, table: &str) -> Result<(), Fail> {
+/// Each line of a table is a text and its tree, with ` => ` between.
+fn each(rt: &impl Abort, alloc: Global, table: &str) -> Result<(), Fail> {
     for row in table.lines() {
         let Some((text, wanted)) = row.split_once(" => ") else {
-            return Err(Fail::new("a row has no answer"));
+            return Err(Fail::new("a row has no tree"));
         };
         same(rt, alloc, text, wanted)?;
     }
@@ -146,7 +124,7 @@ fn a_whole_file(rt: HostRuntime) -> Result<(), Fail> {
 }
 
 /// Texts behind each other.
-pub fn joined(alloc: Global, parts: &[&str]) -> Result<String, AllocError> {
+fn joined(alloc: Global, parts: &[&str]) -> Result<String, AllocError> {
     let mut out = String::new(alloc);
     for part in parts {
         out.push_str(part)?;
@@ -242,7 +220,6 @@ fn pairs_with(rt: &impl Abort, alloc: Global, first: &str, level: usize) -> Resu
 
 /// `in` before and behind an operator on this level.
 fn in_beside(rt: &impl Abort, alloc: Global, sign: &str, level: usize) -> Result<(), Fail> {
-    // Behind `in` a tighter operator finds no left side.
     let tree = if level <= 6 {
         joined(alloc, &["(in@3 s (", sign, "@3 a@3 b@5))"])?
     } else {
@@ -250,14 +227,13 @@ fn in_beside(rt: &impl Abort, alloc: Global, sign: &str, level: usize) -> Result
     };
     let text = joined(alloc, &["a ", sign, " b in s"])?;
     same_value(rt, alloc, text.as_str(), tree.as_str())?;
-    let text = joined(alloc, &["a in s ", sign, " b"])?;
-    if level < 6 {
-        let text = joined(alloc, &["{n = ", text.as_str(), ";} {} {}"])?;
-        same(rt, alloc, text.as_str(), "syntax 6")
-    } else {
+    // Behind `in` a tighter operator finds no left side.
+    if level >= 6 {
+        let text = joined(alloc, &["a in s ", sign, " b"])?;
         let tree = joined(alloc, &["(", sign, "@3 (in@3 s a@3) b@7)"])?;
-        same_value(rt, alloc, text.as_str(), tree.as_str())
+        same_value(rt, alloc, text.as_str(), tree.as_str())?;
     }
+    Ok(())
 }
 
 #[test]
@@ -269,10 +245,4 @@ fn levels_of_operators(rt: HostRuntime) -> Result<(), Fail> {
         }
     }
     Ok(())
-}
-
-/// A double quote begins no token.
-#[test]
-fn a_quote_is_no_token(rt: HostRuntime) -> Result<(), Fail> {
-    same(&rt, rt.alloc(), "\"", "char 0")
 }

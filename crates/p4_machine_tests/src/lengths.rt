@@ -1,4 +1,4 @@
-//! Long frames: the length that the program sees, and the bytes behind the headers.
+//! The longest frame, which no capture holds: the length that the program sees, and the bytes behind the headers.
 
 use machine_bench::{Bench, BenchFault, Tried, bench_of, text_of};
 use p4_machine::Passed;
@@ -54,8 +54,6 @@ fn right(bench: &mut Bench, alloc: Global, length: u32, front: &[u8]) -> Tried<b
 fn lengths(rt: HostRuntime) -> Result<(), Fail> {
     let alloc = rt.alloc();
     let mut bench = bench(alloc)?;
-    assert!(rt; right(&mut bench, alloc, 1_500, &[0xab, 0x05, 0xdc]) == Ok(true));
-    assert!(rt; right(&mut bench, alloc, 65_535, &[0xab, 0xff, 0xff]) == Ok(true));
     assert!(rt; right(&mut bench, alloc, 65_791, &[0xab, 0x00, 0xff]) == Ok(true));
     Ok(())
 }

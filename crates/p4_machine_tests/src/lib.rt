@@ -1,5 +1,5 @@
-//! Tests of the P4 machine: what programs do with a frame, from their texts to what leaves, and which
-//! entries their tables take.
+//! Tests of the P4 machine: which entries its tables take, what they choose, and what no command reaches. What programs
+//! do with a frame stands as rows of `forward` under `tests/` at the top of the repository.
 #![tactic(auto)]
 
 #[cfg(test)]
@@ -10,8 +10,6 @@ mod entries;
 mod indexed;
 #[cfg(test)]
 mod lengths;
-#[cfg(test)]
-mod prefixes;
 #[cfg(test)]
 mod rows;
 #[cfg(test)]

@@ -1,4 +1,4 @@
-//! Tests of files of entries: texts with what they say or their fault, over a program's text.
+//! Tests of what is loaded from files of entries, over a program's text.
 #![tactic(auto)]
 
 #[cfg(test)]

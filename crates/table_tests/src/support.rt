@@ -1,16 +1,13 @@
 //! Files of entries, read over one program and two switches.
 
 use json_parts::read_value;
-use lex_text::Name;
 use network_file::{Network, read_network};
 use p4_decls::read_program;
 use p4_tables::TableState;
 use p4_types::{TypedProgram, check_program};
 use serde_json::Value;
-use std::alloc::{AllocError, Global};
-use std::process::Abort;
+use std::alloc::Global;
 use std::test::Fail;
-use table_faults::{EntryFault, TableFault};
 use table_file::load_entries;
 
 /// The actions have the numbers 0 to 2, and `NoAction` has 3.
@@ -71,37 +68,6 @@ pub fn network(alloc: Global) -> Result<Network, Fail> {
     Ok(network)
 }
 
-/// A fault as it is written in the tables: its name and its path.
-fn line(alloc: Global, name: &str, path: &Name) -> Result<String, Fail> {
-    let path = path.as_str();
-    Ok(format!(in alloc; "{name} '{path}'")?)
-}
-
-fn entry_line(alloc: Global, fault: EntryFault, path: &Name) -> Result<String, Fail> {
-    match fault {
-        EntryFault::NoSuchAction => line(alloc, "NoSuchAction", path),
-        EntryFault::WidthDiffers => line(alloc, "WidthDiffers", path),
-        EntryFault::SameEntry => line(alloc, "SameEntry", path),
-        EntryFault::SamePriority => line(alloc, "SamePriority", path),
-        EntryFault::TableLimit => line(alloc, "TableLimit", path),
-        EntryFault::ConstDefault => line(alloc, "ConstDefault", path),
-        EntryFault::NoMemory => Err(Fail::from(AllocError)),
-    }
-}
-
-fn fault_line(alloc: Global, fault: TableFault) -> Result<String, Fail> {
-    match fault {
-        TableFault::NoMemory => Err(Fail::from(AllocError)),
-        TableFault::Shape { path } => line(alloc, "Shape", &path),
-        TableFault::NoSuchTable { path } => line(alloc, "NoSuchTable", &path),
-        TableFault::NoSuchVariable { path } => line(alloc, "NoSuchVariable", &path),
-        TableFault::Value { path } => line(alloc, "Value", &path),
-        TableFault::Entry { path, fault } => entry_line(alloc, fault, &path),
-        TableFault::KeyTwice { path } => line(alloc, "KeyTwice", &path),
-        TableFault::NoSuchSwitch { path } => line(alloc, "NoSuchSwitch", &path),
-    }
-}
-
 /// What a text says.
 pub fn load(
     alloc: Global,
@@ -114,49 +80,4 @@ pub fn load(
         return Err(Fail::new("a file is refused"));
     };
     Ok(states)
-}
-
-/// How many entries each switch has.
-fn counts(alloc: Global, states: &[TableState]) -> Result<String, Fail> {
-    let mut counts = String::new(alloc);
-    for state in states {
-        counts.push_str(&format!(in alloc; "{} ", state.entries())?)?;
-    }
-    Ok(counts)
-}
-
-/// How many entries each switch has, or the fault.
-fn answer(
-    alloc: Global,
-    program: &TypedProgram,
-    network: &Network,
-    text: &str,
-) -> Result<String, Fail> {
-    let value = value(alloc, text)?;
-    match load_entries(alloc, &value, program, network) {
-        Ok(states) => counts(alloc, &states),
-        Err(fault) => fault_line(alloc, fault),
-    }
-}
-
-/// Each line of a table is a text and its answer, with ` => ` between. The text stands between
-/// `front` and `end`.
-pub fn each(
-    rt: &impl Abort,
-    alloc: Global,
-    front: &str,
-    end: &str,
-    table: &str,
-) -> Result<(), Fail> {
-    let program = program(alloc)?;
-    let network = network(alloc)?;
-    for row in table.lines() {
-        let Some((text, wanted)) = row.split_once(" => ") else {
-            return Err(Fail::new("a row has no answer"));
-        };
-        let text = format!(in alloc; "{front}{text}{end}")?;
-        let answer = answer(alloc, &program, &network, &text)?;
-        assert_eq!(rt; answer.as_str(), wanted, "{text}");
-    }
-    Ok(())
 }
