@@ -35,6 +35,9 @@ NameTwice @locals action a(bit<8> p) { $bit<8> p; }
 NameTwice @states state start { transition accept; } $state start { transition accept; }
 NameTwice @states state start { transition accept; } $state accept { transition reject; }
 NameTwice @states state start { transition reject; } $state reject { }
+NameTwice @top const bit<8> accept = 1; @states state start { transition accept; } $state accept { }
+NameTwice @states state start { meta.m = 1; transition meta; } $state meta { }
+NameTwice @top const bit<8> A = 1; @states state start { transition select(meta.m) { A: A; } } $state A { }
 NameTwice @top const bit<8> A = 1; @states state start { transition A; } $state A { transition accept; }
 NameTwice @states state start { transition accept; } $state hdr { transition accept; }
 NameTwice @verify_parameters inout headers hdr, $inout metadata hdr
@@ -45,10 +48,14 @@ NameTwice @top $register<bit<8>>(1) mark_to_drop;
 NameTwice @top $struct standard_metadata_t { }
 NameTwice @top $header HashAlgorithm { }
 NameTwice @locals $action digest() { }
-NameTwice @ingress $bit<8> accept;
 NameTwice @ingress $bit<8> verify_checksum;
 NameTwice @deparser packet.emit(hdr.e); packet.emit(hdr.f); $packet.emit(hdr.e);
 fine @deparser packet.emit(hdr.e); packet.emit(hdr.f);
+fine @locals action accept() { } action reject() { mark_to_drop(standard_metadata); } @ingress reject(); accept();
+fine @locals action a() { } table reject { actions = { a; } } @ingress bit<8> accept = 1; reject.apply();
+fine @locals const bit<8> reject = 1; @ingress meta.m = reject;
+fine @egress_parameters inout headers accept, inout metadata reject, inout standard_metadata_t standard_metadata
+fine @top const bit<8> accept = 1; @ingress meta.m = accept;
 fine @ingress { bit<8> v; } { bool v; }
 fine @ingress { bit<8> v; } bit<8> v;
 fine @ingress if (meta.g) { bit<8> v; } else { bit<8> v; }
@@ -125,6 +132,8 @@ NoSuchName @ingress $foo v;
 NoSuchName @deparser_parameters packet_out packet, $in foo hdr
 NoSuchName @deparser packet.emit($hdr.q);
 NoSuchName @verify verify_checksum(true, { $hdr.e.z }, hdr.e.y, HashAlgorithm.csum16);
+NoSuchName @compute update_checksum(true, { $hdr.e.z, hdr.e.x }, hdr.e.y, HashAlgorithm.csum16);
+NoSuchName @ingress meta.m = $accept;
 NoSuchName @verify verify_checksum(true, { hdr.e.y }, $hdr.e.z, HashAlgorithm.csum16);
 NoSuchName @verify verify_checksum(true, { hdr.e.y }, hdr.e.y, $HashAlgorithm.crc16);
 NoSuchName @ingress digest(1, { meta.m, $zz });

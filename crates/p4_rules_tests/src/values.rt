@@ -218,6 +218,8 @@ KindDiffers @states state start { transition select(meta.g) { $1: accept; } }
 KindDiffers @states state start { transition select(meta.g) { $true &&& true: accept; } }
 KindDiffers @states state start { transition select(meta.m) { 1 &&& $true: accept; } }
 KindDiffers @states state start { $transition hdr; }
+KindDiffers @states state start { $accept = 1; transition accept; }
+KindDiffers @top const bit<8> A = 1; @states state start { $transition A; }
 KindDiffers @states state start { $transition select(meta.m) { 1: meta; } }
 KindDiffers @states state start { packet.extract($hdr); transition accept; }
 KindDiffers @states state start { packet.extract($hdr.e.x); transition accept; }
@@ -236,6 +238,8 @@ KindDiffers @locals $action a(e_t h) { }
 KindDiffers @locals $headers h;
 KindDiffers @verify verify_checksum($1, { hdr.e.y }, hdr.e.y, HashAlgorithm.csum16);
 KindDiffers @verify verify_checksum(true, { $5 }, hdr.e.y, HashAlgorithm.csum16);
+KindDiffers @compute update_checksum(true, { hdr.e.x, $5 }, hdr.e.y, HashAlgorithm.csum16);
+KindDiffers @verify verify_checksum(true, { $hdr.f, hdr.e.x }, hdr.e.y, HashAlgorithm.csum16);
 KindDiffers @verify verify_checksum(true, $hdr.e.y, hdr.e.y, HashAlgorithm.csum16);
 KindDiffers @verify $verify_checksum(true, { hdr.e.y }, hdr.e.y);
 KindDiffers @verify verify_checksum(true, { hdr.e.y }, $5, HashAlgorithm.csum16);
