@@ -64,8 +64,7 @@ core_unread x =
     (if_unread (same_text x (codes "digest")) _ _ (λ e r. sym r)
     (if_unread (same_text x (codes "verify_checksum")) _ _ (λ e r. sym r)
     (if_unread (same_text x (codes "update_checksum")) _ _ (λ e r. sym r)
-    (if_unread (same_text x (codes "accept") || same_text x (codes "reject")) _ _ (λ e r. sym r)
-    (if_unread (same_text x (codes "HashAlgorithm")) _ _ (λ e r. sym r) (λ e r. e))))))))))
+    (if_unread (same_text x (codes "HashAlgorithm")) _ _ (λ e r. sym r) (λ e r. e)))))))))
 
 pub core_none : (sc : meaning.Scope) → ReadsNone core sc
 unfolding core

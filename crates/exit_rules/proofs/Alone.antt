@@ -73,7 +73,7 @@ core_only x =
     (passed (same_text x (codes "digest")) _ _ (v || u) refl
     (first_one v u _
     (second_one v u _
-    (passed (same_text x (codes "accept") || same_text x (codes "reject")) _ _ (v || u) refl (no_more (same_text x (codes "HashAlgorithm")) (v || u))))))))))
+    (no_more (same_text x (codes "HashAlgorithm")) (v || u)))))))))
 
 pub core_sums : HasOwnSums core
 core_sums = record { only = core_only }

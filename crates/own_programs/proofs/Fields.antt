@@ -278,8 +278,7 @@ module _ (Q : Stands → Bool) where
       (if_not (same_text x (codes "digest")) _ _ (k.functions _)
       (if_not (same_text x (codes "verify_checksum")) _ _ (k.functions _)
       (if_not (same_text x (codes "update_checksum")) _ _ (k.functions _)
-      (if_not (same_text x (codes "accept") || same_text x (codes "reject")) _ _ k.states
-      (if_not (same_text x (codes "HashAlgorithm")) _ _ k.others k.nothing)))))))))
+      (if_not (same_text x (codes "HashAlgorithm")) _ _ k.others k.nothing))))))))
 
   standard_fails : Fails → (y : List ℕ) → Q (standard_at y) ≡ false
   standard_fails k y =

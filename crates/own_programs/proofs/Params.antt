@@ -15,7 +15,7 @@ use Rattle.p4_scopes.specs.Uses.{is_header}
 use Rattle.p4_scopes.specs.declared.kind.Kind.TheVariants.{Number, Error}
 use Rattle.p4_scopes.specs.declared.thing.Thing.TheVariants.{Scalar, Header, Struct, Standard, PacketIn, PacketOut}
 use Rattle.p4_scopes.specs.declared.thing.Access.{Access}
-use Rattle.p4_declaration_rules.specs.Parsers.{way_access, with_ways, ways_tests, with_states, states_names}
+use Rattle.p4_declaration_rules.specs.Parsers.{way_access, with_ways, ways_tests, with_state, with_ends, with_states}
 use Rattle.p4_rules.specs.Mains.{core_type, headers as headers_wanted, metadata as metadata_wanted, parser_wants, checksum_wants, apply_wants, deparser_wants, is_named, is_struct, same_way, Structs, is_wanted, wanted_tests}
 use Rattle.p4_tree.specs.declared.program.Way.{Way}
 use Rattle.p4_tree.specs.declared.program.Way.TheVariants.{Plain, Into, Out, Both}
@@ -237,9 +237,19 @@ module _ (H M h m : List ℕ) where
 
 -- ---- states, which are no values
 
-pub place_states : (sts : List ParserState) (s : Scope) (sd : meaning.Scope) → IsPlace s sd → IsFine (states_names s sts) → IsPlace (with_states s sts) sd
-place_states [] s sd b f = b
-place_states (st ∷ sts) s sd b f = place_states sts (declare s st.name parser_state) sd (place_declared s sd sd st.name parser_state b (λ y. refl) f.0 (record { no_header = refl; alone = λ x xs. refl; flat = λ e. broken (sym e) })) f.1
+place_state : (s : Scope) (sd : meaning.Scope) (n : List ℕ) → IsPlace s sd → IsPlace (with_state s n) sd
+place_state s sd n b = by (is_missing (s (n ∷ []))) refl
+  where
+    by : (i : Bool) → is_missing (s (n ∷ [])) ≡ i → IsPlace (cond i (declare s n parser_state) s) sd
+    by true e = place_declared s sd sd n parser_state b (λ y. refl) (ap not e) (record { no_header = refl; alone = λ x xs. refl; flat = λ h. broken (sym h) })
+    by false e = b
+
+pub place_ends : (s : Scope) (sd : meaning.Scope) → IsPlace s sd → IsPlace (with_ends s) sd
+place_ends s sd b = place_state (with_state s (codes "accept")) sd (codes "reject") (place_state s sd (codes "accept") b)
+
+pub place_states : (sts : List ParserState) (s : Scope) (sd : meaning.Scope) → IsPlace s sd → IsPlace (with_states s sts) sd
+place_states [] s sd b = b
+place_states (st ∷ sts) s sd b = place_states sts (with_state s st.name) sd (place_state s sd st.name b)
 
 -- ---- what is wanted of parameters
 

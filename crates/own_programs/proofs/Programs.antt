@@ -20,7 +20,7 @@ use Rattle.p4_scopes.specs.declared.thing.Access.TheVariants.{Constant}
 use Rattle.p4_statement_rules.specs.Forms.{has_calls_alone}
 use Rattle.p4_statement_rules.specs.declared.rule.Part.{Part}
 use Rattle.p4_statement_rules.specs.declared.rule.Part.TheVariants as place
-use Rattle.p4_declaration_rules.specs.Parsers.{with_ways, ways_tests, with_states, parser_tests}
+use Rattle.p4_declaration_rules.specs.Parsers.{with_ways, ways_tests, before_states, in_states, parser_tests}
 use Rattle.p4_declaration_rules.specs.Controls.{locals_tests, in_control, control_tests, part_in, after_top, tops_tests, after_tops}
 use Rattle.p4_declaration_rules.proofs.FirstsLemmas.{all_first}
 use Rattle.p4_rules.specs.Mains.{Wanted, checksum_wants, is_struct, all_fields, Structs, structs_of, wanted_tests}
@@ -268,7 +268,7 @@ module _ (p : Program) (well : IsWellTyped p) where
           (parts_in_role.parser_params p well q d (b.within (parser q d) (inl refl))) fine_parser.1.0
 
       here : AllByRecursion IsOwnState (states_of sc (Some d))
-      here = states_own (in_parser sc d) d.states d.states (with_states (with_ways s d.params) d.states) (place_states d.states (with_ways s d.params) (in_parser sc d) parser_place fine_parser.1.1.0) o.0.states fine_parser.1.1.1.1
+      here = states_own (in_parser sc d) d.states d.states (in_states s d) (place_states d.states (before_states s d) (in_parser sc d) (place_ends (with_ways s d.params) (in_parser sc d) parser_place)) o.0.states fine_parser.1.1.1.1
 
       go : (i : Bool) → AllByRecursion IsOwnState (states_of (scope_at_parser sc ts x) (parser_named ts x)) → AllByRecursion IsOwnState (states_of (cond i sc (scope_at_parser sc ts x)) (cond i (Some d) (parser_named ts x)))
       go true more = here

@@ -1,11 +1,13 @@
 -- What a table of names holds.
-use Rattle.std.proofs.Common.{◌≡◌, ℕ, ◌+◌, ◌<◌, length, drop, get_or, Bool, true, false, cond, ◌||◌, List, [], ◌∷◌, ◌++◌, Bor, refl, sym, ap, ◌∙◌}
+use Rattle.std.proofs.Common.{◌≡◌, ℕ, ◌+◌, ◌<◌, length, drop, get_or, Bool, true, false, cond, ◌||◌, List, [], ◌∷◌, ◌++◌, map, Bor, refl, sym, ap, ◌∙◌}
 use Rattle.std.specs.List.{list_any}
 use Rattle.std.specs.Str.{bytes_eq}
 use Rattle.std.specs.Cmp.Lexicographic.{nat_list_eq_equiv}
 use Rattle.std.proofs.lemmas.Slice.Eq.{bytes_eq-Decides}
 use Rattle.lex_text.specs.Names.{same_text}
-use Rattle.p4_parser_states.specs.Cycles.{is_among}
+use Rattle.p4_tree.specs.View.{state_of}
+use Rattle.p4_tree.specs.declared.program.ParserState as code
+use Rattle.p4_parser_states.specs.Cycles.{is_among, state_names}
 use Rattle.p4_declaration_rules.specs.Loops.{named}
 use Rattle.p4_declaration_rules.proofs.Seen.{or_none, regroup, named_push, left_at}
 
@@ -48,3 +50,14 @@ module _ (ks new : List (Bor (List ℕ))) (k : Bor (List ℕ)) (n : List ℕ) (s
       ∙ regroup (is_among (named ks) x) (same_text n x) (is_among (drop (i + 1) names) x)
       ∙ ap (λ ns. is_among (named ks) x || is_among ns x) (sym (left_at names i n lt is))
       ∙ before
+
+-- the name of one state more is put into the table
+pub states_table_next : (ks new : List (Bor (List ℕ))) (k : Bor (List ℕ)) (st : code.ParserState) → k.now ≡ st.name → new ≡ cond (list_any (λ j. bytes_eq k.now j.now) ks) ks (ks ++ k ∷ [])
+    → (states : List code.ParserState) (i : ℕ) → i < length states → st ≡ get_or states i st
+    → (x : List ℕ) → (is_among (named ks) x || is_among (state_names (map state_of (drop i states))) x) ≡ is_among (state_names (map state_of states)) x
+    → (is_among (named new) x || is_among (state_names (map state_of (drop (i + 1) states))) x) ≡ is_among (state_names (map state_of states)) x
+states_table_next ks new k st same put states i lt is x before =
+    ap (λ (b : Bool). b || is_among (state_names (map state_of (drop (i + 1) states))) x) (table_more ks new k st.name same put x)
+    ∙ regroup (is_among (named ks) x) (same_text st.name x) (is_among (state_names (map state_of (drop (i + 1) states))) x)
+    ∙ ap (λ sts. is_among (named ks) x || is_among (state_names (map state_of sts)) x) (sym (left_at states i st lt is))
+    ∙ before

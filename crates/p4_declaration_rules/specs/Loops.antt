@@ -1,9 +1,10 @@
 -- What the loops go over, of the program's values. Read the specs that callers rest on before it.
-use Rattle.std.specs.Prelude.{ℕ, List, [], ◌∷◌, map, Bool, true, false, not, Option, Some, None}
+use Rattle.std.specs.Prelude.{◌≡◌, ℕ, List, [], ◌∷◌, map, Bool, true, false, not, Option, Some, None}
 use Rattle.std.specs.Borrow.{Bor}
 use Rattle.std.specs.Global.{Vec}
 use Rattle.rule_tests.specs.Tests.{Tests, fine, test, both}
-use Rattle.p4_tree.specs.Tree.{Expr, Keyset, any}
+use Rattle.p4_tree.specs.Tree.{Expr, Keyset, any, ParserState}
+use Rattle.p4_parser_states.specs.Cycles.{is_among, state_names}
 use Rattle.p4_scopes.specs.Kinds.{as_value}
 use Rattle.p4_scopes.specs.Scopes.{Scope, own}
 use Rattle.p4_scopes.specs.declared.kind.Kind.{Kind}
@@ -56,3 +57,7 @@ paths_in all = map path_in all
 -- the names that a table holds
 abbrev pub named : List (Bor (List ℕ)) → List (List ℕ)
 named ks = map (λ k. k.now) ks
+
+-- the table holds the names of these states
+abbrev pub IsNameTable : List (Bor (List ℕ)) → List ParserState → Type 0
+IsNameTable ks sts = (x : List ℕ) → is_among (named ks) x ≡ is_among (state_names sts) x

@@ -5,9 +5,11 @@ ghost use Rattle.p4_tree.specs.Tree as tree;
 ghost use Rattle.p4_tree.specs.View.{expr_of, keyset_of, case_of, transition_of};
 ghost use Rattle.p4_scopes.specs.View.{scope_of, stands_of};
 ghost use Rattle.p4_statement_rules.specs.Ranks.{first_from};
-ghost use Rattle.p4_declaration_rules.specs.Parsers.{onto_tests, simple_tests, key_tests, keyset_tests, each_keyset, keysets_tests, cases_tests, transition_tests};
-ghost use Rattle.p4_declaration_rules.specs.Loops.{is_default, wanted_kinds, each_wanted, all_wanted};
+ghost use Rattle.p4_declaration_rules.specs.Parsers.{is_state_name, onto_tests, simple_tests, key_tests, keyset_tests, each_keyset, keysets_tests, cases_tests, transition_tests};
+ghost use Rattle.p4_declaration_rules.specs.Loops.{named, is_default, wanted_kinds, each_wanted, all_wanted};
 
+use crate::names::is_in;
+use indexmap::IndexSet;
 use lex_text::Name;
 use p4_scopes::kind::{Kind, as_number, as_value};
 use p4_scopes::scope::Scope;
@@ -18,13 +20,26 @@ use p4_statement_rules::rule::ProgramRule;
 use p4_tree::{Expr, Keyset, Transition};
 use std::alloc::{AllocError, Global};
 
-/// Adds the tests of a name of a state.
-pub(crate) fn check_onto(found: &mut Found, at: u32, stands: &Stands)
-    ensures { found.new.first
-        ≡ first_from found.old.first (onto_tests at (stands_of stands.now)) }
+/// The names of the states that each parser has.
+pub(crate) const ACCEPT: &str = "accept";
+
+pub(crate) const REJECT: &str = "reject";
+
+/// Whether it is a name of a state, where a parser's own have these.
+pub(crate) fn is_state_name(names: &IndexSet<&str>, name: &Name) -> bool
+    ensures { result ≡ is_state_name (named names.now.keys) name.now }
 {
-    found.test(at, ProgramRule::NoSuchName, stands.is_missing());
-    found.test(at, ProgramRule::KindDiffers, !stands.is_state());
+    name.as_str() == ACCEPT || name.as_str() == REJECT || is_in(names, name)
+}
+
+/// Adds the tests of a name that has to be a state's.
+pub(crate) fn check_onto(found: &mut Found, at: u32, is_name: bool, stands: &Stands)
+    ensures { found.new.first
+        ≡ first_from found.old.first (onto_tests at is_name (stands_of stands.now)) }
+{
+    let missing = stands.is_missing();
+    found.test(at, ProgramRule::NoSuchName, !is_name && missing);
+    found.test(at, ProgramRule::KindDiffers, !is_name && !missing);
 }
 
 /// A key is a number, a truth value or a constant.
@@ -154,16 +169,18 @@ fn check_cases(
     found: &mut Found,
     at: u32,
     scope: &Scope,
+    names: &IndexSet<&str>,
     wants: &[Kind],
     cases: &[(Vec<Keyset>, Name)],
 ) -> Result<(), AllocError>
     ensures { IfOk result (λ _. (es : List tree.Expr) → wants.now ≡ wanted_kinds (scope_of scope.now) es
         → found.new.first ≡ first_from found.old.first
-        (cases_tests at (scope_of scope.now) es (map case_of cases.now))) }
+        (cases_tests (is_state_name (named names.now.keys)) at (scope_of scope.now) es (map case_of cases.now))) }
 {
     for case in cases {
         check_keysets(found, at, scope, wants, &case.0)?;
-        check_onto(found, at, &scope.find_name(&case.1));
+        let is_name = is_state_name(names, &case.1);
+        check_onto(found, at, is_name, &scope.find_name(&case.1));
     }
     Ok(())
 }
@@ -184,19 +201,27 @@ fn wanted_kinds(alloc: Global, scope: &Scope, values: &[Expr]) -> Result<Vec<Kin
 pub(crate) fn check_transition(
     found: &mut Found,
     scope: &Scope,
+    names: &IndexSet<&str>,
     next: &Transition,
 ) -> Result<(), AllocError>
     ensures { IfOk result (λ _. found.new.first
         ≡ first_from found.old.first
-        (transition_tests (scope_of scope.now) (transition_of next.now))) }
+        (transition_tests (is_state_name (named names.now.keys)) (scope_of scope.now) (transition_of next.now))) }
 {
     match next {
         Transition::None(_) => {}
-        Transition::To(at, name) => check_onto(found, *at, &scope.find_name(name)),
+        Transition::To(at, name) => {
+            check_onto(
+                found,
+                *at,
+                is_state_name(names, name),
+                &scope.find_name(name),
+            );
+        }
         Transition::Select(at, values, cases) => {
             check_all_free(found, scope, values)?;
             let wants = wanted_kinds(found.alloc(), scope, values)?;
-            check_cases(found, *at, scope, &wants, cases)?;
+            check_cases(found, *at, scope, names, &wants, cases)?;
         }
     }
     Ok(())

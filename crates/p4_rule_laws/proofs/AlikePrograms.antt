@@ -1,11 +1,12 @@
 -- The tests of a declaration rest on the scope at the declaration's names alone.
-use Rattle.std.proofs.Common.{◌≡◌, ℕ, List, [], ◌∷◌, Bool, true, not, refl, ap, subst, codes, Option, Some, None}
+use Rattle.std.proofs.Common.{◌≡◌, ℕ, List, [], ◌∷◌, Bool, true, false, cond, not, refl, ap, subst, codes, Option, Some, None}
 use Rattle.rule_tests.specs.Tests.{test, both}
 use Rattle.p4_tree.specs.Tree.{Expr, num, flag, path, valid, applied, error_name, negation, inversion, opposite, binary, conditional, slice, cast, Stmts, stmts_from, call, done, next, Keyset, any, only, masked, Case, Transition, nowhere, to, select, ParserState, Local, local_action, local_table, local_register, local_const, local_var, Control, Parser, Top, constant, typedef, header_type, struct_type, register, parser, control}
 use Rattle.p4_tree.specs.Tree as tree
 use Rattle.p4_tree.specs.declared.statement.PTy.{PTy}
 use Rattle.p4_tree.specs.declared.program.Param.{Param}
 use Rattle.p4_tree.specs.declared.program.Register.{Register}
+use Rattle.p4_parser_states.specs.Cycles.{state_names}
 use Rattle.p4_scopes.specs.Kinds.{as_number, as_value}
 use Rattle.p4_scopes.specs.Scopes.{Stands, missing, typed, held, cells, act, rows, state, function, algorithm, other, Scope, is_missing, alias, fields, value, action, table, parser_state, part, declare, thing_in, kind_in, fields_bits, own}
 use Rattle.p4_scopes.specs.Scopes as scope
@@ -20,11 +21,11 @@ use Rattle.p4_statement_rules.specs.declared.rule.Part.TheVariants as place
 use Rattle.p4_declaration_rules.specs.Digests.{most_of, most_of_default, greatest, most_of_table}
 use Rattle.p4_declaration_rules.specs.Declarations.{const_tests, typedef_tests, register_tests, params_tests, with_params, action_tests, fields_tests, bits_over, is_no_number, is_no_field}
 use Rattle.p4_declaration_rules.specs.Tables.{keys_tests, listed_tests, known_args, default_args, default_tests, table_tests}
-use Rattle.p4_declaration_rules.specs.Parsers.{way_access, with_ways, ways_tests, onto_tests, simple_tests, key_tests, keyset_tests, each_keyset, keysets_tests, cases_tests, transition_tests, with_states, states_names, state_tests, states_tests, parser_tests}
+use Rattle.p4_declaration_rules.specs.Parsers.{is_state_name, with_state, with_ends, before_states, in_states, start_tests, way_access, with_ways, ways_tests, onto_tests, simple_tests, key_tests, keyset_tests, each_keyset, keysets_tests, cases_tests, transition_tests, with_states, states_names, state_tests, states_tests, parser_tests}
 use Rattle.p4_declaration_rules.specs.Controls.{action_part, declared_tests, local_tests, after_local, locals_tests, after_locals, form_emits, stmt_emits, emitted_behind, emits_tests, once_tests, in_control, control_tests, part_in, top_tests, after_top, tops_tests, after_tops}
 use Rattle.p4_rule_laws.specs.Old.{Names, OldPath, Alike, OldType, OldFields, OldExpr, OldExprs, OldStmt, OldStmts}
 use Rattle.p4_rule_laws.specs.OldPrograms.{OldKeys, OldDefault, OldTable, OldWays, OldKeyset, OldKeysets, OldCases, OldTransition, OldStates, OldParser, OldLocal, OldLocals, OldControl, OldTop, OldTops}
-use Rattle.p4_rule_laws.proofs.AlikeScopes.{thing_alike, kind_alike, declare_alike, fields_bits_alike}
+use Rattle.p4_rule_laws.proofs.AlikeScopes.{thing_alike, kind_alike, declare_alike, fields_bits_alike, alike_back, skip_alike}
 use Rattle.p4_rule_laws.proofs.AlikeExprs.{own_alike, expr_alike, new_alike, type_tests_alike, scalar_alike, free_alike, all_free_alike, constant_alike}
 use Rattle.p4_rule_laws.proofs.AlikeStmts.{form_alike, var_alike, block_alike, most_alike}
 
@@ -117,8 +118,8 @@ module _ (old : Names) (s t : Scope) (a : Alike old s t) where
 
   -- ---- how a state goes on
 
-  onto_alike : (p : ℕ) (x : List ℕ) → old x ≡ true → onto_tests p (s (x ∷ [])) ≡ onto_tests p (t (x ∷ []))
-  onto_alike p x o = ap (onto_tests p) (a.same (x ∷ []) (o, tt))
+  onto_alike : (p : ℕ) (b : Bool) (x : List ℕ) → old x ≡ true → onto_tests p b (s (x ∷ [])) ≡ onto_tests p b (t (x ∷ []))
+  onto_alike p b x o = ap (onto_tests p b) (a.same (x ∷ []) (o, tt))
 
   simple_alike : (e : Expr) → OldExpr old e → simple_tests s e ≡ simple_tests t e
   simple_alike (path p x) o = ap (λ st. test p KindDiffers (not (is_constant st))) (a.same x o)
@@ -159,21 +160,21 @@ module _ (old : Names) (s t : Scope) (a : Alike old s t) where
   keysets_alike p es (masked q e m ∷ ks) o u = let f = each_keyset_alike es (masked q e m ∷ ks) o u in cc
   keysets_alike p es (any q ∷ k ∷ ks) o u = let f = each_keyset_alike es (any q ∷ k ∷ ks) o u in cc
 
-  cases_alike : (p : ℕ) (es : List Expr) (cs : List Case) → OldExprs old es → OldCases old cs → cases_tests p s es cs ≡ cases_tests p t es cs
-  cases_alike p es [] o u = refl
-  cases_alike p es (c ∷ cs) o u =
+  cases_alike : (k : List ℕ → Bool) (p : ℕ) (es : List Expr) (cs : List Case) → OldExprs old es → OldCases old cs → cases_tests k p s es cs ≡ cases_tests k p t es cs
+  cases_alike k p es [] o u = refl
+  cases_alike k p es (c ∷ cs) o u =
       let f = keysets_alike p es c.keys o u.0 in
-      let g = onto_alike p c.next u.1 in
-      let h = cases_alike p es cs o u.2 in
+      let g = onto_alike p (k c.next) c.next u.1 in
+      let h = cases_alike k p es cs o u.2 in
       cc
 
-  transition_alike : (n : Transition) → OldTransition old n → transition_tests s n ≡ transition_tests t n
-  transition_alike (nowhere p) o = refl
-  transition_alike (to p x) o = onto_alike p x o
-  transition_alike (select p es cs) o = let f = all_free_alike old s t a es o.0 in let g = cases_alike p es cs o.0 o.1 in cc
+  transition_alike : (k : List ℕ → Bool) (n : Transition) → OldTransition old n → transition_tests k s n ≡ transition_tests k t n
+  transition_alike k (nowhere p) o = refl
+  transition_alike k (to p x) o = onto_alike p (k x) x o
+  transition_alike k (select p es cs) o = let f = all_free_alike old s t a es o.0 in let g = cases_alike k p es cs o.0 o.1 in cc
 
   pub state_alike : (all : List ParserState) (st : ParserState) → OldStmts old (stmts_from st.body) → OldTransition old st.next → state_tests all s st ≡ state_tests all t st
-  state_alike all st o u = let f = block_alike old s t a place.State (stmts_from st.body) o in let g = transition_alike st.next u in cc
+  state_alike all st o u = let f = block_alike old s t a place.State (stmts_from st.body) o in let g = transition_alike (is_state_name (state_names all)) st.next u in cc
 
   pub states_alike : (all sts : List ParserState) → OldStates old sts → states_tests all s sts ≡ states_tests all t sts
   states_alike all [] o = refl
@@ -278,26 +279,52 @@ with_ways_alike old s t a (q ∷ qs) o = with_ways_alike old (declare s q.name (
 
 -- ---- parsers
 
+-- the second has the name of a state in sight where the first has it, or none of them is looked up
+pub with_state_alike : (old : Names) (s t : Scope) → Alike old s t → (n : List ℕ) → Alike old (with_state s n) (with_state t n)
+with_state_alike old s t a n = by (old n) refl
+  where
+    both_same : (b c : Bool) → b ≡ c → Alike old (cond b (declare s n parser_state) s) (cond c (declare t n parser_state) t)
+    both_same true true e = declare_alike old s t a n parser_state tt
+    both_same false false e = a
+    both_same true false e = absurd (cc)
+    both_same false true e = absurd (cc)
+
+    not_seen : old n ≡ false → (b c : Bool) → Alike old (cond b (declare s n parser_state) s) (cond c (declare t n parser_state) t)
+    not_seen e true true = declare_alike old s t a n parser_state tt
+    not_seen e false false = a
+    not_seen e true false = alike_back old t (declare s n parser_state) (skip_alike old t s (alike_back old s t a) n parser_state e)
+    not_seen e false true = skip_alike old s t a n parser_state e
+
+    by : (b : Bool) → old n ≡ b → Alike old (with_state s n) (with_state t n)
+    by true e = both_same (is_missing (s (n ∷ []))) (is_missing (t (n ∷ []))) (ap is_missing (a.same (n ∷ []) (e, tt)))
+    by false e = not_seen e (is_missing (s (n ∷ []))) (is_missing (t (n ∷ [])))
+
+pub with_ends_alike : (old : Names) (s t : Scope) → Alike old s t → Alike old (with_ends s) (with_ends t)
+with_ends_alike old s t a = with_state_alike old (with_state s (codes "accept")) (with_state t (codes "accept")) (with_state_alike old s t a (codes "accept")) (codes "reject")
+
+pub before_states_alike : (old : Names) (s t : Scope) → Alike old s t → (d : Parser) → OldWays old d.params → Alike old (before_states s d) (before_states t d)
+before_states_alike old s t a d o = with_ends_alike old (with_ways s d.params) (with_ways t d.params) (with_ways_alike old s t a d.params o)
+
 pub with_states_alike : (old : Names) (s t : Scope) → Alike old s t → (sts : List ParserState) → OldStates old sts → Alike old (with_states s sts) (with_states t sts)
 with_states_alike old s t a [] o = a
-with_states_alike old s t a (st ∷ sts) o = with_states_alike old (declare s st.name parser_state) (declare t st.name parser_state) (declare_alike old s t a st.name parser_state tt) sts o.3
+with_states_alike old s t a (st ∷ sts) o = with_states_alike old (with_state s st.name) (with_state t st.name) (with_state_alike old s t a st.name) sts o.3
 
 pub states_names_alike : (old : Names) (s t : Scope) → Alike old s t → (sts : List ParserState) → OldStates old sts → states_names s sts ≡ states_names t sts
 states_names_alike old s t a [] o = refl
 states_names_alike old s t a (st ∷ sts) o =
     let e = new_alike old s t a st.at st.name o.0 in
-    let f = states_names_alike old (declare s st.name parser_state) (declare t st.name parser_state) (declare_alike old s t a st.name parser_state tt) sts o.3 in
+    let f = states_names_alike old (with_state s st.name) (with_state t st.name) (with_state_alike old s t a st.name) sts o.3 in
     cc
 
 pub parser_alike : (old : Names) (s t : Scope) → Alike old s t → (d : Parser) → OldParser old d → parser_tests s d ≡ parser_tests t d
 parser_alike old s t a d o =
-    let b = with_ways_alike old s t a d.params o.params in
-    let c = with_states_alike old _ _ b d.states o.states in
+    let b = before_states_alike old s t a d o.params in
+    let c = with_states_alike old (before_states s d) (before_states t d) b d.states o.states in
     let e = new_alike old s t a d.at d.name o.name in
     let f = ways_alike old s t a d.params o.params in
-    let g = states_names_alike old _ _ b d.states o.states in
-    let h = ap (onto_tests d.at) (c.same (codes "start" ∷ []) (o.start, tt)) in
-    let i = states_alike old _ _ c d.states d.states o.states in
+    let g = states_names_alike old (before_states s d) (before_states t d) b d.states o.states in
+    let h = ap (onto_tests d.at (is_state_name (state_names d.states) (codes "start"))) (c.same (codes "start" ∷ []) (o.start, tt)) in
+    let i = states_alike old (in_states s d) (in_states t d) c d.states d.states o.states in
     cc
 
 -- ---- controls

@@ -11,7 +11,7 @@ use Rattle.p4_scopes.specs.declared.kind.Kind.TheVariants.{Number, Truth}
 use Rattle.p4_scopes.specs.declared.thing.Access.TheVariants.{Writable}
 use Rattle.p4_statement_rules.specs.Expressions.{fit_tests, applied_tests, expr_tests}
 use Rattle.p4_statement_rules.specs.Forms.{Form, unknown, ill, drops, digests, sums, extracts, emits, applies, reads_cell, writes_cell, makes_valid, acts, plain_form, verb_form, form_of, path_in, takes_runs}
-use Rattle.p4_statement_rules.specs.Calls.{arg_tests, args_tests, target_tests, path_tests, path_arg, single_tests, receiver_arg, digest_values, digest_tests, cell_target, target_arg, index_arg, cell_read, cell_write, bits_over, summed_arg, summed_path, summed_field, field_arg, sum_tests, form_tests}
+use Rattle.p4_statement_rules.specs.Calls.{arg_tests, args_tests, target_tests, path_tests, path_arg, single_tests, receiver_arg, digest_values, digest_tests, cell_target, target_arg, index_arg, cell_read, cell_write, bits_over, have_bits, summed_arg, summed_path, summed_field, field_arg, sum_tests, form_tests}
 use Rattle.p4_statement_rules.specs.Statements.{negated_tests, if_tests, start_tests, var_tests, after, after_all, stmt_tests, block_tests, else_tests}
 use Rattle.p4_statement_rules.specs.declared.rule.Part.{Part}
 use Rattle.p4_declaration_rules.specs.Digests.{most_of_form, most_of_test, most_of_stmt, most_of_else, most_of}
@@ -107,9 +107,13 @@ module _ (old : Names) (s t : Scope) (a : Alike old s t) where
   bits_over_alike [] o = refl
   bits_over_alike (e ∷ es) o = let f = own_alike old s t a e o.0 in let g = bits_over_alike es o.1 in cc
 
+  have_bits_alike : (es : List Expr) → OldExprs old es → have_bits s es ≡ have_bits t es
+  have_bits_alike [] o = refl
+  have_bits_alike (e ∷ es) o = let f = own_alike old s t a e o.0 in let g = have_bits_alike es o.1 in cc
+
   summed_arg_alike : (b : Arg) → OldArg old b → summed_arg s b ≡ summed_arg t b
   summed_arg_alike (one p e) o = refl
-  summed_arg_alike (many p es) o = let f = bits_over_alike es o in let g = all_free_alike old s t a es o in cc
+  summed_arg_alike (many p es) o = let f = bits_over_alike es o in let h = have_bits_alike es o in let g = all_free_alike old s t a es o in cc
 
   summed_field_alike : (p : ℕ) (v : Bool) (x : Option (ℕ × List (List ℕ))) → OldSome old x → summed_field p v s x ≡ summed_field p v t x
   summed_field_alike p v None o = refl

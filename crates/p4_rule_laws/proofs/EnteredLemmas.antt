@@ -1,6 +1,6 @@
 -- A parser with new states in front of its own is fine: old names stand for the same in its states, and no state reaches
 -- itself by a new way, since the given states lead to no new one.
-use Rattle.std.proofs.Common.{◌≡◌, ◌⊎◌, inl, inr, ℕ, List, [], ◌∷◌, ◌++◌, Bool, true, false, not, ◌&&◌, ◌||◌, refl, sym, ap, ◌∙◌, subst, codes}
+use Rattle.std.proofs.Common.{◌≡◌, ◌⊎◌, inl, inr, ℕ, List, [], ◌∷◌, ◌++◌, Bool, true, false, cond, not, ◌&&◌, ◌||◌, refl, sym, ap, ◌∙◌, subst, codes}
 use Rattle.std.proofs.lemmas.Slice.Eq.{bytes_eq-Decides}
 use Rattle.lex_text.specs.Names.{same_text}
 use Rattle.rule_tests.specs.Tests.{IsFine}
@@ -9,7 +9,7 @@ use Rattle.p4_parser_states.specs.Cycles.{is_among, case_targets, targets, leads
 use Rattle.p4_parser_states.specs.Laws.{ReachesIsExact}
 use Rattle.p4_scopes.specs.Scopes.{Stands, missing, state, Scope, is_missing, parser_state, behind, declare}
 use Rattle.p4_statement_rules.specs.declared.rule.Part.TheVariants as place
-use Rattle.p4_declaration_rules.specs.Parsers.{onto_tests, cases_tests, transition_tests, with_states, states_names, states_tests}
+use Rattle.p4_declaration_rules.specs.Parsers.{is_state_name, with_state, onto_tests, cases_tests, transition_tests, with_states, states_names, start_tests, states_tests}
 use Rattle.p4_rule_laws.specs.Old.{Names, OldPath, Alike, OldExprs}
 use Rattle.p4_rule_laws.specs.OldPrograms.{OldCases, OldTransition, OldStates}
 use Rattle.p4_rule_laws.specs.Growth.{StatesGrow}
@@ -40,6 +40,19 @@ left_true : (a b : Bool) → a ≡ true → (a || b) ≡ true
 left_true true b e = refl
 left_true false b e = no_case (sym e)
 
+not_last : (a b : Bool) → (a || false) ≡ true → (a || b) ≡ true
+not_last true b e = refl
+not_last false b e = no_case (sym e)
+
+-- a state goes on to names of states alone
+pub onto_name : (p : ℕ) (b : Bool) (st : Stands) → IsFine (onto_tests p b st) → b ≡ true
+onto_name p true st f = refl
+onto_name p false st f = no_case (sym (ap not f.0) ∙ f.1)
+
+pub onto_fine : (p : ℕ) (b : Bool) (st : Stands) → b ≡ true → IsFine (onto_tests p b st)
+onto_fine p true st e = (refl, refl)
+onto_fine p false st e = no_case (sym e)
+
 text_same : (x y : List ℕ) → x ≡ y → same_text x y ≡ true
 text_same x y e = (bytes_eq-Decides x y).1 e
 
@@ -56,10 +69,41 @@ behind_state : (s : Scope) (xs : List (List ℕ)) → behind s parser_state xs �
 behind_state s [] = refl
 behind_state s (x ∷ xs) = refl
 
-with_none : (s : Scope) (sts : List ParserState) → with_states s sts [] ≡ s []
+state_none : (s : Scope) (n : List ℕ) → with_state s n [] ≡ s []
 unfolding declare
+state_none s n = by (is_missing (s (n ∷ [])))
+  where
+    by : (b : Bool) → cond b (declare s n parser_state) s [] ≡ s []
+    by true = refl
+    by false = refl
+
+with_none : (s : Scope) (sts : List ParserState) → with_states s sts [] ≡ s []
 with_none s [] = refl
-with_none s (st ∷ sts) = with_none (declare s st.name parser_state) sts
+with_none s (st ∷ sts) = with_none (with_state s st.name) sts ∙ state_none s st.name
+
+-- another name
+state_others : (s : Scope) (n x : List ℕ) (xs : List (List ℕ)) → same_text n x ≡ false → with_state s n (x ∷ xs) ≡ s (x ∷ xs)
+state_others s n x xs e = by (is_missing (s (n ∷ [])))
+  where
+    by : (b : Bool) → cond b (declare s n parser_state) s (x ∷ xs) ≡ s (x ∷ xs)
+    by true = undeclared s n parser_state x xs e
+    by false = refl
+
+-- a name that stood for nothing
+new_state : (s : Scope) (n : List ℕ) → not (is_missing (s (n ∷ []))) ≡ false → with_state s n ≡ declare s n parser_state
+new_state s n f = by (is_missing (s (n ∷ []))) f
+  where
+    by : (b : Bool) → not b ≡ false → cond b (declare s n parser_state) s ≡ declare s n parser_state
+    by true e = refl
+    by false e = no_case e
+
+-- the name itself stands for something
+state_there : (s : Scope) (n : List ℕ) → is_missing (with_state s n (n ∷ [])) ≡ false
+state_there s n = by (is_missing (s (n ∷ []))) refl
+  where
+    by : (b : Bool) → is_missing (s (n ∷ [])) ≡ b → is_missing (cond b (declare s n parser_state) s (n ∷ [])) ≡ false
+    by true e = ap is_missing (declared s n parser_state [])
+    by false e = e
 
 left_none : (a b : Bool) → (a || b) ≡ false → a ≡ false
 left_none true b e = e
@@ -72,18 +116,19 @@ right_none false b e = e
 pub with_others : (s : Scope) (sts : List ParserState) (x : List ℕ) (xs : List (List ℕ)) → is_among (state_names sts) x ≡ false → with_states s sts (x ∷ xs) ≡ s (x ∷ xs)
 with_others s [] x xs n = refl
 with_others s (st ∷ sts) x xs n =
-    with_others (declare s st.name parser_state) sts x xs (right_none (same_text st.name x) (is_among (state_names sts) x) n)
-    ∙ undeclared s st.name parser_state x xs (left_none (same_text st.name x) (is_among (state_names sts) x) n)
+    with_others (with_state s st.name) sts x xs (right_none (same_text st.name x) (is_among (state_names sts) x) n)
+    ∙ state_others s st.name x xs (left_none (same_text st.name x) (is_among (state_names sts) x) n)
 
-pub with_own : (s : Scope) (sts : List ParserState) (x : List ℕ) (xs : List (List ℕ)) → is_among (state_names sts) x ≡ true → with_states s sts (x ∷ xs) ≡ state_at xs
-with_own s [] x xs i = no_case (sym i)
-with_own s (st ∷ sts) x xs i = by (with_own (declare s st.name parser_state) sts x xs) (is_among (state_names sts) x) refl i
+pub with_own : (s : Scope) (sts : List ParserState) (x : List ℕ) (xs : List (List ℕ)) → IsFine (states_names s sts) → is_among (state_names sts) x ≡ true → with_states s sts (x ∷ xs) ≡ state_at xs
+with_own s [] x xs f i = no_case (sym i)
+with_own s (st ∷ sts) x xs f i = by (with_own (with_state s st.name) sts x xs f.1) (is_among (state_names sts) x) refl i
   where
-    by : (is_among (state_names sts) x ≡ true → with_states (declare s st.name parser_state) sts (x ∷ xs) ≡ state_at xs) → (b : Bool) → is_among (state_names sts) x ≡ b → (same_text st.name x || b) ≡ true → with_states (declare s st.name parser_state) sts (x ∷ xs) ≡ state_at xs
+    by : (is_among (state_names sts) x ≡ true → with_states (with_state s st.name) sts (x ∷ xs) ≡ state_at xs) → (b : Bool) → is_among (state_names sts) x ≡ b → (same_text st.name x || b) ≡ true → with_states (with_state s st.name) sts (x ∷ xs) ≡ state_at xs
     by ih true e i = ih e
     by ih false e i =
         let h : same_text st.name x ≡ true = here (same_text st.name x) i in
-        with_others (declare s st.name parser_state) sts x xs e ∙ (ap (λ (y : List ℕ). declare s st.name parser_state (y ∷ xs)) (sym (text_is st.name x h)) ∙ (declared s st.name parser_state xs ∙ behind_state s xs))
+        let k : with_state s st.name (x ∷ xs) ≡ declare s st.name parser_state (x ∷ xs) = ap (λ (u : Scope). u (x ∷ xs)) (new_state s st.name f.0) in
+        with_others (with_state s st.name) sts x xs e ∙ (k ∙ (ap (λ (y : List ℕ). declare s st.name parser_state (y ∷ xs)) (sym (text_is st.name x h)) ∙ (declared s st.name parser_state xs ∙ behind_state s xs)))
       where
         here : (a : Bool) → (a || false) ≡ true → a ≡ true
         here true e = refl
@@ -222,17 +267,6 @@ module _ (exact : ReachesIsExact) (old : Names) (r : List ℕ → List ℕ) (s t
   own_names : (x : List ℕ) → old x ≡ true → is_among (state_names sts) x ≡ true → is_among (state_names made) (r x) ≡ true
   own_names x o i = among_joined added (renamed_states r sts) (r x) ∙ right_true (is_among (state_names added) (r x)) (is_among (state_names (renamed_states r sts)) (r x)) (among_renamed old r n.one sts n.given x o ∙ i)
 
-  alike_at : (x : List (List ℕ)) → OldPath old x → with_states s sts x ≡ with_states t made x
-  alike_at [] o = with_none s sts ∙ (a.same [] tt ∙ sym (with_none t made))
-  alike_at (x ∷ xs) o = by (is_among (state_names sts) x) refl
-    where
-      by : (b : Bool) → is_among (state_names sts) x ≡ b → with_states s sts (x ∷ xs) ≡ with_states t made (x ∷ xs)
-      by true e = with_own s sts x xs e ∙ sym (with_own t made x xs (same_names x o.0 ∙ e))
-      by false e = with_others s sts x xs e ∙ (a.same (x ∷ xs) o ∙ sym (with_others t made x xs (same_names x o.0 ∙ e)))
-
-  states_alike : Alike old (with_states s sts) (with_states t made)
-  states_alike = record { same = alike_at }
-
   -- ---- names
 
   abbrev IsFree : Scope → Scope → Type 0
@@ -245,22 +279,20 @@ module _ (exact : ReachesIsExact) (old : Names) (r : List ℕ → List ℕ) (s t
       by (inl e) = ap (λ (y : List ℕ). is_missing (t (y ∷ []))) e ∙ (ap is_missing (sym (a.same (x ∷ []) (o, tt))) ∙ f)
       by (inr m) = m.free
 
-  free_step : (u v : Scope) → IsFree u v → (y : List ℕ) → old y ≡ true → IsFree (declare u y parser_state) (declare v (r y) parser_state)
+  free_step : (u v : Scope) → IsFree u v → (y : List ℕ) → old y ≡ true → IsFree (with_state u y) (with_state v (r y))
   free_step u v f y p x o i = by (same_text y x) refl
     where
-      by : (b : Bool) → same_text y x ≡ b → is_missing (declare v (r y) parser_state (r x ∷ [])) ≡ true
-      by true e =
-          let h : is_missing (declare u y parser_state (y ∷ [])) ≡ false = ap is_missing (declared u y parser_state []) in
-          no_case (sym i ∙ (ap (λ (z : List ℕ). is_missing (declare u y parser_state (z ∷ []))) (sym (text_is y x e)) ∙ h))
+      by : (b : Bool) → same_text y x ≡ b → is_missing (with_state v (r y) (r x ∷ [])) ≡ true
+      by true e = no_case (sym i ∙ (ap (λ (z : List ℕ). is_missing (with_state u y (z ∷ []))) (sym (text_is y x e)) ∙ state_there u y))
       by false e =
-          let g : is_missing (u (x ∷ [])) ≡ true = sym (ap is_missing (undeclared u y parser_state x [] e)) ∙ i in
-          ap is_missing (undeclared v (r y) parser_state (r x) [] (n.one y x p o ∙ e)) ∙ f x o g
+          let g : is_missing (u (x ∷ [])) ≡ true = sym (ap is_missing (state_others u y x [] e)) ∙ i in
+          ap is_missing (state_others v (r y) (r x) [] (n.one y x p o ∙ e)) ∙ f x o g
 
   names_from : (u v : Scope) → IsFree u v → (ys : List ParserState) → OldStates old ys → IsFine (states_names u ys) → IsFine (states_names v (renamed_states r ys))
   names_from u v f [] o g = tt
   names_from u v f (st ∷ ys) o g = (
     taken (is_missing (v (r st.name ∷ []))) (f st.name o.0 (not_false (is_missing (u (st.name ∷ []))) g.0)),
-    names_from (declare u st.name parser_state) (declare v (r st.name) parser_state) (free_step u v f st.name o.0) ys o.3 g.1,
+    names_from (with_state u st.name) (with_state v (r st.name)) (free_step u v f st.name o.0) ys o.3 g.1,
   )
     where
       not_false : (b : Bool) → not b ≡ false → b ≡ true
@@ -273,33 +305,50 @@ module _ (exact : ReachesIsExact) (old : Names) (r : List ℕ → List ℕ) (s t
   names_enter : IsFine (states_names s sts) → IsFine (states_names t made)
   names_enter f = names_joined t added (renamed_states r sts) n.names (names_from s (with_states t added) free_first sts n.given f)
 
+  -- the names of both parsers' states are new, so that they are in sight
+  module _ (g : IsFine (states_names s sts)) where
+    alike_at : (x : List (List ℕ)) → OldPath old x → with_states s sts x ≡ with_states t made x
+    alike_at [] o = with_none s sts ∙ (a.same [] tt ∙ sym (with_none t made))
+    alike_at (x ∷ xs) o = by (is_among (state_names sts) x) refl
+      where
+        by : (b : Bool) → is_among (state_names sts) x ≡ b → with_states s sts (x ∷ xs) ≡ with_states t made (x ∷ xs)
+        by true e = with_own s sts x xs g e ∙ sym (with_own t made x xs (names_enter g) (same_names x o.0 ∙ e))
+        by false e = with_others s sts x xs e ∙ (a.same (x ∷ xs) o ∙ sym (with_others t made x xs (same_names x o.0 ∙ e)))
+
+    states_alike : Alike old (with_states s sts) (with_states t made)
+    states_alike = record { same = alike_at }
+
   -- ---- how states go on
 
-  onto_renamed : (p : ℕ) (x : List ℕ) → old x ≡ true → IsFine (onto_tests p (with_states s sts (x ∷ []))) → IsFine (onto_tests p (with_states t made (r x ∷ [])))
-  onto_renamed p x o f = by (is_among (state_names sts) x) refl
+  renamed_name : (x : List ℕ) → old x ≡ true → is_state_name (state_names sts) x ≡ true → is_state_name (state_names made) (r x) ≡ true
+  renamed_name x o i = by (is_among (state_names sts) x) refl
     where
       stays : is_among (state_names sts) x ≡ false → (r x ≡ x) ⊎ IsMoved r t added sts x → r x ≡ x
       stays e (inl g) = g
       stays e (inr m) = no_case (sym m.given ∙ e)
 
-      by : (b : Bool) → is_among (state_names sts) x ≡ b → IsFine (onto_tests p (with_states t made (r x ∷ [])))
-      by true e = let P : Stands → Type 0 = λ st. IsFine (onto_tests p st) in subst P (sym (with_own t made (r x) [] (own_names x o e))) (refl, refl)
+      by : (b : Bool) → is_among (state_names sts) x ≡ b → is_state_name (state_names made) (r x) ≡ true
+      by true e = right_true (same_text (r x) (codes "accept") || same_text (r x) (codes "reject")) (is_among (state_names made) (r x)) (own_names x o e)
       by false e =
-          let P : Stands → Type 0 = λ st. IsFine (onto_tests p st) in
-          let h : with_states s sts (x ∷ []) ≡ with_states t made (r x ∷ []) = alike_at (x ∷ []) (o, tt) ∙ ap (λ (y : List ℕ). with_states t made (y ∷ [])) (sym (stays e (n.moved x o))) in
-          subst P h f
+          let P : List ℕ → Type 0 = λ y. is_state_name (state_names made) y ≡ true in
+          let h = sym (ap (λ (b : Bool). same_text x (codes "accept") || same_text x (codes "reject") || b) e) ∙ i in
+          subst P (sym (stays e (n.moved x o))) (not_last (same_text x (codes "accept") || same_text x (codes "reject")) (is_among (state_names made) x) h)
 
-  cases_enter : (p : ℕ) (es : List Expr) → OldExprs old es → (cs : List Case) → OldCases old cs → IsFine (cases_tests p (with_states s sts) es cs) → IsFine (cases_tests p (with_states t made) es (renamed_cases r cs))
-  cases_enter p es u [] o f = tt
-  cases_enter p es u (c ∷ cs) o f = (
-    (subst IsFine (keysets_alike old (with_states s sts) (with_states t made) states_alike p es c.keys u o.0) f.0.0, onto_renamed p c.next o.1 f.0.1),
-    cases_enter p es u cs o.2 f.1,
-  )
+  onto_renamed : (p : ℕ) (x : List ℕ) (st u : Stands) → old x ≡ true → IsFine (onto_tests p (is_state_name (state_names sts) x) st) → IsFine (onto_tests p (is_state_name (state_names made) (r x)) u)
+  onto_renamed p x st u o f = onto_fine p (is_state_name (state_names made) (r x)) u (renamed_name x o (onto_name p (is_state_name (state_names sts) x) st f))
 
-  transition_enter : (g : Transition) → OldTransition old g → IsFine (transition_tests (with_states s sts) g) → IsFine (transition_tests (with_states t made) (renamed_transition r g))
-  transition_enter (nowhere p) o f = f
-  transition_enter (to p x) o f = onto_renamed p x o f
-  transition_enter (select p es cs) o f = (subst IsFine (all_free_alike old (with_states s sts) (with_states t made) states_alike es o.0) f.0, cases_enter p es o.0 cs o.1 f.1)
+  module _ (g : IsFine (states_names s sts)) where
+    cases_enter : (p : ℕ) (es : List Expr) → OldExprs old es → (cs : List Case) → OldCases old cs → IsFine (cases_tests (is_state_name (state_names sts)) p (with_states s sts) es cs) → IsFine (cases_tests (is_state_name (state_names made)) p (with_states t made) es (renamed_cases r cs))
+    cases_enter p es u [] o f = tt
+    cases_enter p es u (c ∷ cs) o f = (
+      (subst IsFine (keysets_alike old (with_states s sts) (with_states t made) (states_alike g) p es c.keys u o.0) f.0.0, onto_renamed p c.next (with_states s sts (c.next ∷ [])) (with_states t made (r c.next ∷ [])) o.1 f.0.1),
+      cases_enter p es u cs o.2 f.1,
+    )
+
+    transition_enter : (y : Transition) → OldTransition old y → IsFine (transition_tests (is_state_name (state_names sts)) (with_states s sts) y) → IsFine (transition_tests (is_state_name (state_names made)) (with_states t made) (renamed_transition r y))
+    transition_enter (nowhere p) o f = f
+    transition_enter (to p x) o f = onto_renamed p x (with_states s sts (x ∷ [])) (with_states t made (r x ∷ [])) o f
+    transition_enter (select p es cs) o f = (subst IsFine (all_free_alike old (with_states s sts) (with_states t made) (states_alike g) es o.0) f.0, cases_enter p es o.0 cs o.1 f.1)
 
   -- ---- cycles
 
@@ -361,7 +410,7 @@ module _ (exact : ReachesIsExact) (old : Names) (r : List ℕ → List ℕ) (s t
 
   -- ---- states
 
-  added_fine : (ys : List ParserState) → ((x : List ℕ) → is_among (state_names ys) x ≡ true → is_among (state_names added) x ≡ true) → NoCycles added ys → FineFlows (with_states t made) ys → IsFine (states_tests made (with_states t made) ys)
+  added_fine : (ys : List ParserState) → ((x : List ℕ) → is_among (state_names ys) x ≡ true → is_among (state_names added) x ≡ true) → NoCycles added ys → FineFlows made (with_states t made) ys → IsFine (states_tests made (with_states t made) ys)
   added_fine [] i c f = tt
   added_fine (st ∷ ys) i c f =
       let here : is_among (state_names (st ∷ ys)) st.name ≡ true = left_true (same_text st.name st.name) (is_among (state_names ys) st.name) (text_same st.name st.name refl) in (
@@ -369,18 +418,20 @@ module _ (exact : ReachesIsExact) (old : Names) (r : List ℕ → List ℕ) (s t
         added_fine ys (λ x h. i x (right_true (same_text st.name x) (is_among (state_names ys) x) h)) c.1 f.2,
       )
 
-  given_fine : (ys : List ParserState) → OldStates old ys → IsFine (states_tests sts (with_states s sts) ys) → IsFine (states_tests made (with_states t made) (renamed_states r ys))
-  given_fine [] o f = tt
-  given_fine (st ∷ ys) o f = (
-    (no_given_cycle st.name o.0 f.0.0, (subst IsFine (block_alike old (with_states s sts) (with_states t made) states_alike place.State (stmts_from st.body) o.1) f.0.1.0, transition_enter st.next o.2 f.0.1.1)),
-    given_fine ys o.3 f.1,
+  given_fine : IsFine (states_names s sts) → (ys : List ParserState) → OldStates old ys → IsFine (states_tests sts (with_states s sts) ys) → IsFine (states_tests made (with_states t made) (renamed_states r ys))
+  given_fine g [] o f = tt
+  given_fine g (st ∷ ys) o f = (
+    (no_given_cycle st.name o.0 f.0.0, (subst IsFine (block_alike old (with_states s sts) (with_states t made) (states_alike g) place.State (stmts_from st.body) o.1) f.0.1.0, transition_enter g st.next o.2 f.0.1.1)),
+    given_fine g ys o.3 f.1,
   )
 
   states_enter : IsFine (states_names s sts) → IsFine (states_tests sts (with_states s sts) sts) → IsFine (states_tests made (with_states t made) made)
-  states_enter g f = states_joined made (with_states t made) added (renamed_states r sts) (added_fine added (λ x h. h) n.cycles (n.flows (with_states_keeps t made (names_enter g)))) (given_fine sts n.given f)
+  states_enter g f = states_joined made (with_states t made) added (renamed_states r sts) (added_fine added (λ x h. h) n.cycles (n.flows (with_states_keeps t made (names_enter g)))) (given_fine g sts n.given f)
 
-  start_enters : (p : ℕ) → IsFine (onto_tests p (with_states s sts (codes "start" ∷ []))) → IsFine (onto_tests p (with_states t made (codes "start" ∷ [])))
-  start_enters p f = let P : Stands → Type 0 = λ st. IsFine (onto_tests p st) in subst P (alike_at (codes "start" ∷ []) (n.start, tt)) f
+  start_enters : (p : ℕ) → IsFine (start_tests p (with_states s sts) sts) → IsFine (start_tests p (with_states t made) made)
+  start_enters p f =
+      let h = onto_name p (is_state_name (state_names sts) (codes "start")) (with_states s sts (codes "start" ∷ [])) f in
+      onto_fine p (is_state_name (state_names made) (codes "start")) (with_states t made (codes "start" ∷ [])) (ap (λ (b : Bool). same_text (codes "start") (codes "accept") || same_text (codes "start") (codes "reject") || b) (same_names (codes "start") n.start) ∙ h)
 
 -- states with new ones in front of them
 pub entered_grow : ReachesIsExact → (old : Names) (r : List ℕ → List ℕ) (s t : Scope) (added sts : List ParserState) → Enters old r t added sts → StatesGrow old s t sts (entered r added sts)

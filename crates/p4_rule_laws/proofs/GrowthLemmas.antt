@@ -15,7 +15,7 @@ use Rattle.p4_statement_rules.specs.Statements.{var_tests, block_tests}
 use Rattle.p4_statement_rules.specs.declared.rule.Part.{Part}
 use Rattle.p4_declaration_rules.specs.Digests.{most_of}
 use Rattle.p4_declaration_rules.specs.Declarations.{action_tests, with_params}
-use Rattle.p4_declaration_rules.specs.Parsers.{with_ways, ways_tests, parser_tests}
+use Rattle.p4_declaration_rules.specs.Parsers.{with_ways, ways_tests, before_states, parser_tests}
 use Rattle.p4_declaration_rules.specs.Controls.{action_part, local_tests, after_local, locals_tests, after_locals, in_control, control_tests, top_tests, after_top, tops_tests, after_tops}
 use Rattle.p4_declaration_rules.specs.Firsts.{top_name}
 use Rattle.p4_rule_laws.specs.Old.{Names, Alike, OldFields, OldType, OldExpr, OldStmts}
@@ -26,7 +26,7 @@ use Rattle.p4_rule_laws.specs.Growth.{More, with_more, MoreIsNew, MoreFits, Sees
 use Rattle.p4_rule_laws.proofs.AlikeScopes.{declare_alike, skip_alike}
 use Rattle.p4_rule_laws.proofs.AlikeExprs.{new_alike}
 use Rattle.p4_rule_laws.proofs.AlikeStmts.{var_alike, block_alike, most_alike}
-use Rattle.p4_rule_laws.proofs.AlikePrograms.{params_alike, with_params_alike, local_alike, after_local_alike, ways_alike, with_ways_alike, top_alike, after_top_alike}
+use Rattle.p4_rule_laws.proofs.AlikePrograms.{params_alike, with_params_alike, local_alike, after_local_alike, ways_alike, with_ways_alike, before_states_alike, top_alike, after_top_alike}
 use Rattle.p4_rule_laws.proofs.KeepsLemmas.{keeps_self, keeps_trans, declare_keeps, declared, undeclared, skip_local, after_local_keeps, after_locals_keeps, after_top_keeps}
 use Rattle.p4_rule_laws.proofs.WiderLemmas.{wider_alike, new_is_other}
 use Rattle.p4_rule_laws.proofs.ReplacedLemmas.{block_replaced, most_replaced}
@@ -87,10 +87,10 @@ locals_grow {old = old} {h = h} {v = v} (other_local {s = s} {t = t} l m i g) n 
 -- ---- parsers and controls
 
 pub parser_grows :
-    (old : Names) (s t : Scope) (d : Parser) (tts : List ParserState) → old d.name ≡ true → OldWays old d.params → (IsFine (ways_tests t d.params) → StatesGrow old (with_ways s d.params) (with_ways t d.params) d.states tts)
+    (old : Names) (s t : Scope) (d : Parser) (tts : List ParserState) → old d.name ≡ true → OldWays old d.params → (IsFine (ways_tests t d.params) → StatesGrow old (before_states s d) (before_states t d) d.states tts)
     → Alike old s t → IsFine (parser_tests s d) → IsFine (parser_tests t (parser_with d tts))
 parser_grows old s t d tts o u i w f =
-    let v = with_ways_alike old s t w d.params u in
+    let v = before_states_alike old s t w d u in
     let e = subst IsFine (ways_alike old s t w d.params u) f.1.0 in
     let g = i e in (
       subst IsFine (new_alike old s t w d.at d.name o) f.0,

@@ -6,7 +6,7 @@ use Rattle.p4_scopes.specs.Scopes.{Scope, parser_state, declare, add_up}
 use Rattle.p4_statement_rules.specs.Statements.{block_tests, after, after_all}
 use Rattle.p4_statement_rules.specs.declared.rule.Part.{Part}
 use Rattle.p4_declaration_rules.specs.Digests.{most_of_stmt, most_of}
-use Rattle.p4_declaration_rules.specs.Parsers.{with_states, states_names, states_tests}
+use Rattle.p4_declaration_rules.specs.Parsers.{with_state, with_states, states_names, states_tests}
 use Rattle.p4_declaration_rules.specs.Controls.{after_local, locals_tests, after_locals, after_top, tops_tests, after_tops}
 
 -- ---- statements
@@ -56,15 +56,15 @@ locals_parts h s (l ∷ a) b f = let r = locals_parts h (after_local s l) a b f.
 
 pub with_states_append : (s : Scope) (a b : List ParserState) → with_states s (a ++ b) ≡ with_states (with_states s a) b
 with_states_append s [] b = refl
-with_states_append s (st ∷ a) b = with_states_append (declare s st.name parser_state) a b
+with_states_append s (st ∷ a) b = with_states_append (with_state s st.name) a b
 
 pub names_joined : (s : Scope) (a b : List ParserState) → IsFine (states_names s a) → IsFine (states_names (with_states s a) b) → IsFine (states_names s (a ++ b))
 names_joined s [] b f g = g
-names_joined s (st ∷ a) b f g = (f.0, names_joined (declare s st.name parser_state) a b f.1 g)
+names_joined s (st ∷ a) b f g = (f.0, names_joined (with_state s st.name) a b f.1 g)
 
 pub names_parts : (s : Scope) (a b : List ParserState) → IsFine (states_names s (a ++ b)) → IsFine (states_names s a) × IsFine (states_names (with_states s a) b)
 names_parts s [] b f = (tt, f)
-names_parts s (st ∷ a) b f = let r = names_parts (declare s st.name parser_state) a b f.1 in ((f.0, r.0), r.1)
+names_parts s (st ∷ a) b f = let r = names_parts (with_state s st.name) a b f.1 in ((f.0, r.0), r.1)
 
 pub states_joined : (all : List ParserState) (s : Scope) (a b : List ParserState) → IsFine (states_tests all s a) → IsFine (states_tests all s b) → IsFine (states_tests all s (a ++ b))
 states_joined all s [] b f g = g

@@ -1,6 +1,6 @@
 -- A fine declaration takes a name that stands for nothing, so whatever stands for something goes on to do so; and
 -- declarations of names that are not old leave what old names stand for.
-use Rattle.std.proofs.Common.{◌≡◌, ℕ, List, [], ◌∷◌, Bool, true, false, cond, not, refl, sym, ap, ◌∙◌}
+use Rattle.std.proofs.Common.{◌≡◌, ℕ, List, [], ◌∷◌, Bool, true, false, cond, not, refl, sym, ap, ◌∙◌, codes}
 use Rattle.std.proofs.lemmas.Slice.Eq.{bytes_eq-Decides}
 use Rattle.lex_text.specs.Names.{same_text}
 use Rattle.rule_tests.specs.Tests.{IsFine}
@@ -15,7 +15,7 @@ use Rattle.p4_statement_rules.specs.Statements.{after, after_all, stmt_tests, bl
 use Rattle.p4_statement_rules.specs.declared.rule.Part.{Part}
 use Rattle.p4_declaration_rules.specs.Digests.{most_of, most_of_table}
 use Rattle.p4_declaration_rules.specs.Declarations.{params_tests, with_params}
-use Rattle.p4_declaration_rules.specs.Parsers.{way_access, with_ways, ways_tests, with_states, states_names}
+use Rattle.p4_declaration_rules.specs.Parsers.{way_access, with_ways, ways_tests, with_state, with_ends, with_states, states_names}
 use Rattle.p4_declaration_rules.specs.Controls.{local_tests, after_local, locals_tests, after_locals, top_tests, after_top, tops_tests, after_tops}
 use Rattle.p4_rule_laws.specs.Old.{Names, Alike}
 use Rattle.p4_rule_laws.specs.Kept.{Keeps, NewTops, NewLocals, NewStates, NewVar, NewVars}
@@ -92,9 +92,19 @@ pub with_ways_keeps : (s : Scope) (qs : List Param) → IsFine (ways_tests s qs)
 with_ways_keeps s [] f = keeps_self s
 with_ways_keeps s (q ∷ qs) f = keeps_trans s (declare s q.name (value (way_access q.way) q.ty)) (with_ways (declare s q.name (value (way_access q.way) q.ty)) qs) (declare_keeps s q.name (value (way_access q.way) q.ty) f.0.0) (with_ways_keeps (declare s q.name (value (way_access q.way) q.ty)) qs f.1)
 
+pub with_state_keeps : (s : Scope) (n : List ℕ) → Keeps s (with_state s n)
+with_state_keeps s n = by (is_missing (s (n ∷ []))) refl
+  where
+    by : (b : Bool) → is_missing (s (n ∷ [])) ≡ b → Keeps s (cond b (declare s n parser_state) s)
+    by true e = declare_keeps s n parser_state (ap not e)
+    by false e = keeps_self s
+
+pub with_ends_keeps : (s : Scope) → Keeps s (with_ends s)
+with_ends_keeps s = keeps_trans s (with_state s (codes "accept")) (with_ends s) (with_state_keeps s (codes "accept")) (with_state_keeps (with_state s (codes "accept")) (codes "reject"))
+
 pub with_states_keeps : (s : Scope) (sts : List ParserState) → IsFine (states_names s sts) → Keeps s (with_states s sts)
 with_states_keeps s [] f = keeps_self s
-with_states_keeps s (st ∷ sts) f = keeps_trans s (declare s st.name parser_state) (with_states (declare s st.name parser_state) sts) (declare_keeps s st.name parser_state f.0) (with_states_keeps (declare s st.name parser_state) sts f.1)
+with_states_keeps s (st ∷ sts) f = keeps_trans s (with_state s st.name) (with_states (with_state s st.name) sts) (with_state_keeps s st.name) (with_states_keeps (with_state s st.name) sts f.1)
 
 pub after_top_keeps : (main : List (List ℕ)) (s : Scope) (y : Top) → IsFine (top_tests main s y) → Keeps s (after_top s y)
 after_top_keeps main s (constant p t x e) f = declare_keeps s x (value Constant t) f.0
@@ -137,7 +147,11 @@ skip_locals old s t a (l ∷ ls) n = skip_locals old s (after_local t l) (skip_l
 
 pub skip_states : (old : Names) (s t : Scope) → Alike old s t → (sts : List ParserState) → NewStates old sts → Alike old s (with_states t sts)
 skip_states old s t a [] n = a
-skip_states old s t a (st ∷ sts) n = skip_states old s (declare t st.name parser_state) (skip_alike old s t a st.name parser_state n.0) sts n.1
+skip_states old s t a (st ∷ sts) n = skip_states old s (with_state t st.name) (by (is_missing (t (st.name ∷ [])))) sts n.1
+  where
+    by : (b : Bool) → Alike old s (cond b (declare t st.name parser_state) t)
+    by true = skip_alike old s t a st.name parser_state n.0
+    by false = a
 
 skip_stmt : (old : Names) (s t : Scope) → Alike old s t → (c : Stmt) → NewVar old c → Alike old s (after t c)
 skip_stmt old s t a (var p u x e) n = skip_alike old s t a x (value Writable u) n

@@ -15,7 +15,7 @@ use Rattle.p4_scopes.specs.declared.kind.Kind.TheVariants.{Number, Truth}
 use Rattle.p4_scopes.specs.declared.thing.Access.TheVariants.{Writable}
 use Rattle.p4_statement_rules.specs.Expressions.{new_tests, type_tests, scalar_tests, fit_tests, read_tests, valid_tests, applied_tests, expr_tests, free_tests, all_free, index_tests}
 use Rattle.p4_statement_rules.specs.Forms.{Form, unknown, ill, drops, digests, sums, extracts, emits, applies, reads_cell, writes_cell, makes_valid, acts, plain_form, verb_form, form_of, path_in, takes_runs}
-use Rattle.p4_statement_rules.specs.Calls.{arg_tests, args_tests, target_tests, path_tests, path_arg, single_tests, receiver_arg, digest_values, digest_tests, cell_target, target_arg, index_arg, cell_read, cell_write, bits_over, summed_arg, summed_path, summed_field, field_arg, sum_tests, form_tests}
+use Rattle.p4_statement_rules.specs.Calls.{arg_tests, args_tests, target_tests, path_tests, path_arg, single_tests, receiver_arg, digest_values, digest_tests, cell_target, target_arg, index_arg, cell_read, cell_write, bits_over, have_bits, summed_arg, summed_path, summed_field, field_arg, sum_tests, form_tests}
 use Rattle.p4_statement_rules.specs.Statements.{negated_tests, if_tests, start_tests, var_tests, after, stmt_tests, block_tests, else_tests}
 use Rattle.p4_statement_rules.specs.declared.rule.ProgramRule.TheVariants.{NoSuchName, KindDiffers}
 use Rattle.p4_statement_rules.specs.declared.rule.Part.{Part}
@@ -215,9 +215,13 @@ module _ (s t : Scope) (r : IsRooted s) (k : Keeps s t) where
   bits_over_kept [] f = refl
   bits_over_kept (e ∷ es) f = let g = own_kept (as_value (own s e)) e f.0 in let h = bits_over_kept es f.1 in cc
 
+  have_bits_kept : (es : List Expr) → IsFine (all_free s es) → have_bits s es ≡ have_bits t es
+  have_bits_kept [] f = refl
+  have_bits_kept (e ∷ es) f = let g = own_kept (as_value (own s e)) e f.0 in let h = have_bits_kept es f.1 in cc
+
   summed_kept : (b : Arg) → IsFine (summed_arg s b) → summed_arg s b ≡ summed_arg t b
   summed_kept (one p e) f = refl
-  summed_kept (many p es) f = let g = bits_over_kept es f.1 in let h = all_free_kept es f.1 in cc
+  summed_kept (many p es) f = let g = bits_over_kept es f.1 in let k = have_bits_kept es f.1 in let h = all_free_kept es f.1 in cc
 
   summed_is_there : (p : ℕ) (v : Bool) (st : Stands) → IsFine (summed_path p v st) → is_missing st ≡ false
   summed_is_there p true st f = f.0

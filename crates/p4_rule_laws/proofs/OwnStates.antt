@@ -1,4 +1,4 @@
--- Outside a parser only `accept` and `reject` are states, so the `start` of a fine parser is one of its own.
+-- Outside parsers nothing is a state, and the `start` of a fine parser is one of its own.
 use Rattle.std.proofs.Common.{◌≡◌, ℕ, List, [], ◌∷◌, Bool, true, false, cond, not, ◌||◌, refl, sym, ap, ◌∙◌, codes}
 use Rattle.std.proofs.lemmas.Slice.Eq.{bytes_eq-Decides}
 use Rattle.lex_text.specs.Names.{same_text}
@@ -8,63 +8,51 @@ use Rattle.p4_tree.specs.declared.program.Param.{Param}
 use Rattle.p4_parser_states.specs.Cycles.{is_among, state_names}
 use Rattle.p4_scopes.specs.Scopes.{Stands, missing, typed, held, cells, act, rows, state, function, algorithm, other, Scope, is_missing, What, alias, fields, value, action, table, parser_state, part, behind, declare, core, fields_bits}
 use Rattle.p4_scopes.specs.Scopes as scope
-use Rattle.p4_scopes.specs.Uses.{is_state}
 use Rattle.p4_scopes.specs.declared.thing.Thing.TheVariants.{Header, Struct}
 use Rattle.p4_scopes.specs.declared.thing.Access.TheVariants.{Constant}
-use Rattle.p4_declaration_rules.specs.Parsers.{way_access, with_ways, onto_tests, with_states}
+use Rattle.p4_declaration_rules.specs.Parsers.{is_state_name, way_access, with_ways, start_tests}
 use Rattle.p4_declaration_rules.specs.Controls.{after_top, after_tops}
-use Rattle.p4_rule_laws.specs.Entered.{stands_state, HasOwnStates}
+use Rattle.p4_rule_laws.specs.Entered.{stands_state, HasNoStates}
 use Rattle.p4_rule_laws.proofs.KeepsLemmas.{declared, undeclared}
-use Rattle.p4_rule_laws.proofs.EnteredLemmas.{with_others}
+use Rattle.p4_rule_laws.proofs.EnteredLemmas.{onto_name}
 
-no_case : {A : Type 0} → true ≡ false → A
-no_case e = absurd (cc)
+passed : (b : Bool) (a u : Stands) → stands_state a ≡ false → stands_state u ≡ false → stands_state (cond b a u) ≡ false
+passed true a u n i = n
+passed false a u n i = i
 
-passed : (b : Bool) (a u : Stands) (g : Bool) → stands_state a ≡ false → (stands_state u ≡ true → g ≡ true) → stands_state (cond b a u) ≡ true → g ≡ true
-passed true a u g n i e = no_case (sym e ∙ n)
-passed false a u g n i e = i e
-
-here : (b : Bool) (u : Stands) → (stands_state u ≡ true → b ≡ true) → stands_state (cond b state u) ≡ true → b ≡ true
-here true u i e = refl
-here false u i e = i e
-
-no_more : (b : Bool) (g : Bool) → stands_state (cond b other missing) ≡ true → g ≡ true
-no_more true g e = no_case (sym e)
-no_more false g e = no_case (sym e)
-
-core_only : (x : List ℕ) → stands_state (core (x ∷ [])) ≡ true → (same_text x (codes "accept") || same_text x (codes "reject")) ≡ true
+core_none : (x : List ℕ) → stands_state (core (x ∷ [])) ≡ false
 unfolding core
-core_only x =
-    let ends = same_text x (codes "accept") || same_text x (codes "reject") in
-    passed (same_text x (codes "standard_metadata_t")) _ _ ends refl
-    (passed (same_text x (codes "packet_in")) _ _ ends refl
-    (passed (same_text x (codes "packet_out")) _ _ ends refl
-    (passed (same_text x (codes "NoAction")) _ _ ends refl
-    (passed (same_text x (codes "mark_to_drop")) _ _ ends refl
-    (passed (same_text x (codes "digest")) _ _ ends refl
-    (passed (same_text x (codes "verify_checksum")) _ _ ends refl
-    (passed (same_text x (codes "update_checksum")) _ _ ends refl (here ends _ (no_more (same_text x (codes "HashAlgorithm")) ends)))))))))
+core_none x =
+    passed (same_text x (codes "standard_metadata_t")) _ _ refl
+    (passed (same_text x (codes "packet_in")) _ _ refl
+    (passed (same_text x (codes "packet_out")) _ _ refl
+    (passed (same_text x (codes "NoAction")) _ _ refl
+    (passed (same_text x (codes "mark_to_drop")) _ _ refl
+    (passed (same_text x (codes "digest")) _ _ refl
+    (passed (same_text x (codes "verify_checksum")) _ _ refl
+    (passed (same_text x (codes "update_checksum")) _ _ refl
+    (passed (same_text x (codes "HashAlgorithm")) other missing refl refl))))))))
 
-pub core_own : HasOwnStates core
-core_own = record { only = core_only }
+pub core_own : HasNoStates core
+core_own = record { none = core_none }
 
-declare_only : (s : Scope) → HasOwnStates s → (n : List ℕ) (w : What) → stands_state (behind s w []) ≡ false → (x : List ℕ) → stands_state (declare s n w (x ∷ [])) ≡ true → (same_text x (codes "accept") || same_text x (codes "reject")) ≡ true
-declare_only s h n w k x e = by (same_text n x) refl
+declare_none : (s : Scope) → HasNoStates s → (n : List ℕ) (w : What) → stands_state (behind s w []) ≡ false → (x : List ℕ) → stands_state (declare s n w (x ∷ [])) ≡ false
+declare_none s h n w k x = by (same_text n x) refl
   where
-    by : (b : Bool) → same_text n x ≡ b → (same_text x (codes "accept") || same_text x (codes "reject")) ≡ true
+    by : (b : Bool) → same_text n x ≡ b → stands_state (declare s n w (x ∷ [])) ≡ false
     by true f =
         let same : n ≡ x = (bytes_eq-Decides n x).0 f in
-        no_case (sym e ∙ (ap (λ (y : List ℕ). stands_state (declare s n w (y ∷ []))) (sym same) ∙ (ap stands_state (declared s n w []) ∙ k)))
-    by false f = h.only x (sym (ap stands_state (undeclared s n w x [] f)) ∙ e)
+        ap (λ (y : List ℕ). stands_state (declare s n w (y ∷ []))) (sym same) ∙ (ap stands_state (declared s n w []) ∙ k)
+    by false f = ap stands_state (undeclared s n w x [] f) ∙ h.none x
 
-declare_own : (s : Scope) → HasOwnStates s → (n : List ℕ) (w : What) → stands_state (behind s w []) ≡ false → HasOwnStates (declare s n w)
-declare_own s h n w k = record { only = declare_only s h n w k }
+declare_own : (s : Scope) → HasNoStates s → (n : List ℕ) (w : What) → stands_state (behind s w []) ≡ false → HasNoStates (declare s n w)
+declare_own s h n w k = record { none = declare_none s h n w k }
 
-pub with_ways_own : (s : Scope) → HasOwnStates s → (qs : List Param) → HasOwnStates (with_ways s qs)
+pub with_ways_own : (s : Scope) → HasNoStates s → (qs : List Param) → HasNoStates (with_ways s qs)
 with_ways_own s h [] = h
 with_ways_own s h (q ∷ qs) = with_ways_own (declare s q.name (value (way_access q.way) q.ty)) (declare_own s h q.name (value (way_access q.way) q.ty) refl) qs
 
-after_top_own : (s : Scope) → HasOwnStates s → (y : Top) → HasOwnStates (after_top s y)
+after_top_own : (s : Scope) → HasNoStates s → (y : Top) → HasNoStates (after_top s y)
 after_top_own s h (constant p t x e) = declare_own s h x (value Constant t) refl
 after_top_own s h (typedef p t x) = declare_own s h x (alias t) refl
 after_top_own s h (header_type p x fs) = declare_own s h x (fields (Header (fields_bits s fs)) fs) refl
@@ -73,27 +61,9 @@ after_top_own s h (register p r) = declare_own s h r.name (scope.register r.ty) 
 after_top_own s h (parser p d) = declare_own s h d.name part refl
 after_top_own s h (control p c) = declare_own s h c.name part refl
 
-pub after_tops_own : (s : Scope) → HasOwnStates s → (ys : List Top) → HasOwnStates (after_tops s ys)
+pub after_tops_own : (s : Scope) → HasNoStates s → (ys : List Top) → HasNoStates (after_tops s ys)
 after_tops_own s h [] = h
 after_tops_own s h (y ∷ ys) = after_tops_own (after_top s y) (after_top_own s h y) ys
 
-is_one : (st : Stands) → is_missing st ≡ false → not (is_state st) ≡ false → stands_state st ≡ true
-is_one missing f g = no_case f
-is_one state f g = refl
-is_one (typed h t) f g = no_case g
-is_one (held a t) f g = no_case g
-is_one (cells k) f g = no_case g
-is_one (act ks m) f g = no_case g
-is_one (rows m) f g = no_case g
-is_one (function i) f g = no_case g
-is_one algorithm f g = no_case g
-is_one other f g = no_case g
-
-pub start_among : (p : ℕ) (s : Scope) → HasOwnStates s → (sts : List ParserState) → IsFine (onto_tests p (with_states s sts (codes "start" ∷ []))) → is_among (state_names sts) (codes "start") ≡ true
-start_among p s h sts f = by (is_among (state_names sts) (codes "start")) refl
-  where
-    by : (b : Bool) → is_among (state_names sts) (codes "start") ≡ b → b ≡ true
-    by true e = refl
-    by false e =
-        let is : stands_state (with_states s sts (codes "start" ∷ [])) ≡ true = is_one (with_states s sts (codes "start" ∷ [])) f.0 f.1 in
-        h.only (codes "start") (sym (ap stands_state (with_others s sts (codes "start") [] e)) ∙ is)
+pub start_among : (p : ℕ) (s : Scope) (sts : List ParserState) → IsFine (start_tests p s sts) → is_among (state_names sts) (codes "start") ≡ true
+start_among p s sts f = onto_name p (is_state_name (state_names sts) (codes "start")) (s (codes "start" ∷ [])) f

@@ -16,7 +16,7 @@ use Rattle.p4_scopes.specs.declared.kind.Kind.{Kind}
 use Rattle.p4_scopes.specs.declared.kind.Kind.TheVariants.{Number, Truth, Error, Unknown}
 use Rattle.p4_statement_rules.specs.Expressions.{type_tests, scalar_tests, is_held_error, is_error_name, ill_compared, class_tests, cast_type_tests, expr_tests, free_tests, all_free, index_tests, known_tests, constant_tests}
 use Rattle.p4_statement_rules.specs.Forms.{Form, unknown, ill, drops, digests, sums, extracts, emits, applies, reads_cell, writes_cell, makes_valid, acts, form_of, path_in}
-use Rattle.p4_statement_rules.specs.Calls.{as_many, arg_tests, args_tests, path_tests, path_arg, single_tests, none_tests, receiver_tests, receiver_arg, digest_values, digest_tests, cell_target, target_arg, index_arg, cell_read, cell_write, bits_over, summed_arg, summed_path, summed_field, field_arg, sum_tests, form_tests}
+use Rattle.p4_statement_rules.specs.Calls.{as_many, arg_tests, args_tests, path_tests, path_arg, single_tests, none_tests, receiver_tests, receiver_arg, digest_values, digest_tests, cell_target, target_arg, index_arg, cell_read, cell_write, bits_over, have_bits, summed_arg, summed_path, summed_field, field_arg, sum_tests, form_tests}
 use Rattle.p4_statement_rules.specs.Statements.{negated_tests, if_tests, start_tests, var_tests, after, stmt_tests, block_tests, else_tests}
 use Rattle.p4_statement_rules.specs.declared.rule.ProgramRule.{ProgramRule}
 use Rattle.p4_statement_rules.specs.declared.rule.Part.{Part}
@@ -289,9 +289,13 @@ bits_plain : (s : Scope) (es : List Expr) → bits_over s es ≡ bits_over s (ma
 bits_plain s [] = refl
 bits_plain s (e ∷ es) = let f = own_plain s e in let g = bits_plain s es in cc
 
+have_plain : (s : Scope) (es : List Expr) → have_bits s es ≡ have_bits s (map plain es)
+have_plain s [] = refl
+have_plain s (e ∷ es) = let f = own_plain s e in let g = have_plain s es in cc
+
 summed_plain : (s : Scope) (b : Arg) → Same (summed_arg s b) (summed_arg s (plain_arg b))
 summed_plain s (one p e) = refl
-summed_plain s (many p es) = let f = bits_plain s es in let g = all_free_plain s es in cc
+summed_plain s (many p es) = let f = bits_plain s es in let h = have_plain s es in let g = all_free_plain s es in cc
 
 summed_path_plain : (p : ℕ) (v : Bool) (st : Stands) → Same (summed_path p v st) (summed_path 0 v st)
 summed_path_plain p true st = refl

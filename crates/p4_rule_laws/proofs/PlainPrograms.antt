@@ -28,7 +28,7 @@ use Rattle.p4_statement_rules.specs.declared.rule.Part.TheVariants as place
 use Rattle.p4_declaration_rules.specs.Digests.{most_of, most_of_default, most_of_table}
 use Rattle.p4_declaration_rules.specs.Declarations.{const_tests, typedef_tests, register_tests, params_tests, with_params, action_tests, is_no_number, is_no_field, fields_tests, header_tests, struct_tests}
 use Rattle.p4_declaration_rules.specs.Tables.{keys_tests, all_key_kinds, has_key_kind, has_two_prefixes, ill_matched, listed_tests, known_args, default_args, default_tests, table_tests}
-use Rattle.p4_declaration_rules.specs.Parsers.{way_access, with_ways, ways_tests, onto_tests, simple_tests, key_tests, keyset_tests, each_keyset, keysets_tests, cases_tests, transition_tests, with_states, states_names, state_tests, states_tests, parser_tests}
+use Rattle.p4_declaration_rules.specs.Parsers.{is_state_name, with_state, before_states, in_states, way_access, with_ways, ways_tests, onto_tests, simple_tests, key_tests, keyset_tests, each_keyset, keysets_tests, cases_tests, transition_tests, with_states, states_names, state_tests, states_tests, parser_tests}
 use Rattle.p4_declaration_rules.specs.Controls.{action_part, declared_tests, local_tests, after_local, locals_tests, after_locals, some_path, arg_path, form_emits, stmt_emits, emit_at, emit_tests, emitted_behind, emits_tests, once_tests, in_control, control_tests, part_in, top_tests, after_top, tops_tests, most_of_part, most_of_top, most_of_tops}
 use Rattle.p4_declaration_rules.specs.Firsts.{top_name, first_top, first_tops}
 use Rattle.p4_rules.specs.Mains.{leaves_out, leaves_some_out, has_controls, names_parts, Wanted, core_type, headers, metadata, is_wanted, parser_wants, checksum_wants, apply_wants, deparser_wants, is_struct_of, Structs, structs_of, wanted_tests, parser_params, control_params, parts_params, main_tests}
@@ -135,9 +135,6 @@ with_ways_plain : (s : Scope) (qs : List Param) → with_ways s qs ≡ with_ways
 with_ways_plain s [] = refl
 with_ways_plain s (q ∷ qs) = with_ways_plain (declare s q.name (value (way_access q.way) q.ty)) qs
 
-onto_plain : (p : ℕ) (st : Stands) → Same (onto_tests p st) (onto_tests 0 st)
-onto_plain p st = refl
-
 simple_plain : (s : Scope) (e : Expr) → Same (simple_tests s e) (simple_tests s (plain e))
 simple_plain s (num p n) = refl
 simple_plain s (flag p b) = refl
@@ -186,14 +183,14 @@ keysets_plain p s es (only q e ∷ ks) = some_keys p s es (only q e ∷ ks)
 keysets_plain p s es (masked q e m ∷ ks) = some_keys p s es (masked q e m ∷ ks)
 keysets_plain p s es (any q ∷ k ∷ ks) = some_keys p s es (any q ∷ k ∷ ks)
 
-cases_plain : (p : ℕ) (s : Scope) (es : List Expr) (cs : List Case) → Same (cases_tests p s es cs) (cases_tests 0 s (map plain es) (map plain_case cs))
-cases_plain p s es [] = refl
-cases_plain p s es (c ∷ cs) = let f = keysets_plain p s es c.keys in let g = cases_plain p s es cs in cc
+cases_plain : (k : List ℕ → Bool) (p : ℕ) (s : Scope) (es : List Expr) (cs : List Case) → Same (cases_tests k p s es cs) (cases_tests k 0 s (map plain es) (map plain_case cs))
+cases_plain k p s es [] = refl
+cases_plain k p s es (c ∷ cs) = let f = keysets_plain p s es c.keys in let g = cases_plain k p s es cs in cc
 
-transition_plain : (s : Scope) (n : Transition) → Same (transition_tests s n) (transition_tests s (plain_transition n))
-transition_plain s (nowhere p) = refl
-transition_plain s (to p x) = refl
-transition_plain s (select p es cs) = let f = all_free_plain s es in let g = cases_plain p s es cs in cc
+transition_plain : (k : List ℕ → Bool) (s : Scope) (n : Transition) → Same (transition_tests k s n) (transition_tests k s (plain_transition n))
+transition_plain k s (nowhere p) = refl
+transition_plain k s (to p x) = refl
+transition_plain k s (select p es cs) = let f = all_free_plain s es in let g = cases_plain k p s es cs in cc
 
 cases_targets : (cs : List Case) → case_targets cs ≡ case_targets (map plain_case cs)
 cases_targets [] = refl
@@ -231,7 +228,7 @@ state_plain : (all : List ParserState) (s : Scope) (st : ParserState) → Same (
 state_plain all s st =
     let e = cycle_plain all st in
     let f = block_plain place.State s (stmts_from st.body) ∙ ap (λ b. unplaced (block_tests place.State s b)) (body_plain st.body) in
-    let g = transition_plain s st.next in
+    let g = transition_plain (is_state_name (state_names all)) s st.next ∙ ap (λ ns. unplaced (transition_tests (is_state_name ns) s (plain_transition st.next))) (states_named all) in
     cc
 
 states_plain : (all : List ParserState) (s : Scope) (sts : List ParserState) → Same (states_tests all s sts) (states_tests (map plain_state all) s (map plain_state sts))
@@ -240,19 +237,20 @@ states_plain all s (st ∷ sts) = let e = state_plain all s st in let f = states
 
 with_states_plain : (s : Scope) (sts : List ParserState) → with_states s sts ≡ with_states s (map plain_state sts)
 with_states_plain s [] = refl
-with_states_plain s (st ∷ sts) = with_states_plain (declare s st.name parser_state) sts
+with_states_plain s (st ∷ sts) = with_states_plain (with_state s st.name) sts
 
 names_plain : (s : Scope) (sts : List ParserState) → Same (states_names s sts) (states_names s (map plain_state sts))
 names_plain s [] = refl
-names_plain s (st ∷ sts) = let e = names_plain (declare s st.name parser_state) sts in cc
+names_plain s (st ∷ sts) = let e = names_plain (with_state s st.name) sts in cc
 
 parser_plain : (s : Scope) (d : Parser) → Same (parser_tests s d) (parser_tests s (plain_parser d))
 parser_plain s d =
     let e = ways_plain s d.params in
     let u = with_ways_plain s d.params in
-    let v = with_states_plain (with_ways s d.params) d.states in
-    let f = names_plain (with_ways s d.params) d.states in
-    let g = states_plain d.states (with_states (with_ways s d.params) d.states) d.states in
+    let v = with_states_plain (before_states s d) d.states in
+    let f = names_plain (before_states s d) d.states in
+    let g = states_plain d.states (in_states s d) d.states in
+    let h = states_named d.states in
     cc
 
 -- ---- controls

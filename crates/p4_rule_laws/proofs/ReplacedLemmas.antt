@@ -1,6 +1,6 @@
 -- Statements are fine with other expressions, each of which may stand in the place of the given one, and give as many
 -- digests.
-use Rattle.std.proofs.Common.{◌≡◌, ℕ, suc, List, [], ◌∷◌, Bool, true, false, not, ◌||◌, nat_eq, nat_lt, length, refl, sym, ap, ◌∙◌, subst}
+use Rattle.std.proofs.Common.{◌≡◌, ℕ, suc, List, [], ◌∷◌, Bool, true, false, not, ◌||◌, nat_eq, nat_lt, length, refl, sym, ap, ◌∙◌, subst, ◌&&◌}
 use Rattle.rule_tests.specs.Tests.{IsFine}
 use Rattle.p4_tree.specs.Tree.{Expr, num, flag, path, valid, applied, error_name, negation, inversion, opposite, binary, conditional, slice, cast, Arg, one, many, Stmt, Stmts, MaybeStmt}
 use Rattle.p4_scopes.specs.Kinds.{as_value, index_want}
@@ -9,7 +9,7 @@ use Rattle.p4_scopes.specs.declared.kind.Kind.{Kind}
 use Rattle.p4_scopes.specs.declared.kind.Kind.TheVariants.{Truth}
 use Rattle.p4_statement_rules.specs.Expressions.{expr_tests, free_tests, all_free, index_tests}
 use Rattle.p4_statement_rules.specs.Forms.{Form, unknown, ill, drops, digests, sums, extracts, emits, applies, reads_cell, writes_cell, makes_valid, acts, form_of}
-use Rattle.p4_statement_rules.specs.Calls.{as_many, arg_tests, args_tests, digest_values, digest_tests, index_arg, cell_read, cell_write, bits_over, summed_arg, sum_tests, form_tests}
+use Rattle.p4_statement_rules.specs.Calls.{as_many, arg_tests, args_tests, digest_values, digest_tests, index_arg, cell_read, cell_write, bits_over, have_bits, summed_arg, sum_tests, form_tests}
 use Rattle.p4_statement_rules.specs.Statements.{negated_tests, if_tests, after, after_all, stmt_tests, block_tests, else_tests}
 use Rattle.p4_statement_rules.specs.declared.rule.Part.{Part}
 use Rattle.p4_declaration_rules.specs.Digests.{most_of_test, most_of_stmt, most_of_else, most_of}
@@ -83,13 +83,23 @@ module _ (s : Scope) where
       let P : ℕ → Type 0 = λ n. (nat_eq n 0 || nat_lt 9 n) ≡ false in
       (subst P (as_long es fs r.1) g.0, all_replaced es fs r.1 g.1)
 
+  have_replaced : (es fs : List Expr) → ExprsReplaced s es fs → IsFine (all_free s es) → have_bits s fs ≡ have_bits s es
+  have_replaced [] [] r g = refl
+  have_replaced [] (f ∷ fs) r g = absurd r
+  have_replaced (e ∷ es) [] r g = absurd r
+  have_replaced (e ∷ es) (f ∷ fs) r g =
+      let x = (r.0.wherever (as_value (own s e)) g.0).kind in
+      let y = have_replaced es fs r.1 g.1 in
+      cc
+
   summed_replaced : (a b : Arg) → ArgReplaced s a b → IsFine (summed_arg s a) → IsFine (summed_arg s b)
   summed_replaced (one p e) (one q f) r g = g
   summed_replaced (one p e) (many q fs) r g = absurd r
   summed_replaced (many p es) (one q f) r g = absurd r
   summed_replaced (many p es) (many q fs) r g =
-      let P : ℕ → Type 0 = λ n. not (nat_eq n 0) ≡ false in
-      (subst P (sym (bits_replaced es fs r.1 g.1)) g.0, all_replaced es fs r.1 g.1)
+      let P : ℕ → Type 0 = λ n. (have_bits s es && not (nat_eq n 0)) ≡ false in
+      let Q : Bool → Type 0 = λ b. (b && not (nat_eq (bits_over s fs) 0)) ≡ false in
+      (subst Q (sym (have_replaced es fs r.1 g.1)) (subst P (sym (bits_replaced es fs r.1 g.1)) g.0), all_replaced es fs r.1 g.1)
 
   -- ---- calls: of lists of another length than is wanted nothing is fine
 

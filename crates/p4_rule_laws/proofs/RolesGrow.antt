@@ -245,8 +245,7 @@ no_struct_yet x =
     (passed (same_text x (codes "digest")) (function Digest) _ (λ e. cc)
     (passed (same_text x (codes "verify_checksum")) (function VerifyChecksum) _ (λ e. cc)
     (passed (same_text x (codes "update_checksum")) (function UpdateChecksum) _ (λ e. cc)
-    (passed (same_text x (codes "accept") || same_text x (codes "reject")) state _ (λ e. cc)
-    (passed (same_text x (codes "HashAlgorithm")) other missing (λ e. cc) (λ e. cc))))))))))
+    (passed (same_text x (codes "HashAlgorithm")) other missing (λ e. cc) (λ e. cc)))))))))
 
 -- the fields that are added to the struct of headers and to that of metadata fit their roles
 module _ (old : Names) (more : List ℕ → More) (p : Program) (q : ℕ) (front zs : List Top) (i : NewInFront old front) (g : TopsGrow old more p.main (after_tops core front) core (after_tops core front) p.tops zs) (j : IsFine (tops_tests p.main core front)) (w : IsWellTyped p) where

@@ -11,7 +11,7 @@ use Rattle.p4_scopes.specs.declared.thing.Access.TheVariants.{Writable, Fixed, C
 use Rattle.p4_statement_rules.specs.Statements.{after, after_all}
 use Rattle.p4_declaration_rules.specs.Digests.{most_of, most_of_table}
 use Rattle.p4_declaration_rules.specs.Declarations.{with_params}
-use Rattle.p4_declaration_rules.specs.Parsers.{way_access, with_ways, with_states}
+use Rattle.p4_declaration_rules.specs.Parsers.{way_access, with_ways, with_state, with_ends, with_states}
 use Rattle.p4_declaration_rules.specs.Controls.{after_local, after_locals, after_top, after_tops}
 use Rattle.p4_rule_laws.specs.Kept.{IsRooted}
 use Rattle.p4_rule_laws.proofs.KeptFine.{declare_rooted, after_rooted}
@@ -37,8 +37,7 @@ core_behind x (y ∷ []) m =
     let f = passed (same_text x (codes "digest")) _ _ refl e.1 in
     let g = passed (same_text x (codes "verify_checksum")) _ _ refl f.1 in
     let h = passed (same_text x (codes "update_checksum")) _ _ refl g.1 in
-    let i = passed (same_text x (codes "accept") || same_text x (codes "reject")) state _ refl h.1 in
-    let j = passed (same_text x (codes "HashAlgorithm")) other missing refl i.1 in
+    let j = passed (same_text x (codes "HashAlgorithm")) other missing refl h.1 in
     neither (same_text x (codes "standard_metadata_t")) (same_text x (codes "HashAlgorithm")) (same_text y (codes "csum16")) (standard_at y) a.0 j.0
 core_behind x (y ∷ z ∷ zs) m = refl
 
@@ -61,9 +60,19 @@ pub with_ways_rooted : (s : Scope) → IsRooted s → (qs : List Param) → IsRo
 with_ways_rooted s r [] = r
 with_ways_rooted s r (q ∷ qs) = with_ways_rooted (declare s q.name (value (way_access q.way) q.ty)) (declare_rooted s r q.name (value (way_access q.way) q.ty)) qs
 
+pub with_state_rooted : (s : Scope) → IsRooted s → (n : List ℕ) → IsRooted (with_state s n)
+with_state_rooted s r n = by (is_missing (s (n ∷ [])))
+  where
+    by : (b : Bool) → IsRooted (cond b (declare s n parser_state) s)
+    by true = declare_rooted s r n parser_state
+    by false = r
+
+pub with_ends_rooted : (s : Scope) → IsRooted s → IsRooted (with_ends s)
+with_ends_rooted s r = with_state_rooted (with_state s (codes "accept")) (with_state_rooted s r (codes "accept")) (codes "reject")
+
 pub with_states_rooted : (s : Scope) → IsRooted s → (sts : List ParserState) → IsRooted (with_states s sts)
 with_states_rooted s r [] = r
-with_states_rooted s r (st ∷ sts) = with_states_rooted (declare s st.name parser_state) (declare_rooted s r st.name parser_state) sts
+with_states_rooted s r (st ∷ sts) = with_states_rooted (with_state s st.name) (with_state_rooted s r st.name) sts
 
 after_local_rooted : (s : Scope) → IsRooted s → (l : Local) → IsRooted (after_local s l)
 after_local_rooted s r (local_action p a) = declare_rooted s r a.name (action a.params (most_of s a.body))

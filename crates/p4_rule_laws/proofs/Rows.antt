@@ -11,6 +11,7 @@ use Rattle.p4_tree.specs.declared.statement.Op.TheVariants.{Add}
 use Rattle.p4_tree.specs.declared.program.Way.{Way}
 use Rattle.p4_tree.specs.declared.program.Way.TheVariants as way
 use Rattle.p4_tree.specs.declared.program.Param.{Param}
+use Rattle.p4_parser_states.specs.Cycles.{state_names}
 use Rattle.p4_parser_states.specs.Laws.{ReachesIsExact}
 use Rattle.p4_scopes.specs.Scopes.{Scope, fields, value, declare, core}
 use Rattle.p4_scopes.specs.Scopes.{is_missing}
@@ -20,7 +21,7 @@ use Rattle.p4_statement_rules.specs.Ranks.{rank, first_broken}
 use Rattle.p4_statement_rules.specs.Statements.{after_all, stmt_tests, block_tests}
 use Rattle.p4_statement_rules.specs.declared.rule.ProgramRule.TheVariants.{NameTwice, WidthDiffers, WrongPlace}
 use Rattle.p4_statement_rules.specs.declared.rule.Part.TheVariants as place
-use Rattle.p4_declaration_rules.specs.Parsers.{with_ways, with_states, states_names, transition_tests}
+use Rattle.p4_declaration_rules.specs.Parsers.{is_state_name, with_ends, with_ways, with_states, states_names, transition_tests}
 use Rattle.p4_declaration_rules.specs.Controls.{in_control, control_tests, tops_tests, after_top, after_tops}
 use Rattle.p4_rules.specs.ProgramRules.{program_tests, first_fault, IsWellTyped}
 use Rattle.p4_rule_laws.specs.Old.{Names, OldPath, Alike}
@@ -230,7 +231,7 @@ is_new x = by (same_text x (codes "headers"))
     by true = record { front = tt; back = (refl, tt) }
     by false = record { front = tt; back = tt }
 
-begins : (t : Scope) → (is_missing (t (codes "hydra_start" ∷ [])) ≡ true) → IsFine (states_names t added) → (Keeps t (with_states t (entered renamed added the_parser.states)) → FineFlows (with_states t (entered renamed added the_parser.states)) added) → Begins old (codes "start") (codes "hydra_start") t added the_parser.states
+begins : (t : Scope) → (is_missing (t (codes "hydra_start" ∷ [])) ≡ true) → IsFine (states_names t added) → (Keeps t (with_states t (entered renamed added the_parser.states)) → FineFlows (entered renamed added the_parser.states) (with_states t (entered renamed added the_parser.states)) added) → Begins old (codes "start") (codes "hydra_start") t added the_parser.states
 unfolding old
 begins t f n w =
     record {
@@ -252,7 +253,7 @@ behind_types : Scope → Scope
 behind_types s = after_top (after_top (after_top s (header_type 0 (codes "e_t") ((Bit 8, codes "x") ∷ []))) (struct_type 0 (codes "headers") (with_more (more (codes "headers")) ((Named (codes "e_t"), codes "e") ∷ [])))) (struct_type 0 (codes "metadata") (with_more (more (codes "metadata")) ((Bit 8, codes "m") ∷ [])))
 
 before_states : Scope
-before_states = with_ways (behind_types (after_tops core front)) the_parser.params
+before_states = with_ends (with_ways (behind_types (after_tops core front)) the_parser.params)
 
 states_grow : ReachesIsExact → (s : Scope) → StatesGrow old s before_states the_parser.states (entered renamed added the_parser.states)
 unfolding declare core more behind_types before_states
@@ -264,11 +265,14 @@ states_grow exact s =
     made : Scope
     made = with_states before_states (entered renamed added the_parser.states)
 
-    flows : FineFlows made added
+    all : List ParserState
+    all = entered renamed added the_parser.states
+
+    flows : FineFlows all made added
     flows = (
       tt,
-      none_is_fine rank (transition_tests made choosing) refl,
-      (none_is_fine rank (block_tests place.State made (stmts_from taking)) refl, none_is_fine rank (transition_tests made (to 0 (codes "hydra_start"))) refl, tt),
+      none_is_fine rank (transition_tests (is_state_name (state_names all)) made choosing) refl,
+      (none_is_fine rank (block_tests place.State made (stmts_from taking)) refl, none_is_fine rank (transition_tests (is_state_name (state_names all)) made (to 0 (codes "hydra_start"))) refl, tt),
     )
 
 -- ingress, and what is in sight in its statements

@@ -1,6 +1,6 @@
 -- A parser with new states in front of its own, whose names are told apart by a renaming: what was its `start` may have
 -- another name, since a new state takes its place. Read `OldPrograms` and `Cycles` of `p4_parser_states` before it.
-use Rattle.std.specs.Prelude.{◌≡◌, ◌⊎◌, ℕ, List, [], ◌∷◌, ◌++◌, Bool, true, false, ◌||◌, if◌then◌else◌, codes}
+use Rattle.std.specs.Prelude.{◌≡◌, ◌⊎◌, ℕ, List, [], ◌∷◌, ◌++◌, Bool, true, false, if◌then◌else◌, codes}
 use Rattle.lex_text.specs.Names.{same_text}
 use Rattle.rule_tests.specs.Tests.{IsFine}
 use Rattle.p4_tree.specs.Tree.{stmts_from, Case, Transition, nowhere, to, select, ParserState}
@@ -8,7 +8,7 @@ use Rattle.p4_parser_states.specs.Cycles.{is_among, state_names, is_on_cycle}
 use Rattle.p4_scopes.specs.Scopes.{Stands, state, Scope, is_missing}
 use Rattle.p4_statement_rules.specs.Statements.{block_tests}
 use Rattle.p4_statement_rules.specs.declared.rule.Part.TheVariants as place
-use Rattle.p4_declaration_rules.specs.Parsers.{transition_tests, with_states, states_names}
+use Rattle.p4_declaration_rules.specs.Parsers.{is_state_name, transition_tests, with_states, states_names}
 use Rattle.p4_rule_laws.specs.Old.{Names}
 use Rattle.p4_rule_laws.specs.OldPrograms.{OldStates}
 use Rattle.p4_rule_laws.specs.Kept.{Keeps}
@@ -48,10 +48,10 @@ abbrev pub NoCycles : (all sts : List ParserState) → Type 0
 NoCycles all [] = Unit {0}
 NoCycles all (st ∷ sts) = (is_on_cycle all st ≡ false) × NoCycles all sts
 
--- the statements of each are fine, and how it goes on
-abbrev pub FineFlows : Scope → List ParserState → Type 0
-FineFlows s [] = Unit {0}
-FineFlows s (st ∷ sts) = IsFine (block_tests place.State s (stmts_from st.body)) × IsFine (transition_tests s st.next) × FineFlows s sts
+-- the statements of each are fine, and how it goes on among the states of a parser
+abbrev pub FineFlows : (all : List ParserState) → Scope → List ParserState → Type 0
+FineFlows all s [] = Unit {0}
+FineFlows all s (st ∷ sts) = IsFine (block_tests place.State s (stmts_from st.body)) × IsFine (transition_tests (is_state_name (state_names all)) s st.next) × FineFlows all s sts
 
 -- t: the scope before the states of the parser that is made
 pub record Enters (old : Names) (r : List ℕ → List ℕ) (t : Scope) (added sts : List ParserState) : Type 0 where
@@ -64,7 +64,7 @@ pub record Enters (old : Names) (r : List ℕ → List ℕ) (t : Scope) (added s
   -- the new states have new names, reach themselves by no way among them, and are fine where they stand
   pub names : IsFine (states_names t added)
   pub cycles : NoCycles added added
-  pub flows : Keeps t (with_states t (entered r added sts)) → FineFlows (with_states t (entered r added sts)) added
+  pub flows : Keeps t (with_states t (entered r added sts)) → FineFlows (entered r added sts) (with_states t (entered r added sts)) added
 
 -- ---- one name alone is moved
 
@@ -84,14 +84,14 @@ pub record Begins (old : Names) (from onto : List ℕ) (t : Scope) (added sts : 
   pub others : (x : List ℕ) → old x ≡ true → same_text from x ≡ false → is_among (state_names added) x ≡ false
   pub names : IsFine (states_names t added)
   pub cycles : NoCycles added added
-  pub flows : Keeps t (with_states t (entered (renamed_to from onto) added sts)) → FineFlows (with_states t (entered (renamed_to from onto) added sts)) added
+  pub flows : Keeps t (with_states t (entered (renamed_to from onto) added sts)) → FineFlows (entered (renamed_to from onto) added sts) (with_states t (entered (renamed_to from onto) added sts)) added
 
--- ---- which states there are before a parser's own
+-- ---- which states there are outside parsers
 
 abbrev pub stands_state : Stands → Bool
 stands_state state = true
 stands_state _ = false
 
--- `accept` and `reject` alone
-pub record HasOwnStates (s : Scope) : Type 0 where
-  pub only : (x : List ℕ) → stands_state (s (x ∷ [])) ≡ true → (same_text x (codes "accept") || same_text x (codes "reject")) ≡ true
+-- none
+pub record HasNoStates (s : Scope) : Type 0 where
+  pub none : (x : List ℕ) → stands_state (s (x ∷ [])) ≡ false

@@ -13,7 +13,7 @@ use Rattle.p4_statement_rules.specs.Statements.{block_tests}
 use Rattle.p4_statement_rules.specs.declared.rule.Part.{Part}
 use Rattle.p4_statement_rules.specs.declared.rule.Part.TheVariants as place
 use Rattle.p4_declaration_rules.specs.Declarations.{params_tests, with_params, is_no_field, fields_tests, field_names, has_twice}
-use Rattle.p4_declaration_rules.specs.Parsers.{onto_tests, with_states, states_names, states_tests, parser_tests}
+use Rattle.p4_declaration_rules.specs.Parsers.{start_tests, with_states, states_names, states_tests, parser_tests}
 use Rattle.p4_declaration_rules.specs.Controls.{local_tests, after_local, once_tests, part_in, top_tests, after_top, control_tests}
 use Rattle.p4_declaration_rules.specs.Firsts.{top_name}
 use Rattle.p4_rules.specs.Mains.{all_fields}
@@ -91,7 +91,7 @@ pub data LocalsGrow (old : Names) (h : Part) (v : Scope) : Scope → Scope → L
 -- the states of a parser in the place of others
 pub record StatesGrow (old : Names) (s t : Scope) (sts tts : List ParserState) : Type 0 where
   pub names : Alike old s t → IsFine (states_names s sts) → IsFine (states_names t tts)
-  pub start : (p : ℕ) → Alike old s t → IsFine (onto_tests p (with_states s sts (codes "start" ∷ []))) → IsFine (onto_tests p (with_states t tts (codes "start" ∷ [])))
+  pub start : (p : ℕ) → Alike old s t → IsFine (start_tests p (with_states s sts) sts) → IsFine (start_tests p (with_states t tts) tts)
   pub states : Alike old s t → IsFine (states_names s sts) → IsFine (states_tests sts (with_states s sts) sts) → IsFine (states_tests tts (with_states t tts) tts)
 
 -- ---- programs

@@ -1,18 +1,18 @@
 -- What is made of a fine program by growth is fine. Read `Growth` and `Entered` before it.
-use Rattle.std.specs.Prelude.{◌≡◌, ℕ, List, [], ◌∷◌, ◌++◌, ◌||◌, true, false, codes, Some}
+use Rattle.std.specs.Prelude.{◌≡◌, ◌↔◌, ℕ, List, [], ◌∷◌, ◌++◌, ◌||◌, true, false, codes, Some}
 use Rattle.rule_tests.specs.Tests.{IsFine}
 use Rattle.p4_tree.specs.Tree.{Arg, Stmts, call, next, and_then, ParserState, Local, Control, Parser, Top, Program, Expr, Action, local_action, local_var}
 use Rattle.p4_tree.specs.declared.statement.PTy.{PTy}
 use Rattle.p4_tree.specs.declared.program.Param.{Param}
 use Rattle.p4_parser_states.specs.Cycles.{is_among, state_names}
-use Rattle.p4_scopes.specs.Scopes.{state, Scope, core}
+use Rattle.p4_scopes.specs.Scopes.{Stands, state, Scope, core}
 use Rattle.p4_scopes.specs.Uses.{is_scalar, is_header}
 use Rattle.p4_statement_rules.specs.Statements.{after_all, stmt_tests, block_tests}
 use Rattle.p4_statement_rules.specs.declared.rule.Part.{Part}
 use Rattle.p4_statement_rules.specs.declared.rule.Part.TheVariants as place
 use Rattle.p4_declaration_rules.specs.Declarations.{with_params, action_tests}
 use Rattle.p4_declaration_rules.specs.Digests.{most_of}
-use Rattle.p4_declaration_rules.specs.Parsers.{with_ways, ways_tests, onto_tests, with_states, parser_tests}
+use Rattle.p4_declaration_rules.specs.Parsers.{is_state_name, before_states, with_ways, ways_tests, onto_tests, start_tests, with_states, states_names, parser_tests}
 use Rattle.p4_declaration_rules.specs.Controls.{locals_tests, after_locals, stmt_emits, in_control, control_tests, tops_tests, after_tops, action_part}
 use Rattle.p4_rules.specs.Mains.{structs_of}
 use Rattle.p4_rules.specs.Limits.{limit_tests}
@@ -22,7 +22,7 @@ use Rattle.p4_rule_laws.specs.OldPrograms.{OldWays, OldStates}
 use Rattle.p4_rule_laws.specs.Kept.{Keeps, NewVars}
 use Rattle.p4_rule_laws.specs.Replaced.{BlockReplaced, Replaces}
 use Rattle.p4_rule_laws.specs.Growth.{More, Sees, is_deparser, BodyGrows, LocalsGrow, StatesGrow, parser_with, control_with, NewInFront, TopsGrow, InRole, grown, ActionGrows, with_body, LocalGrows}
-use Rattle.p4_rule_laws.specs.Entered.{entered, Enters, renamed_to, Begins, HasOwnStates}
+use Rattle.p4_rule_laws.specs.Entered.{entered, Enters, renamed_to, Begins, HasNoStates}
 
 -- what may stand in the place of a control's statements
 pub record BodiesGrow : Type 0 where
@@ -56,17 +56,18 @@ pub record StatesAreEntered : Type 0 where
   pub same : (old : Names) (s t : Scope) (sts : List ParserState) → OldStates old sts → old (codes "start") ≡ true → StatesGrow old s t sts sts
   pub entered : (old : Names) (r : List ℕ → List ℕ) (s t : Scope) (added sts : List ParserState) → Enters old r t added sts → StatesGrow old s t sts (entered r added sts)
   pub begins : (old : Names) (from onto : List ℕ) (t : Scope) (added sts : List ParserState) → Begins old from onto t added sts → Enters old (renamed_to from onto) t added sts
-  -- what stands for a state in a parser's statements
-  pub own : (s : Scope) (sts : List ParserState) (x : List ℕ) → is_among (state_names sts) x ≡ true → with_states s sts (x ∷ []) ≡ state
+  -- what stands for a state in a parser's statements, where the names of its states are new
+  pub own : (s : Scope) (sts : List ParserState) (x : List ℕ) → IsFine (states_names s sts) → is_among (state_names sts) x ≡ true → with_states s sts (x ∷ []) ≡ state
+  -- how a state may go on: to the names of states alone, whatever they stand for elsewhere
+  pub onto : (names : List (List ℕ)) (p : ℕ) (x : List ℕ) (st : Stands) → IsFine (onto_tests p (is_state_name names x) st) ↔ (is_state_name names x ≡ true)
   pub others : (s : Scope) (sts : List ParserState) (x : List ℕ) (xs : List (List ℕ)) → is_among (state_names sts) x ≡ false → with_states s sts (x ∷ xs) ≡ s (x ∷ xs)
   pub among : (a b : List ParserState) (x : List ℕ) → is_among (state_names (a ++ b)) x ≡ (is_among (state_names a) x || is_among (state_names b) x)
 
--- behind declarations at top level and parameters only `accept` and `reject` are states, so that the `start` of a fine
--- parser is among its own
+-- behind declarations at top level and parameters nothing is a state, and the `start` of a fine parser is among its own
 pub record StartIsOwn : Type 0 where
-  pub tops : (ys : List Top) → HasOwnStates (after_tops core ys)
-  pub params : (s : Scope) → HasOwnStates s → (qs : List Param) → HasOwnStates (with_ways s qs)
-  pub start : (p : ℕ) (s : Scope) → HasOwnStates s → (sts : List ParserState) → IsFine (onto_tests p (with_states s sts (codes "start" ∷ []))) → is_among (state_names sts) (codes "start") ≡ true
+  pub tops : (ys : List Top) → HasNoStates (after_tops core ys)
+  pub params : (s : Scope) → HasNoStates s → (qs : List Param) → HasNoStates (with_ways s qs)
+  pub start : (p : ℕ) (s : Scope) (sts : List ParserState) → IsFine (start_tests p s sts) → is_among (state_names sts) (codes "start") ≡ true
 
 -- declarations that grow stay fine, and old names stand for the same behind them
 pub record DeclarationsGrow : Type 0 where
@@ -74,7 +75,7 @@ pub record DeclarationsGrow : Type 0 where
       (old : Names) (h : Part) (v s t : Scope) (ls ms : List Local) → LocalsGrow old h v s t ls ms → Keeps v t → Alike old s t
       → IsFine (locals_tests h s ls) → IsFine (locals_tests h t ms) × Alike old (after_locals s ls) (after_locals t ms)
   pub parsers :
-      (old : Names) (s t : Scope) (d : Parser) (tts : List ParserState) → old d.name ≡ true → OldWays old d.params → (IsFine (ways_tests t d.params) → StatesGrow old (with_ways s d.params) (with_ways t d.params) d.states tts)
+      (old : Names) (s t : Scope) (d : Parser) (tts : List ParserState) → old d.name ≡ true → OldWays old d.params → (IsFine (ways_tests t d.params) → StatesGrow old (before_states s d) (before_states t d) d.states tts)
       → Alike old s t → IsFine (parser_tests s d) → IsFine (parser_tests t (parser_with d tts))
   -- what is in sight behind the parameters still is in the local declarations and in the statements
   pub controls :

@@ -185,8 +185,7 @@ core_is x =
     (if_core x (same_text x (codes "digest")) _ _ (λ e. function_core x Digest (text_is x (codes "digest") e))
     (if_core x (same_text x (codes "verify_checksum")) _ _ (λ e. function_core x VerifyChecksum (text_is x (codes "verify_checksum") e))
     (if_core x (same_text x (codes "update_checksum")) _ _ (λ e. function_core x UpdateChecksum (text_is x (codes "update_checksum") e))
-    (if_core x (same_text x (codes "accept") || same_text x (codes "reject")) _ _ (λ e. state_core x)
-    (if_core x (same_text x (codes "HashAlgorithm")) _ _ (λ e. other_core x) (missing_core x))))))))))
+    (if_core x (same_text x (codes "HashAlgorithm")) _ _ (λ e. other_core x) (missing_core x)))))))))
 
 pub core_calls : (L T : List ℕ → ℕ → Type 0) → Calls L T core
 unfolding core

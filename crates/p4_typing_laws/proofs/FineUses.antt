@@ -1,15 +1,16 @@
 -- In a program that breaks no rule each use is fine: what holds of fine expressions and of paths that stand for what fits
 -- holds of each use, by induction on the program.
-use Rattle.std.proofs.Common.{◌≡◌, ℕ, ◌≤◌, List, [], ◌∷◌, Bool, true, false, not, ◌&&◌, codes, Option, Some, None, refl, ap, ◌∙◌}
+use Rattle.std.proofs.Common.{◌≡◌, ℕ, ◌≤◌, List, [], ◌∷◌, Bool, true, false, not, ◌&&◌, codes, Option, Some, None, refl, sym, ap, ◌∙◌}
 use Rattle.lex_text.specs.Names.{parent, last_name}
 use Rattle.rule_tests.specs.Tests.{IsFine}
 use Rattle.p4_tree.specs.Tree.{Expr, num, flag, path, valid, applied, error_name, negation, inversion, opposite, binary, conditional, slice, cast, Arg, one, many, Stmt, Stmts, MaybeStmt, nothing, block, var, assign, choice, return_, exit_, call, done, next, without, otherwise, stmts_from, Keyset, any, only, masked, Case, Transition, nowhere, to, select, ParserState, Action, Table, Local, local_action, local_table, local_register, local_const, local_var, Control, Parser, Top, constant, typedef, header_type, struct_type, register, parser, control, Program}
 use Rattle.p4_tree.specs.declared.statement.PTy.{PTy}
 use Rattle.p4_tree.specs.declared.statement.PTy.TheVariants as type
 use Rattle.p4_tree.specs.declared.program.Param.{Param}
+use Rattle.p4_parser_states.specs.Cycles.{state_names}
 use Rattle.p4_scopes.specs.Kinds.{as_number, as_value}
 use Rattle.p4_scopes.specs.Scopes.{Stands, missing, typed, held, cells, act, rows, state, function, algorithm, other, is_missing, value_kind, Scope, value, declare, kind_in, own, core}
-use Rattle.p4_scopes.specs.Uses.{reads, holds_header, holds_standard, is_table, is_action, is_state, is_algorithm, is_type, is_writable}
+use Rattle.p4_scopes.specs.Uses.{reads, holds_header, holds_standard, is_table, is_action, is_algorithm, is_type, is_writable}
 use Rattle.p4_scopes.specs.declared.kind.Kind.{Kind}
 use Rattle.p4_scopes.specs.declared.kind.Kind.TheVariants.{Truth}
 use Rattle.p4_scopes.specs.declared.thing.Thing.{Thing}
@@ -24,7 +25,7 @@ use Rattle.p4_statement_rules.specs.declared.rule.Part.{Part}
 use Rattle.p4_statement_rules.specs.declared.rule.Part.TheVariants as place
 use Rattle.p4_declaration_rules.specs.Declarations.{is_no_number, is_no_field, params_tests, with_params, action_tests, fields_tests}
 use Rattle.p4_declaration_rules.specs.Tables.{keys_tests, listed_tests, known_args, default_args, default_tests, table_tests}
-use Rattle.p4_declaration_rules.specs.Parsers.{way_access, with_ways, with_states, ways_tests, keyset_tests, each_keyset, keysets_tests, cases_tests, transition_tests, states_tests, parser_tests}
+use Rattle.p4_declaration_rules.specs.Parsers.{is_state_name, onto_tests, before_states, in_states, way_access, with_ways, ways_tests, keyset_tests, each_keyset, keysets_tests, cases_tests, transition_tests, states_tests, parser_tests}
 use Rattle.p4_declaration_rules.specs.Controls.{action_part, after_local, declared_tests, locals_tests, in_control, control_tests, top_tests, after_top, tops_tests, part_in}
 use Rattle.p4_rules.specs.Mains.{names_parts}
 use Rattle.p4_rules.specs.ProgramRules.{IsWellTyped}
@@ -36,7 +37,7 @@ use Rattle.p4_typing_laws.specs.Widths.{UseHasWidth}
 use Rattle.p4_typing_laws.proofs.Agreement.{agrees}
 use Rattle.p4_typing_laws.proofs.StaticWidths.{number_cap}
 use Rattle.p4_typing_laws.proofs.ValueWidths.{fine_has_static}
-use Rattle.p4_typing_laws.proofs.SoundScopes.{kind_sound, value_sound, params_sound, states_sound, core_sound}
+use Rattle.p4_typing_laws.proofs.SoundScopes.{kind_sound, value_sound, params_sound, states_sound, ends_sound, core_sound}
 use Rattle.p4_typing_laws.proofs.SoundPlaces.{after_sound, local_sound, ways_sound, inside_sound, top_sound, value_most, truth_most, free_most, index_most, kind_most, IsSoundForm, form_sound}
 
 broken : {A : Type 0} → true ≡ false → A
@@ -364,24 +365,29 @@ module _ (P : Scope → Use → Type 0) (value_holds : (s : Scope) → IsSound s
   keyset_uses p s is es (only q e ∷ ks) g f = keyset_each s is es (only q e ∷ ks) g f.0 f.1
   keyset_uses p s is es (masked q e m ∷ ks) g f = keyset_each s is es (masked q e m ∷ ks) g f.0 f.1
 
-  case_uses : (p : ℕ) (s : Scope) (is : IsSound s) (es : List Expr) (cs : List Case) → IsFine (all_free s es) → IsFine (cases_tests p s es cs) → CaseUses P s es cs
-  case_uses p s is es [] g f = tt
-  case_uses p s is es (c ∷ cs) g f = (keyset_uses p s is es c.keys g f.0.0, fits_there s is is_state (c.next ∷ []) f.0.1.0 f.0.1.1, case_uses p s is es cs g f.1)
+  -- a name that is tested to be a state's is one
+  onto_name : (p : ℕ) (b : Bool) (st : Stands) → IsFine (onto_tests p b st) → b ≡ true
+  onto_name p true st f = refl
+  onto_name p false st f = broken (sym (ap not f.0) ∙ f.1)
 
-  transition_uses : (s : Scope) (is : IsSound s) (t : Transition) → IsFine (transition_tests s t) → TransitionUses P s t
-  transition_uses s is (nowhere p) f = tt
-  transition_uses s is (to p x) f = fits_there s is is_state (x ∷ []) f.0 f.1
-  transition_uses s is (select p es cs) f = (free_uses s is es f.0, case_uses p s is es cs f.0 f.1)
+  case_uses : (k : List ℕ → Bool) (p : ℕ) (s : Scope) (is : IsSound s) (es : List Expr) (cs : List Case) → IsFine (all_free s es) → IsFine (cases_tests k p s es cs) → CaseUses P k s es cs
+  case_uses k p s is es [] g f = tt
+  case_uses k p s is es (c ∷ cs) g f = (keyset_uses p s is es c.keys g f.0.0, onto_name p (k c.next) (s (c.next ∷ [])) f.0.1, case_uses k p s is es cs g f.1)
 
-  state_uses : (all : List ParserState) (s : Scope) (is : IsSound s) (sts : List ParserState) → IsFine (states_tests all s sts) → StateUses P s sts
+  transition_uses : (k : List ℕ → Bool) (s : Scope) (is : IsSound s) (t : Transition) → IsFine (transition_tests k s t) → TransitionUses P k s t
+  transition_uses k s is (nowhere p) f = tt
+  transition_uses k s is (to p x) f = onto_name p (k x) (s (x ∷ [])) f
+  transition_uses k s is (select p es cs) f = (free_uses s is es f.0, case_uses k p s is es cs f.0 f.1)
+
+  state_uses : (all : List ParserState) (s : Scope) (is : IsSound s) (sts : List ParserState) → IsFine (states_tests all s sts) → StateUses P (is_state_name (state_names all)) s sts
   state_uses all s is [] f = tt
-  state_uses all s is (st ∷ sts) f = (block_uses (stmts_from st.body) place.State s is f.0.1.0, transition_uses s is st.next f.0.1.1, state_uses all s is sts f.1)
+  state_uses all s is (st ∷ sts) f = (block_uses (stmts_from st.body) place.State s is f.0.1.0, transition_uses (is_state_name (state_names all)) s is st.next f.0.1.1, state_uses all s is sts f.1)
 
   parser_uses : (s : Scope) (is : IsSound s) (d : Parser) → IsFine (parser_tests s d) → ParserUses P s d
   parser_uses s is d f =
-      let inside = with_states (with_ways s d.params) d.states in
-      let sound = states_sound d.states (with_ways s d.params) (ways_sound d.params s is f.1.0) in
-      (way_uses d.params s is f.1.0, fits_there inside sound is_state (codes "start" ∷ []) f.1.1.1.0.0 f.1.1.1.0.1, state_uses d.states inside sound d.states f.1.1.1.1)
+      let inside = in_states s d in
+      let sound = states_sound d.states (before_states s d) (ends_sound (with_ways s d.params) (ways_sound d.params s is f.1.0)) in
+      (way_uses d.params s is f.1.0, onto_name d.at (is_state_name (state_names d.states) (codes "start")) (inside (codes "start" ∷ [])) f.1.1.1.0, state_uses d.states inside sound d.states f.1.1.1.1)
 
   -- ---- programs
 

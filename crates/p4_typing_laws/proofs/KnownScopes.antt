@@ -128,9 +128,8 @@ core_is_none x =
     (if_none (same_text x (codes "digest")) _ _ (none_of (function Digest) refl refl)
     (if_none (same_text x (codes "verify_checksum")) _ _ (none_of (function VerifyChecksum) refl refl)
     (if_none (same_text x (codes "update_checksum")) _ _ (none_of (function UpdateChecksum) refl refl)
-    (if_none (same_text x (codes "accept") || same_text x (codes "reject")) _ _ (none_of (state) refl refl)
     (if_none (same_text x (codes "HashAlgorithm")) _ _ (none_of (other) refl refl)
-    (record { no_type = refl; unread = λ e r. broken e }))))))))))
+    (record { no_type = refl; unread = λ e r. broken e })))))))))
 
 if_missing : (b : Bool) (u v : Stands) → is_missing u ≡ false → is_missing (cond b u v) ≡ true → (b ≡ false) × (is_missing v ≡ true)
 if_missing true u v h k = broken (sym k ∙ h)
@@ -146,8 +145,7 @@ core_rooted x y h =
     let f = if_missing (same_text x (codes "digest")) _ _ refl e.1 in
     let g = if_missing (same_text x (codes "verify_checksum")) _ _ refl f.1 in
     let i = if_missing (same_text x (codes "update_checksum")) _ _ refl g.1 in
-    let j = if_missing (same_text x (codes "accept") || same_text x (codes "reject")) _ _ refl i.1 in
-    let k = if_missing (same_text x (codes "HashAlgorithm")) _ _ refl j.1 in
+    let k = if_missing (same_text x (codes "HashAlgorithm")) _ _ refl i.1 in
     last (same_text x (codes "standard_metadata_t")) (same_text x (codes "HashAlgorithm")) (same_text y (codes "csum16")) (standard_at y) a.0 k.0
   where
     last : (a b c : Bool) (u : Stands) → a ≡ false → b ≡ false → is_missing (cond a u (cond (b && c) algorithm missing)) ≡ true

@@ -15,7 +15,7 @@ use Rattle.p4_scopes.specs.declared.thing.Access.{Access}
 use Rattle.p4_scopes.specs.declared.thing.Access.TheVariants.{Fixed}
 use Rattle.p4_statement_rules.specs.Expressions.{type_tests, scalar_tests}
 use Rattle.p4_declaration_rules.specs.Declarations.{params_tests, with_params, fields_tests}
-use Rattle.p4_declaration_rules.specs.Parsers.{with_states}
+use Rattle.p4_declaration_rules.specs.Parsers.{with_state, with_ends, with_states}
 use Rattle.p4_typing_laws.specs.Soundness.{kind_width, IsSoundKind, AreSoundKinds, IsSoundThing, IsSoundStands, IsSound}
 use Rattle.p4_typing_laws.proofs.StaticWidths.{good_width, sound_width_of}
 
@@ -164,9 +164,19 @@ part_sound s is n = declared_sound s is n part (λ xs. at xs)
     at [] = tt
     at (x ∷ xs) = tt
 
+pub where_missing_sound : (s : Scope) → IsSound s → (n : List ℕ) → IsSound (with_state s n)
+where_missing_sound s is n = by (is_missing (s (n ∷ [])))
+  where
+    by : (b : Bool) → IsSound (cond b (declare s n parser_state) s)
+    by true = state_sound s is n
+    by false = is
+
+pub ends_sound : (s : Scope) → IsSound s → IsSound (with_ends s)
+ends_sound s is = where_missing_sound (with_state s (codes "accept")) (where_missing_sound s is (codes "accept")) (codes "reject")
+
 pub states_sound : (sts : List ParserState) (s : Scope) → IsSound s → IsSound (with_states s sts)
 states_sound [] s is = is
-states_sound (st ∷ sts) s is = states_sound sts (declare s st.name parser_state) (state_sound s is st.name)
+states_sound (st ∷ sts) s is = states_sound sts (with_state s st.name) (where_missing_sound s is st.name)
 
 -- ---- parameters of actions
 
@@ -238,8 +248,7 @@ core_sound = record { paths = λ x. at x }
         (if_sound (same_text x (codes "digest")) _ _ tt
         (if_sound (same_text x (codes "verify_checksum")) _ _ tt
         (if_sound (same_text x (codes "update_checksum")) _ _ tt
-        (if_sound (same_text x (codes "accept") || same_text x (codes "reject")) _ _ tt
-        (if_sound (same_text x (codes "HashAlgorithm")) _ _ tt tt)))))))))
+        (if_sound (same_text x (codes "HashAlgorithm")) _ _ tt tt))))))))
 
     field_of : (x y : List ℕ) → IsSoundStands (core_field x y)
     field_of x y =

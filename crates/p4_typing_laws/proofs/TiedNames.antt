@@ -31,7 +31,7 @@ use Rattle.p4_statement_rules.specs.Expressions.{scalar_tests}
 use Rattle.p4_statement_rules.specs.Statements.{after, stmt_tests, block_tests, else_tests}
 use Rattle.p4_statement_rules.specs.declared.rule.Part.{Part}
 use Rattle.p4_declaration_rules.specs.Declarations.{params_tests, with_params, action_tests}
-use Rattle.p4_declaration_rules.specs.Parsers.{way_access, with_ways, ways_tests, with_states}
+use Rattle.p4_declaration_rules.specs.Parsers.{way_access, with_ways, ways_tests, with_state, with_ends, with_states}
 use Rattle.p4_typing_laws.specs.Soundness.{kind_width, IsSound}
 use Rattle.p4_typing_laws.specs.Tied.{ConstantIs, TypeIs, ValueIs, RegisterIs, ParamsAre, ActionIs, register_named, HasIt, IsTied}
 use Rattle.p4_typing_laws.proofs.Fine.{twice_not}
@@ -217,9 +217,19 @@ pub ways_tied : (p : Parts) (qs : List Param) (s : Scope) (sc : meaning.Scope) �
 ways_tied p [] s sc t f = t
 ways_tied p (q ∷ qs) s sc t f = ways_tied p qs (declare s q.name (value (way_access q.way) q.ty)) sc (value_tied p s sc q.name (way_access q.way) q.ty (way_no_constant q.way) t (twice_not _ f.0.0)) f.1
 
+pub state_tied : (p : Parts) (s : Scope) (sc : meaning.Scope) (n : List ℕ) → IsTied p s sc → IsTied p (with_state s n) sc
+state_tied p s sc n t = by (is_missing (s (n ∷ [])))
+  where
+    by : (b : Bool) → IsTied p (cond b (declare s n parser_state) s) sc
+    by true = plain_tied p s sc n parser_state t tt
+    by false = t
+
+pub ends_tied : (p : Parts) (s : Scope) (sc : meaning.Scope) → IsTied p s sc → IsTied p (with_ends s) sc
+ends_tied p s sc t = state_tied p (with_state s (codes "accept")) sc (codes "reject") (state_tied p s sc (codes "accept") t)
+
 pub states_tied : (p : Parts) (sts : List ParserState) (s : Scope) (sc : meaning.Scope) → IsTied p s sc → IsTied p (with_states s sts) sc
 states_tied p [] s sc t = t
-states_tied p (st ∷ sts) s sc t = states_tied p sts (declare s st.name parser_state) sc (plain_tied p s sc st.name parser_state t tt)
+states_tied p (st ∷ sts) s sc t = states_tied p sts (with_state s st.name) sc (state_tied p s sc st.name t)
 
 pub fixed_no_constant : Fixed ≡ Constant → ⊥
 fixed_no_constant e = cc
@@ -357,8 +367,7 @@ core_has p sc x e o =
     (if_has (same_text x (codes "digest")) _ _ tt
     (if_has (same_text x (codes "verify_checksum")) _ _ tt
     (if_has (same_text x (codes "update_checksum")) _ _ tt
-    (if_has (same_text x (codes "accept") || same_text x (codes "reject")) _ _ tt
-    (if_has (same_text x (codes "HashAlgorithm")) _ _ tt (outer_constant sc o x ∙ ap (λ (cs : List (List ℕ × Word)). constant_named cs x) e))))))))))
+    (if_has (same_text x (codes "HashAlgorithm")) _ _ tt (outer_constant sc o x ∙ ap (λ (cs : List (List ℕ × Word)). constant_named cs x) e)))))))))
   where
     if_has : (b : Bool) (u v : Stands) → HasIt p sc x u → HasIt p sc x v → HasIt p sc x (cond b u v)
     if_has true u v h k = h

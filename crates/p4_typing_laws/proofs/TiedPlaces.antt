@@ -21,7 +21,7 @@ use Rattle.p4_scopes.specs.declared.thing.Thing.TheVariants.{Header, Struct}
 use Rattle.p4_scopes.specs.declared.thing.Access.TheVariants.{Writable, Constant}
 use Rattle.p4_statement_rules.specs.declared.rule.Part.{Part}
 use Rattle.p4_declaration_rules.specs.Digests.{most_of, most_of_table}
-use Rattle.p4_declaration_rules.specs.Parsers.{with_ways, parser_tests}
+use Rattle.p4_declaration_rules.specs.Parsers.{with_ways, before_states, parser_tests}
 use Rattle.p4_declaration_rules.specs.Controls.{action_part, local_tests, after_local, locals_tests, control_tests, part_in, top_tests, after_top, tops_tests}
 use Rattle.p4_rules.specs.ProgramRules.{IsWellTyped}
 use Rattle.p4_typing_laws.specs.Soundness.{IsSound}
@@ -34,7 +34,7 @@ use Rattle.p4_typing_laws.proofs.CallCounts.{text_same}
 use Rattle.p4_typing_laws.proofs.FullNames.{head_same, tail_same, full_apart, other_text, among_head, Knows, known_full, knows_rest, knows_all, named_other, table_other, skip_actions, skip_tables}
 use Rattle.p4_typing_laws.proofs.CountedNames.{was_missing}
 use Rattle.p4_typing_laws.proofs.CountedLocals.{own_missing}
-use Rattle.p4_typing_laws.proofs.TiedNames.{tied_moved, type_width, plain_tied, value_tied, writable_no_constant, IsOuter, constant_tied, alias_tied, ways_tied, states_tied, in_action_tied, params_are, core_tied}
+use Rattle.p4_typing_laws.proofs.TiedNames.{tied_moved, type_width, plain_tied, value_tied, writable_no_constant, IsOuter, constant_tied, alias_tied, ways_tied, states_tied, in_action_tied, params_are, core_tied, ends_tied}
 
 broken : {A : Type 0} → true ≡ false → A
 broken h = absurd (cc)
@@ -311,8 +311,9 @@ module _ (pt : Parts) (main : List (List ℕ)) where
   -- inside a parser
   parser_tied : (sc : meaning.Scope) (d : tree.Parser) (s : Scope) → IsTied pt s sc → IsFine (parser_tests s d) → ParserPlaces (IsTied pt) s sc d
   parser_tied sc d s t f =
-      states_tied pt d.states (with_ways s d.params) (in_parser sc d)
-      (tied_moved pt (with_ways s d.params) sc (in_parser sc d) (λ x. record { constants = refl; types = refl; full = λ k. refl }) (ways_tied pt d.params s sc t f.1.0))
+      states_tied pt d.states (before_states s d) (in_parser sc d)
+      (ends_tied pt (with_ways s d.params) (in_parser sc d)
+      (tied_moved pt (with_ways s d.params) sc (in_parser sc d) (λ x. record { constants = refl; types = refl; full = λ k. refl }) (ways_tied pt d.params s sc t f.1.0)))
 
   tops_tied : (ts : List Top) (s : Scope) (sc : meaning.Scope) → IsAtTop sc ts s → HavePlainNames ts → IsFine (tops_tests main s ts) → TopsPlaces (IsTied pt) s sc ts
   tops_tied [] s sc b plain f = b.tied

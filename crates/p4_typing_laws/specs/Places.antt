@@ -1,15 +1,16 @@
 -- Where a program uses names and values, each use with what is in sight there: expressions with the kind that is wanted
 -- of them, and paths with the test that what they stand for has to pass. A call has the arguments that its form asks
 -- for. Read `Statements` of `p4_statement_rules` and `Controls` of `p4_rules` before it.
-use Rattle.std.specs.Prelude.{ℕ, List, [], ◌∷◌, Bool, true, false, not, ◌&&◌, codes, Option, Some, None}
+use Rattle.std.specs.Prelude.{◌≡◌, ℕ, List, [], ◌∷◌, Bool, true, false, not, ◌&&◌, codes, Option, Some, None}
 use Rattle.lex_text.specs.Names.{parent}
 use Rattle.p4_tree.specs.Tree.{Expr, num, applied, negation, Arg, one, many, Stmt, Stmts, MaybeStmt, nothing, block, var, assign, choice, return_, exit_, call, done, next, without, otherwise, stmts_from, Keyset, any, only, masked, Case, Transition, nowhere, to, select, ParserState, Action, Table, Local, local_action, local_table, local_register, local_const, local_var, Control, Parser, Top, constant, typedef, header_type, struct_type, register, parser, control, Program}
 use Rattle.p4_tree.specs.declared.statement.PTy.{PTy}
 use Rattle.p4_tree.specs.declared.statement.PTy.TheVariants as type
 use Rattle.p4_tree.specs.declared.program.Param.{Param}
+use Rattle.p4_parser_states.specs.Cycles.{state_names}
 use Rattle.p4_scopes.specs.Kinds.{as_number, as_value, index_want}
 use Rattle.p4_scopes.specs.Scopes.{Stands, held, cells, act, rows, function, value_kind, Scope, value, declare, kind_in, own, core}
-use Rattle.p4_scopes.specs.Uses.{reads, holds_header, holds_standard, is_table, is_action, is_state, is_algorithm, is_type, is_writable}
+use Rattle.p4_scopes.specs.Uses.{reads, holds_header, holds_standard, is_table, is_action, is_algorithm, is_type, is_writable}
 use Rattle.p4_scopes.specs.declared.kind.Kind.{Kind}
 use Rattle.p4_scopes.specs.declared.kind.Kind.TheVariants.{Truth}
 use Rattle.p4_scopes.specs.declared.thing.Thing.{Thing}
@@ -19,7 +20,7 @@ use Rattle.p4_statement_rules.specs.Forms.{Form, unknown, ill, drops, digests, s
 use Rattle.p4_statement_rules.specs.Calls.{is_known}
 use Rattle.p4_statement_rules.specs.Statements.{after}
 use Rattle.p4_declaration_rules.specs.Declarations.{with_params}
-use Rattle.p4_declaration_rules.specs.Parsers.{way_access, with_ways, with_states}
+use Rattle.p4_declaration_rules.specs.Parsers.{is_state_name, way_access, with_ways, in_states}
 use Rattle.p4_declaration_rules.specs.Controls.{after_local, in_control, after_top}
 
 -- a use of a name or a value
@@ -277,24 +278,26 @@ module _ (P : Scope → Use → Type 0) where
   KeysetUses s es (any q ∷ []) = Unit {0}
   KeysetUses s es ks = EachKeyset s es ks
 
-  abbrev pub CaseUses : Scope → List Expr → List Case → Type 0
-  CaseUses s es [] = Unit {0}
-  CaseUses s es (c ∷ cs) = KeysetUses s es c.keys × P s (named is_state (c.next ∷ [])) × CaseUses s es cs
+  -- cases go on to names of states, which are those that pass a test
+  abbrev pub CaseUses : (names : List ℕ → Bool) → Scope → List Expr → List Case → Type 0
+  CaseUses k s es [] = Unit {0}
+  CaseUses k s es (c ∷ cs) = KeysetUses s es c.keys × (k c.next ≡ true) × CaseUses k s es cs
 
-  abbrev pub TransitionUses : Scope → Transition → Type 0
-  TransitionUses s (nowhere p) = Unit {0}
-  TransitionUses s (to p x) = P s (named is_state (x ∷ []))
-  TransitionUses s (select p es cs) = AllFree s es × CaseUses s es cs
+  abbrev pub TransitionUses : (names : List ℕ → Bool) → Scope → Transition → Type 0
+  TransitionUses k s (nowhere p) = Unit {0}
+  TransitionUses k s (to p x) = k x ≡ true
+  TransitionUses k s (select p es cs) = AllFree s es × CaseUses k s es cs
 
-  abbrev pub StateUses : Scope → List ParserState → Type 0
-  StateUses s [] = Unit {0}
-  StateUses s (st ∷ sts) = BlockUses s (stmts_from st.body) × TransitionUses s st.next × StateUses s sts
+  abbrev pub StateUses : (names : List ℕ → Bool) → Scope → List ParserState → Type 0
+  StateUses k s [] = Unit {0}
+  StateUses k s (st ∷ sts) = BlockUses s (stmts_from st.body) × TransitionUses k s st.next × StateUses k s sts
 
+  -- each state goes on to a state of the parser, `accept` or `reject`, and the parser begins in one
   abbrev pub ParserUses : Scope → Parser → Type 0
   ParserUses s d =
       WayUses s d.params
-      × P (with_states (with_ways s d.params) d.states) (named is_state (codes "start" ∷ []))
-      × StateUses (with_states (with_ways s d.params) d.states) d.states
+      × (is_state_name (state_names d.states) (codes "start") ≡ true)
+      × StateUses (is_state_name (state_names d.states)) (in_states s d) d.states
 
   -- ---- programs
 

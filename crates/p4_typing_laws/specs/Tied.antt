@@ -27,7 +27,7 @@ use Rattle.p4_statement_rules.specs.Expressions.{scalar_tests}
 use Rattle.p4_statement_rules.specs.Statements.{after, stmt_tests}
 use Rattle.p4_statement_rules.specs.declared.rule.Part.{Part}
 use Rattle.p4_declaration_rules.specs.Declarations.{with_params}
-use Rattle.p4_declaration_rules.specs.Parsers.{with_ways, with_states}
+use Rattle.p4_declaration_rules.specs.Parsers.{with_ways, in_states}
 use Rattle.p4_declaration_rules.specs.Controls.{after_local, after_top}
 use Rattle.p4_rules.specs.ProgramRules.{IsWellTyped}
 use Rattle.p4_typing_laws.specs.Soundness.{kind_width}
@@ -114,7 +114,7 @@ module _ (P : Scope → meaning.Scope → Type 0) where
   ControlPlaces h m n s sc c = LocalsPlaces (with_ways s c.params) (under.in_control h m n sc c) c.locals
 
   abbrev pub ParserPlaces : Scope → meaning.Scope → Parser → Type 0
-  ParserPlaces s sc d = P (with_states (with_ways s d.params) d.states) (in_parser sc d)
+  ParserPlaces s sc d = P (in_states s d) (in_parser sc d)
 
   abbrev pub TopPlaces : Scope → meaning.Scope → Top → Type 0
   TopPlaces s sc (constant p t x e) = P s sc
