@@ -5,11 +5,10 @@ use control_file::load_control;
 use indus_types::TypedProperty;
 use indus_values::ControlValue;
 use network_file::Event;
-use schedule_file::read_schedule;
+use schedule_file::{read_schedule, table_items};
 use std::alloc::Global;
 use std::process::Abort;
 use std::test::Fail;
-use table_items::table_items;
 
 /// `s` is read twice, `d` four times, `unread` never; and `c` has no items.
 const PROPERTY: &str = "control bit<8> c; control set<bit<8>> s; tele bit<8> t; \

@@ -1,6 +1,7 @@
 //! Schedules.
 //!
-//! The layers above get `read_schedule`, which reads a value as the events of a run. `specs/Sets` says
+//! The layers above get `read_schedule`, which reads a value as the events of a run, and beside it
+//! `table_items`, which tests what the tables of control variables hold over a run. `specs/Sets` says
 //! what a member sets, `Members` what members say, `Schedule` which events a schedule has and which
 //! fault.
 //!
@@ -16,3 +17,4 @@ mod set;
 
 pub use fault::ScheduleFault;
 pub use reading::read_schedule;
+pub use table_items::{TooMany, table_items};

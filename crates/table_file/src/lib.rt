@@ -1,7 +1,8 @@
 //! Files of entries: what the tables of a network's switches hold before the first packet.
 //!
 //! The layer above gets `load_entries`, which reads a value as the tables of each switch of a
-//! network, and `states_before`, these tables before the first entry. `specs/Tables` says what a
+//! network, and `states_before`, these tables before the first entry; beside them `load_control` and
+//! `read_contents`, which read the contents of control variables. `specs/Tables` says what a
 //! file makes of the tables of one switch, `Entries` of all. Each state is one of the program's
 //! tables, so that a switch can be made of it.
 //!
@@ -11,4 +12,5 @@
 mod load;
 mod table;
 
+pub use control_file::{load_control, read_contents};
 pub use load::{load_entries, states_before};

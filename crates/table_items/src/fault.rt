@@ -7,5 +7,5 @@ use thiserror::Error;
 #[derive(Debug, Drop, Error)]
 #[error("too many table items")]
 pub struct TooMany {
-    pub switch: u32,
+    pub switch: u16,
 }

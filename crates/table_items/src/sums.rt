@@ -97,10 +97,10 @@ fn within(sums: &[u64]) -> Result<(), TooMany>
     let is_much = total(sums) > MOST_IN_ALL;
     match over {
         Some(switch) => Err(TooMany {
-            switch: switch as u32,
+            switch: switch as u16,
         }),
         None if is_much => Err(TooMany {
-            switch: sums.len() as u32,
+            switch: sums.len() as u16,
         }),
         None => Ok(()),
     }

@@ -1,0 +1,4 @@
+pub mod Actions
+pub mod Listed
+pub mod Puts
+pub mod Carries
