@@ -44,7 +44,7 @@ use Rattle.own_programs.proofs.Places.{IsPlace, place_locals}
 use Rattle.own_programs.proofs.Blocks.{block_own, and_own, all_and, emits_own, states_own}
 use Rattle.own_programs.proofs.Controls.{settings_own, settings_vars, tables_own, registers_own, actions_own, no_action_in}
 use Rattle.own_programs.proofs.Fields.{Types, types_top, core_types}
-use Rattle.own_programs.proofs.Params.{both_hold, Holds, holds_before, place_states, apply_holds, checksum_holds, deparser_holds, parser_holds}
+use Rattle.own_programs.proofs.Params.{place_ends, both_hold, Holds, holds_before, place_states, apply_holds, checksum_holds, deparser_holds, parser_holds}
 
 -- ---- registers and tables, whose names alone count
 
