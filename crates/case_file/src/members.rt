@@ -140,11 +140,7 @@ fn case_from<'a>(
 /// `Shape` exactly where a member is unknown, missing or ill-formed, with the path of the first,
 /// members in byte order of their names; else `NoMemory` alone, where memory runs out.
 #[tactic(auto, unfolding(crate::specs::Case::case_of))]
-pub fn read_case(
-    alloc: Global,
-    value: &Value,
-    needs_property: bool,
-) -> Result<Case<'_>, ShapeFault>
+pub fn read_case(alloc: Global, value: &Value, needs_property: bool) -> Result<Case<'_>, ShapeFault>
     ensures { Gives case_view result (spec.case_of needs_property (view value.now)) }
 {
     let members = Members::new(

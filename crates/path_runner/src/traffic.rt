@@ -38,12 +38,7 @@ impl Traffic {
     }
 
     /// A packet's digests at a switch go behind those so far.
-    pub fn tell(
-        &mut self,
-        packet: u32,
-        switch: u16,
-        digests: &[Digest],
-    ) -> Result<(), AllocError>
+    pub fn tell(&mut self, packet: u32, switch: u16, digests: &[Digest]) -> Result<(), AllocError>
         ensures told { OnOk result (traffic_in self.new ≡ record (traffic_in self.old) {
           told = (traffic_in self.old).told ++ told_by packet switch (map network_digest (map digest_of digests.now));
         }) }

@@ -217,7 +217,14 @@ fn members(
     ensures shapes { shapes state.new ≡ shapes state.old }
 {
     let members = in_table(Members::new(alloc, path, &["default", "entries"], value))?;
-    entries_if(alloc, value.get("entries").is_some(), place, path, &members, state)?;
+    entries_if(
+        alloc,
+        value.get("entries").is_some(),
+        place,
+        path,
+        &members,
+        state,
+    )?;
     default(alloc, place, path, &members, state)?;
     in_table(members.end(alloc))
 }
