@@ -1,6 +1,6 @@
 -- Along the declarations of a program to the control of a name. In front of it nothing is read but constants; and its
 -- parameters are of the struct of headers, of that of metadata and of the standard metadata.
-use Rattle.std.proofs.Common.{◌≡◌, ℕ, List, [], ◌∷◌, Bool, true, false, cond, ◌||◌, ◌&&◌, codes, refl, sym, ap, ◌∙◌, Option, Some, None}
+use Rattle.std.proofs.Common.{◌≡◌, ℕ, List, [], ◌∷◌, Bool, true, false, cond, ◌&&◌, codes, refl, sym, ap, ◌∙◌, Option, Some, None}
 use Rattle.lex_text.specs.Names.{same_text}
 use Rattle.rule_tests.specs.Tests.{IsFine}
 use Rattle.p4_tree.specs.declared.statement.PTy.{PTy}

@@ -21,7 +21,7 @@ use Rattle.p4_statement_rules.specs.declared.rule.Part.TheVariants as place
 use Rattle.p4_declaration_rules.specs.Digests.{most_of, most_of_default, greatest, most_of_table}
 use Rattle.p4_declaration_rules.specs.Declarations.{const_tests, typedef_tests, register_tests, params_tests, with_params, action_tests, fields_tests, bits_over, is_no_number, is_no_field}
 use Rattle.p4_declaration_rules.specs.Tables.{keys_tests, listed_tests, known_args, default_args, default_tests, table_tests}
-use Rattle.p4_declaration_rules.specs.Parsers.{is_state_name, with_state, with_ends, before_states, in_states, start_tests, way_access, with_ways, ways_tests, onto_tests, simple_tests, key_tests, keyset_tests, each_keyset, keysets_tests, cases_tests, transition_tests, with_states, states_names, state_tests, states_tests, parser_tests}
+use Rattle.p4_declaration_rules.specs.Parsers.{is_state_name, with_state, with_ends, before_states, in_states, way_access, with_ways, ways_tests, onto_tests, simple_tests, key_tests, keyset_tests, each_keyset, keysets_tests, cases_tests, transition_tests, with_states, states_names, state_tests, states_tests, parser_tests}
 use Rattle.p4_declaration_rules.specs.Controls.{action_part, declared_tests, local_tests, after_local, locals_tests, after_locals, form_emits, stmt_emits, emitted_behind, emits_tests, once_tests, in_control, control_tests, part_in, top_tests, after_top, tops_tests, after_tops}
 use Rattle.p4_rule_laws.specs.Old.{Names, OldPath, Alike, OldType, OldFields, OldExpr, OldExprs, OldStmt, OldStmts}
 use Rattle.p4_rule_laws.specs.OldPrograms.{OldKeys, OldDefault, OldTable, OldWays, OldKeyset, OldKeysets, OldCases, OldTransition, OldStates, OldParser, OldLocal, OldLocals, OldControl, OldTop, OldTops}

@@ -2,7 +2,7 @@
 use Rattle.std.proofs.Common.{◌≡◌, ℕ, List, [], ◌∷◌, ◌++◌, refl, sym, ap, ◌∙◌, arith}
 use Rattle.rule_tests.specs.Tests.{IsFine}
 use Rattle.p4_tree.specs.Tree.{Stmts, done, next, and_then, ParserState, Local, Top}
-use Rattle.p4_scopes.specs.Scopes.{Scope, parser_state, declare, add_up}
+use Rattle.p4_scopes.specs.Scopes.{Scope, add_up}
 use Rattle.p4_statement_rules.specs.Statements.{block_tests, after, after_all}
 use Rattle.p4_statement_rules.specs.declared.rule.Part.{Part}
 use Rattle.p4_declaration_rules.specs.Digests.{most_of_stmt, most_of}

@@ -14,7 +14,7 @@ use Rattle.p4_meaning.specs.Scope.{param_at, param_type}
 use Rattle.p4_meaning.specs.Parts.{parser_named, control_named, struct_fields, parser_type, parser_in}
 use Rattle.p4_parser_states.specs.Cycles.{case_targets, targets, leads, state_names, reaches_by, is_on_cycle}
 use Rattle.p4_scopes.specs.Kinds.{as_number, as_value}
-use Rattle.p4_scopes.specs.Scopes.{Stands, missing, typed, held, cells, act, rows, state, function, algorithm, other, is_missing, Scope, core, value, action, table, parser_state, declare, kind_in, own}
+use Rattle.p4_scopes.specs.Scopes.{Stands, missing, typed, held, cells, act, rows, state, function, algorithm, other, is_missing, Scope, core, value, action, table, declare, kind_in, own}
 use Rattle.p4_scopes.specs.Uses.{is_scalar, is_header}
 use Rattle.p4_scopes.specs.declared.kind.Kind.{Kind}
 use Rattle.p4_scopes.specs.declared.thing.Thing.{Thing}
@@ -28,7 +28,7 @@ use Rattle.p4_statement_rules.specs.declared.rule.Part.TheVariants as place
 use Rattle.p4_declaration_rules.specs.Digests.{most_of, most_of_default, most_of_table}
 use Rattle.p4_declaration_rules.specs.Declarations.{const_tests, typedef_tests, register_tests, params_tests, with_params, action_tests, is_no_number, is_no_field, fields_tests, header_tests, struct_tests}
 use Rattle.p4_declaration_rules.specs.Tables.{keys_tests, all_key_kinds, has_key_kind, has_two_prefixes, ill_matched, listed_tests, known_args, default_args, default_tests, table_tests}
-use Rattle.p4_declaration_rules.specs.Parsers.{is_state_name, with_state, before_states, in_states, way_access, with_ways, ways_tests, onto_tests, simple_tests, key_tests, keyset_tests, each_keyset, keysets_tests, cases_tests, transition_tests, with_states, states_names, state_tests, states_tests, parser_tests}
+use Rattle.p4_declaration_rules.specs.Parsers.{is_state_name, with_state, before_states, in_states, way_access, with_ways, ways_tests, simple_tests, key_tests, keyset_tests, each_keyset, keysets_tests, cases_tests, transition_tests, with_states, states_names, state_tests, states_tests, parser_tests}
 use Rattle.p4_declaration_rules.specs.Controls.{action_part, declared_tests, local_tests, after_local, locals_tests, after_locals, some_path, arg_path, form_emits, stmt_emits, emit_at, emit_tests, emitted_behind, emits_tests, once_tests, in_control, control_tests, part_in, top_tests, after_top, tops_tests, most_of_part, most_of_top, most_of_tops}
 use Rattle.p4_declaration_rules.specs.Firsts.{top_name, first_top, first_tops}
 use Rattle.p4_rules.specs.Mains.{leaves_out, leaves_some_out, has_controls, names_parts, Wanted, core_type, headers, metadata, is_wanted, parser_wants, checksum_wants, apply_wants, deparser_wants, is_struct_of, Structs, structs_of, wanted_tests, parser_params, control_params, parts_params, main_tests}

@@ -12,7 +12,7 @@ use Rattle.p4_tree.specs.declared.statement.PTy.TheVariants as type
 use Rattle.p4_tree.specs.declared.program.Param.{Param}
 use Rattle.p4_meaning.specs.Scope.{param_at, param_type, type_name}
 use Rattle.p4_meaning.specs.Parts.{parser_named, struct_fields, parser_type, parser_in}
-use Rattle.p4_scopes.specs.Scopes.{Scope, core, thing_in, Stands, missing, typed, act, function, state, other}
+use Rattle.p4_scopes.specs.Scopes.{Scope, core, thing_in, Stands, missing, typed, act, function, other}
 use Rattle.p4_scopes.specs.Uses.{is_scalar, is_header}
 use Rattle.p4_scopes.specs.declared.thing.Thing.{Thing}
 use Rattle.p4_scopes.specs.declared.thing.Thing.TheVariants.{Struct, Standard, PacketIn, PacketOut}

@@ -1,7 +1,7 @@
 -- Programs that are made of others: new declarations, fields and local declarations, other bodies and other states. `s` is
 -- the scope of the given part, `t` that of what is made of it, and old names are those of the given program. Read `Old`,
 -- `OldPrograms` and `Kept` before it and `Entered` after it.
-use Rattle.std.specs.Prelude.{◌≡◌, ℕ, List, [], ◌∷◌, ◌++◌, Bool, true, false, ◌||◌, codes}
+use Rattle.std.specs.Prelude.{◌≡◌, ℕ, List, [], ◌∷◌, ◌++◌, Bool, true, false, ◌||◌}
 use Rattle.lex_text.specs.Names.{same_text}
 use Rattle.rule_tests.specs.Tests.{IsFine}
 use Rattle.p4_tree.specs.Tree.{Stmts, ParserState, Action, Local, Control, Parser, Top, struct_type, parser, control, Program}

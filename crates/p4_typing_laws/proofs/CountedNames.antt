@@ -1,6 +1,6 @@
 -- What the names in sight count, along the declarations of a program: an action at most what its body counts, a table at
 -- most what its actions and its default count.
-use Rattle.std.proofs.Common.{◌≡◌, ◌⊎◌, inl, inr, ℕ, List, [], ◌∷◌, Bool, true, false, cond, ◌||◌, codes, refl, sym, ap, ◌∙◌, subst}
+use Rattle.std.proofs.Common.{◌≡◌, ◌⊎◌, inl, inr, ℕ, List, [], ◌∷◌, Bool, true, false, cond, codes, refl, sym, ap, ◌∙◌, subst}
 use Rattle.lex_text.specs.Names.{same_text}
 use Rattle.p4_tree.specs.declared.statement.PTy.{PTy}
 use Rattle.p4_scopes.specs.Scopes.{Stands, missing, typed, held, cells, act, rows, state, function, algorithm, other, is_missing, Scope, What, behind, declare, action, table, core_name, core}
