@@ -59,7 +59,7 @@ avoids_expr (negation p a) o = avoids_expr a o
 avoids_expr (inversion p a) o = avoids_expr a o
 avoids_expr (opposite p a) o = avoids_expr a o
 avoids_expr (binary p op a b) o = (avoids_expr a o.0, avoids_expr b o.1)
-avoids_expr (conditional p c a b) o = (avoids_expr c o.0, (avoids_expr a o.1, avoids_expr b o.2))
+avoids_expr (conditional p c a b) o = (avoids_expr c o.0, avoids_expr a o.1, avoids_expr b o.2)
 avoids_expr (slice p a h l) o = avoids_expr a o
 avoids_expr (cast p t a) o = avoids_expr a o
 

@@ -48,7 +48,7 @@ module _ (hides : List ℕ → Bool) (sc sd : Scope) (h : Agree hides sc sd) whe
   exprs (inversion p a) o = ap (inversion p) (exprs a o)
   exprs (opposite p a) o = ap (opposite p) (exprs a o)
   exprs (binary p op a b) o = ap₂ (binary p op) (exprs a o.0) (exprs b o.1)
-  exprs (conditional p t a b) o = λ i. conditional p (exprs t o.0 i) (exprs a o.1.0 i) (exprs b o.1.1 i)
+  exprs (conditional p t a b) o = λ i. conditional p (exprs t o.0 i) (exprs a o.1 i) (exprs b o.2 i)
   exprs (slice p a high low) o = ap (λ a. slice p a high low) (exprs a o)
   exprs (cast p ty a) o = ap (cast p ty) (exprs a o)
 

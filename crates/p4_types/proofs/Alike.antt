@@ -42,7 +42,7 @@ module _ (s t : Store) where
   width_alike (inversion p x) r = width_alike x r
   width_alike (opposite p x) r = width_alike x r
   width_alike (binary p op x y) r = ap₂ (own_of (class_of op)) (width_alike x r.0) (width_alike y r.1)
-  width_alike (conditional p c x y) r = ap₂ either_width (width_alike x r.1.0) (width_alike y r.1.1)
+  width_alike (conditional p c x y) r = ap₂ either_width (width_alike x r.1) (width_alike y r.2)
   width_alike (slice p x i j) r = refl
   width_alike (cast p ty x) r = refl
 
@@ -75,9 +75,9 @@ module _ (s t : Store) where
   value_alike (conditional p c x y) w r =
       let m = either_width (either_width (own_width x t) (own_width y t)) w in
       let n = either_width (either_width (own_width x s) (own_width y s)) w in
-      let same : n ≡ m = ap₂ (λ i j. either_width (either_width i j) w) (width_alike x r.1.0) (width_alike y r.1.1) in
-      let then_x = at_width (λ v. v) (λ i. value_of x i s) m n _ same (value_alike x m r.1.0) in
-      let else_y = at_width (λ v. v) (λ i. value_of y i s) m n _ same (value_alike y m r.1.1) in
+      let same : n ≡ m = ap₂ (λ i j. either_width (either_width i j) w) (width_alike x r.1) (width_alike y r.2) in
+      let then_x = at_width (λ v. v) (λ i. value_of x i s) m n _ same (value_alike x m r.1) in
+      let else_y = at_width (λ v. v) (λ i. value_of y i s) m n _ same (value_alike y m r.2) in
       ap (λ v. cond (holds v) (cast_word (sound_width n) (value_of x n s)) (cast_word (sound_width n) (value_of y n s))) (value_alike c 1 r.0)
       ∙ ap₂ (cond (holds (value_of c 1 t))) then_x else_y
   value_alike (slice p x i j) w r = ap (sliced _ j) (value_alike x 0 r)
