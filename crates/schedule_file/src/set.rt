@@ -70,7 +70,7 @@ fn setting_to(
     variable: Variable<'_>,
 ) -> Result<Setting, TableFault>
     ensures { Gives set_view result
-        (sets.setting_to (object_seen members.now) switch (view value.now) (variable_view variable)) }
+        (sets.setting_to (object_seen members.now) switch (view value.now) (variable_view variable.entry)) }
 {
     let contents = read_contents(alloc, "/set/value", value, variable.decl)?;
     in_table(members.text(alloc, "variable"))?;
@@ -98,7 +98,7 @@ fn setting_by(
     network: &Network,
 ) -> Result<Setting, TableFault>
     ensures { Gives set_view result
-        (sets.setting_by network.now.names (object_seen members.now) (option_map variable_view named)) }
+        (sets.setting_by network.now.names (object_seen members.now) (option_map variable_view named.entry)) }
 {
     let switch = switch(alloc, members, network)?;
     let value = value(alloc, members)?;
