@@ -1,6 +1,6 @@
 -- What `forward` reads, in order, and what each file gives. Read `Packets`, and `Files` of program_course, network_course,
 -- table_course and capture_course, before it.
-use Rattle.std.specs.Prelude.{ℕ, List, length, map, None}
+use Rattle.std.specs.Prelude.{false, ℕ, List, length, map, None}
 use Rattle.p4_tree.specs.Tree.{Program}
 use Rattle.p4_rules.specs.Limits.{cells}
 use Rattle.indus_tree.specs.State.{Contents}
