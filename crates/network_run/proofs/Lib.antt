@@ -1,7 +1,6 @@
 pub mod Numbers
 pub mod Places
 pub mod Links
-pub mod Same
 pub mod Ends
 pub mod Hops
 pub mod Counts

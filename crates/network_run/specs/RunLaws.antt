@@ -1,16 +1,6 @@
 -- The words in which the small laws of the run are stated.
-use Rattle.std.specs.Prelude.{◌≡◌, ℕ, ◌+◌, ◌<◌, List, map}
-use Rattle.network_run.specs.Machine.{Machine}
+use Rattle.std.specs.Prelude.{ℕ, ◌+◌, ◌<◌, List, map}
 use Rattle.network_run.specs.Network.{Place, Flying, Waiting, Over, Net, times}
-
--- both machines begin alike, and their halves and updates give the same
-pub record SameHalves {E S Q C : Type 0} (m n : Machine E S Q C) : Type 0 where
-  pub start : (s : ℕ) (e : E) (contents : ℕ → C) → n.start s e contents ≡ m.start s e contents
-  pub enter :
-      (s : ℕ) (a : S) (port : ℕ) (frame : List ℕ) →
-      n.enter s a port frame ≡ m.enter s a port frame
-  pub leave : (s : ℕ) (a : S) (q : Q) → n.leave s a q ≡ m.leave s a q
-  pub set : (s : ℕ) (a : S) (v : ℕ) (c : C) → n.set s a v c ≡ m.set s a v c
 
 -- the packet is at its end
 abbrev pub IsOver : {Q : Type 0} → Place Q → Type 0

@@ -8,18 +8,7 @@ ghost use Rattle.network_run.specs.NetworkRun.{Limits, happens, run_of_halves, r
 ghost use Rattle.network_run.specs.PathMeaning.{Property, Path};
 ghost use Rattle.network_run.specs.World.{World, net_after, net_at_end};
 ghost use Rattle.network_run.specs.Hop.{DropIsHop, PassageIsHop};
-ghost use Rattle.network_run.specs.RunLaws.{SameHalves, IsOver, NoneWaits, AllHavePassedFewer, times_ended};
-
-/// Two machines whose halves give the same have the same runs: over every list of events, and in
-/// every world.
-pub fn equal_halves_give_equal_runs<Entries, Kept, Queued, Contents>()
-    ensures events { (m n : Machine Entries Kept Queued Contents) (net : Wiring) (limits : Limits)
-        (w : Net Kept Queued Contents) (es : List (Event Contents)) →
-        SameHalves m n → run_of_halves n net limits w es ≡ run_of_halves m net limits w es }
-    ensures worlds { (m n : Machine Entries Kept Queued Contents) (net : Wiring) (telemetry : ℕ)
-        (w : World Entries Contents) (k : ℕ) →
-        SameHalves m n → net_after n net telemetry w k ≡ net_after m net telemetry w k }
-{}
+ghost use Rattle.network_run.specs.RunLaws.{IsOver, NoneWaits, AllHavePassedFewer, times_ended};
 
 /// An event of a packet in another place changes nothing: an exit half of a packet in flight, an
 /// entry half of a queued packet, and both of a packet that is at its end.

@@ -17,6 +17,5 @@ mod laws;
 
 pub use laws::{
     a_passage_is_a_hop, closing_ends_every_packet, each_packet_ends_once,
-    equal_halves_give_equal_runs, other_places_change_nothing, passed_stays_below_the_limit,
-    whole_hops_are_half_hops,
+    other_places_change_nothing, passed_stays_below_the_limit, whole_hops_are_half_hops,
 };
