@@ -2,5 +2,6 @@
 pub mod Paths
 pub mod Headers
 pub mod PartsIn
+pub mod Slots
 -- What serves the proof.
 pub mod Locals

@@ -20,7 +20,7 @@ use p4_tree::{PTy, Program};
 use std::alloc::{AllocError, Global};
 
 /// The fields of the struct that is the type of a parameter of the parser.
-fn struct_at(p: &Program, n: u8) -> &[(PTy, Name)]
+pub(crate) fn struct_at(p: &Program, n: u8) -> &[(PTy, Name)]
     ensures { result.now ≡ meaning.struct_fields (program_of p.now).tops (meaning.parser_type (meaning.parser_in (program_of p.now)) n) }
 {
     struct_fields(&p.tops, parser_type(parser_in(p), n))
