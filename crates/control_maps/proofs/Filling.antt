@@ -6,7 +6,6 @@ use Rattle.std.proofs.lemmas.Bool.Decides.{eqb_tells}
 use Rattle.p4_meaning.specs.Parts.{Parts}
 use Rattle.p4_tables.specs.State.{Held, held_at, entries_in, with_listed, replaced}
 use Rattle.p4_tables.specs.Faults.{IsReplaceable}
-use Rattle.p4_tables.specs.Programs.{shapes}
 use Rattle.p4_tables.proofs.Changed.{replaced_shapes}
 use Rattle.p4_tables.proofs.Sound.{entries_set}
 use Rattle.indus_tree.specs.State.{Contents}

@@ -9,7 +9,7 @@ use Rattle.p4_meaning.specs.Choice as choice
 use Rattle.p4_meaning.specs.Tables.{Table, Chosen, Entries, Tables}
 use Rattle.p4_meaning.specs.Parts.{Parts}
 use Rattle.p4_typing_laws.proofs.CallCounts.{text_is}
-use Rattle.table_entries.specs.Entries.{Entry, named}
+use Rattle.table_entries.specs.Entries.{named}
 use Rattle.p4_tables.specs.State.{Held, held_at, replaced}
 use Rattle.p4_tables.specs.Named.{action_name, entries_named, tables_in, table_place}
 use Rattle.p4_tables.specs.Programs.{shapes}
