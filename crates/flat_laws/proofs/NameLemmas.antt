@@ -22,7 +22,7 @@ pub not_same : (p q : List ℕ) → same_text p q ≡ false → p ≡ q → ⊥
 not_same p q e h = let one : true ≡ false = sym ((bytes_eq-Decides p q).1 h) ∙ e in cc
 
 -- each byte is below the marks of numbered names
-abbrev AllLow : List ℕ → Type 0
+abbrev pub AllLow : List ℕ → Type 0
 AllLow [] = Unit {0}
 AllLow (b ∷ bs) = (48 ≤ b) × (b < 58) × AllLow bs
 
@@ -30,14 +30,16 @@ low-snoc : (bs : List ℕ) (b : ℕ) → AllLow bs → 48 ≤ b → b < 58 → A
 low-snoc [] b h le lt = (le, lt, tt)
 low-snoc (c ∷ bs) b h le lt = (h.0, h.1, low-snoc bs b h.2 le lt)
 
-low_digits : (n : ℕ) → n < 2 ^ 64 → AllLow (decimal n)
+-- a number's decimal text has digits alone
+pub low_digits : (n : ℕ) → n < 2 ^ 64 → AllLow (decimal n)
 low_digits n lt =
     decimal_by_steps (λ k ds. AllLow ds)
     (λ k small. (omega arith, omega arith, tt))
     (λ k ds big h. low-snoc ds (48 + k % 10) h (omega arith) (omega arith))
     n lt
 
-decimal-inj : (n m : ℕ) → n < 2 ^ 64 → m < 2 ^ 64 → decimal n ≡ decimal m → n ≡ m
+-- numbers with one decimal text are equal
+pub decimal-inj : (n m : ℕ) → n < 2 ^ 64 → m < 2 ^ 64 → decimal n ≡ decimal m → n ≡ m
 decimal-inj n m ln lm e = sym (decimal_is_IsNumeral n ln).1 ∙ ap (digits_value 10) e ∙ (decimal_is_IsNumeral m lm).1
 
 split_at_mark : (a b r s : List ℕ) → AllLow a → AllLow b → a ++ 95 ∷ r ≡ b ++ 95 ∷ s → (a ≡ b) × (r ≡ s)

@@ -38,15 +38,16 @@ not_true false e = absurd (let c : true ≡ false = e in cc)
 -- ---- declarations
 
 -- no rule is broken at the declaration
-record IsFineDecl (d : Decl) : Type 0 where
-  before : List Decl
-  fine : (r : Rule) → broken r (at_decl before d) ≡ false
+pub record IsFineDecl (d : Decl) : Type 0 where
+  pub before : List Decl
+  pub fine : (r : Rule) → broken r (at_decl before d) ≡ false
 
 fine_step : (b : Bool) (v d : Decl) (o : Option Decl) → IsFineDecl v → (o ≡ Some d → IsFineDecl d) → cond b (Some v) o ≡ Some d → IsFineDecl d
 fine_step true v d o f rest e = let same : v ≡ d = cc in subst IsFineDecl same f
 fine_step false v d o f rest e = rest e
 
-fine_decl : (ds before : List Decl) (x : List ℕ) (d : Decl) → Fine (decl_sites before ds) → lookup ds x ≡ Some d → IsFineDecl d
+-- a declaration that is found breaks no rule
+pub fine_decl : (ds before : List Decl) (x : List ℕ) (d : Decl) → Fine (decl_sites before ds) → lookup ds x ≡ Some d → IsFineDecl d
 fine_decl [] before x d f e = absurd (cc e)
 fine_decl (v ∷ vs) before x d f e = fine_step (same_text v.name x) v d (lookup vs x) (record { before = before; fine = f.0.0 }) (fine_decl vs (before ++ v ∷ []) x d f.1) e
 

@@ -31,10 +31,12 @@ fn bad_width(t: Ty) -> bool
 fn bad_widths(types: &[Ty]) -> bool
     ensures { result ≡ bad_widths types.now }
 {
-    match types {
-        [] => false,
-        [t, types @ ..] => bad_width(*t) || bad_widths(types),
+    for t in types {
+        if bad_width(*t) {
+            return true;
+        }
     }
+    false
 }
 
 fn bad_shape(s: &Shape) -> bool

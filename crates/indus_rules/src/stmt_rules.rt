@@ -30,10 +30,12 @@ fn is_check(b: Block) -> bool
 fn any_missing(scope: &Scope, lists: &[Name]) -> bool
     ensures { result ≡ any_missing (scope_of scope.now) lists.now }
 {
-    match lists {
-        [] => false,
-        [x, lists @ ..] => is_missing(&scope.role(x)) || any_missing(scope, lists),
+    for x in lists {
+        if is_missing(&scope.role(x)) {
+            return true;
+        }
     }
+    false
 }
 
 fn sets_missing(scope: &Scope, s: &Stmt) -> bool
@@ -51,10 +53,12 @@ fn sets_missing(scope: &Scope, s: &Stmt) -> bool
 fn all_count(scope: &Scope, lists: &[Name]) -> bool
     ensures { result ≡ all_count (scope_of scope.now) lists.now }
 {
-    match lists {
-        [] => true,
-        [x, lists @ ..] => counts(&scope.role(x)) && all_count(scope, lists),
+    for x in lists {
+        if !counts(&scope.role(x)) {
+            return false;
+        }
     }
+    true
 }
 
 fn paired(names: &[Name], lists: &[Name]) -> bool
@@ -72,16 +76,7 @@ fn paired(names: &[Name], lists: &[Name]) -> bool
 fn same_count(names: &[Name], lists: &[Name]) -> bool
     ensures { result ≡ same_count names.now lists.now }
 {
-    match names {
-        [] => match lists {
-            [] => true,
-            [_l, _lists @ ..] => false,
-        },
-        [_n, names @ ..] => match lists {
-            [] => false,
-            [_l, lists @ ..] => same_count(names, lists),
-        },
-    }
+    names.len() == lists.len()
 }
 
 fn ill_set(scope: &Scope, s: &Stmt) -> bool
@@ -119,19 +114,23 @@ fn answers_early(scope: &Scope, s: &Stmt) -> bool
 fn among(names: &[Name], x: &Name) -> bool
     ensures { result ≡ among names.now x.now }
 {
-    match names {
-        [] => false,
-        [y, names @ ..] => same(y, x) || among(names, x),
+    for y in names {
+        if same(y, x) {
+            return true;
+        }
     }
+    false
 }
 
 fn walked(loops: &[Loop], x: &Name) -> bool
     ensures { result ≡ walked (map loop_of loops.now) x.now }
 {
-    match loops {
-        [] => false,
-        [l, loops @ ..] => among(l.lists, x) || walked(loops, x),
+    for l in loops {
+        if among(l.lists, x) {
+            return true;
+        }
     }
+    false
 }
 
 fn pushes_walked(scope: &Scope, s: &Stmt) -> bool

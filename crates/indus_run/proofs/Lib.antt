@@ -1,3 +1,5 @@
 pub mod ReportLemmas
 pub mod RunLemmas
 pub mod HopLemmas
+pub mod Shortest
+pub mod Named

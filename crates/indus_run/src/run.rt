@@ -190,13 +190,14 @@ fn push_item(
 fn shortest(lists: &[Vec<Bits>]) -> usize
     ensures { result ≡ shortest (map cells_of lists.now) }
 {
-    match lists {
-        [] => 0,
-        [l, rest @ ..] => match rest {
-            [] => l.len(),
-            [_m, _rest @ ..] => l.len().min(shortest(rest)),
-        },
+    let mut least: Option<usize> = None;
+    for list in lists {
+        least = Some(match least {
+            None => list.len(),
+            Some(n) => n.min(list.len()),
+        });
     }
+    least.unwrap_or(0)
 }
 
 /// The items of a turn, one of each list.
@@ -270,16 +271,10 @@ fn add_named(
 ) -> Result<(), AllocError>
     ensures { OnOk result (all.new.items ≡ all.old.items ++ named names.now words.now) }
 {
-    match names {
-        [] => Ok(()),
-        [x, names @ ..] => match words {
-            [] => Ok(()),
-            [w, words @ ..] => {
-                all.push((x.copy(alloc)?, *w))?;
-                add_named(alloc, names, words, all)
-            }
-        },
+    for (x, w) in names.iter().zip(words) {
+        all.push((x.copy(alloc)?, *w))?;
     }
+    Ok(())
 }
 
 /// The items of the loops around, and behind them those of a turn.

@@ -1,3 +1,4 @@
 pub mod Names
 pub mod ItemNames
 pub mod Entering
+pub mod Lengths

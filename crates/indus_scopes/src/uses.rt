@@ -30,16 +30,7 @@ pub fn is_hop(r: &Role) -> bool
 fn as_many(keys: &[Expr], types: &[Ty]) -> bool
     ensures { result ≡ as_many (exprs_of keys.now) types.now }
 {
-    match keys {
-        [] => match types {
-            [] => true,
-            [_t, _types @ ..] => false,
-        },
-        [_k, keys @ ..] => match types {
-            [] => false,
-            [_t, types @ ..] => as_many(keys, types),
-        },
-    }
+    keys.len() == types.len()
 }
 
 fn is_one(keys: &[Expr]) -> bool

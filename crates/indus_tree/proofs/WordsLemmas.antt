@@ -62,7 +62,8 @@ module _ (w : ℕ) (x y : Word) where
   of_width : (n : ℕ) → n < 2 ^ sound_width w → IsWord (word (sound_width w) n)
   of_width n lt = record { wide = (sound_wide w).wide; narrow = (sound_wide w).narrow; in_range = lt }
 
-operated : (op : Op) (v u w : ℕ) (x y : Word) → IsWord (operate op (cast_word (sound_width (left_place (class_of op) v u w)) x) (cast_word (sound_width (right_place (class_of op) v u w)) y))
+-- what an operator makes of operands that were cast for it
+pub operated : (op : Op) (v u w : ℕ) (x y : Word) → IsWord (operate op (cast_word (sound_width (left_place (class_of op) v u w)) x) (cast_word (sound_width (right_place (class_of op) v u w)) y))
 operated Mul v u w x y = let k = either_width (either_width v u) w in of_width k x y _ (both k x y).product
 operated Add v u w x y = let k = either_width (either_width v u) w in of_width k x y _ (both k x y).sum
 operated Sub v u w x y = let k = either_width (either_width v u) w in of_width k x y _ (both k x y).difference
@@ -132,28 +133,28 @@ item_is_word (i ∷ is) x w all k =
     first_or (same_text i.0 x) i.1 (item_in is x) w (All-head (λ (j : List ℕ × Word). IsWord j.1) i is all) (item_is_word is x w (All-tail (λ (j : List ℕ × Word). IsWord j.1) i is all) k)
 
 module _ (s : Seen) (sees : SeesWords s) where
-  kind_is_word : (k : DeclKind) (x : List ℕ) (w : ℕ) → IsWord (word_by_kind k s x w)
-  kind_is_word Tele x w = scalar_is_word (s.tele x) w (sees.tele x)
-  kind_is_word Sensor x w = scalar_is_word (s.sensors x) w (sees.sensors x)
-  kind_is_word Header x w = sees.headers x
-  kind_is_word Control x w = single_is_word (s.hop.contents x) w (sees.contents x)
+  kind_is_word : (k : DeclKind) (d : Decl) (x : List ℕ) → lookup s.hop.decls x ≡ Some d → d.kind ≡ k → IsWord (word_by_kind k s x (held_width (Some d)))
+  kind_is_word Tele d x e k = scalar_is_word (s.tele x) (held_width (Some d)) (sees.tele x d e k)
+  kind_is_word Sensor d x e k = scalar_is_word (s.sensors x) (held_width (Some d)) (sees.sensors x d e k)
+  kind_is_word Header d x e k = sees.headers x d e k
+  kind_is_word Control d x e k = single_is_word (s.hop.contents x) (held_width (Some d)) (sees.contents x d e k)
 
-  variable_is_word : (o : Option Decl) (x : List ℕ) → IsWord (variable_word s x o)
-  variable_is_word None x = built_in_is_word s.hop x
-  variable_is_word (Some d) x = kind_is_word d.kind x (held_width (Some d))
+  variable_is_word : (o : Option Decl) (x : List ℕ) → lookup s.hop.decls x ≡ o → IsWord (variable_word s x o)
+  variable_is_word None x e = built_in_is_word s.hop x
+  variable_is_word (Some d) x e = kind_is_word d.kind d x e refl
 
   name_is_word : (x : List ℕ) → IsWord (name_word s x)
-  name_is_word x = item_is_word s.items x (variable_word s x (lookup s.hop.decls x)) sees.items (variable_is_word (lookup s.hop.decls x) x)
+  name_is_word x = item_is_word s.items x (variable_word s x (lookup s.hop.decls x)) sees.items (variable_is_word (lookup s.hop.decls x) x refl)
 
-  key_kind_is_word : (k : DeclKind) (x : List ℕ) (ks : List Word) (w : ℕ) → IsWord (at_key_by_kind k s x ks w)
-  key_kind_is_word Tele x ks w = nothing_is_word w
-  key_kind_is_word Sensor x ks w = cell_is_word (s.sensors x) ks w (sees.sensors x)
-  key_kind_is_word Header x ks w = nothing_is_word w
-  key_kind_is_word Control x ks w = found_in_is_word (s.hop.contents x) ks w (sees.contents x)
+  key_kind_is_word : (k : DeclKind) (d : Decl) (x : List ℕ) (ks : List Word) → lookup s.hop.decls x ≡ Some d → d.kind ≡ k → IsWord (at_key_by_kind k s x ks (held_width (Some d)))
+  key_kind_is_word Tele d x ks e k = nothing_is_word (held_width (Some d))
+  key_kind_is_word Sensor d x ks e k = cell_is_word (s.sensors x) ks (held_width (Some d)) (sees.sensors x d e k)
+  key_kind_is_word Header d x ks e k = nothing_is_word (held_width (Some d))
+  key_kind_is_word Control d x ks e k = found_in_is_word (s.hop.contents x) ks (held_width (Some d)) (sees.contents x d e k)
 
-  key_is_word : (o : Option Decl) (x : List ℕ) (ks : List Word) → IsWord (at_key s x o ks)
-  key_is_word None x ks = nothing_is_word 0
-  key_is_word (Some d) x ks = key_kind_is_word d.kind x ks (held_width (Some d))
+  key_is_word : (o : Option Decl) (x : List ℕ) (ks : List Word) → lookup s.hop.decls x ≡ o → IsWord (at_key s x o ks)
+  key_is_word None x ks e = nothing_is_word 0
+  key_is_word (Some d) x ks e = key_kind_is_word d.kind d x ks e refl
 
   -- ---- expressions
 
@@ -162,7 +163,7 @@ module _ (s : Seen) (sees : SeesWords s) where
   value_word (flag p b) w = bit_is_word b
   value_word (read p x) w = name_is_word x
   value_word (count p x) w = cast_is_word 8 (word 8 (length (s.tele x)))
-  value_word (index p x es) w = key_is_word (lookup s.hop.decls x) x (key_of s es (widths_for index_widths (lookup s.hop.decls x)))
+  value_word (index p x es) w = key_is_word (lookup s.hop.decls x) x (key_of s es (widths_for index_widths (lookup s.hop.decls x))) refl
   value_word (member p es x) w = bit_is_word _
   value_word (negation p a) w = bit_is_word _
   value_word (inversion p a) w = inverted_is_word (value_of s a w) (value_word a w)

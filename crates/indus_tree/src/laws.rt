@@ -13,8 +13,8 @@ ghost use Rattle.indus_tree.specs.Shapes.{AreShaped};
 ghost use Rattle.indus_tree.specs.Value.{value_of};
 ghost use Rattle.indus_tree.specs.Words.{SeesWords};
 
-/// The value of an expression that sees words is a word: of 1 to 128 bits, and in range. This also
-/// holds of an expression that breaks a rule of types.
+/// The value of an expression that sees words in items and declared variables is a word: of 1 to 128
+/// bits, and in range. This also holds of an expression that breaks a rule of types.
 pub fn values_are_words()
     ensures { (s : Seen) (e : Expr) (w : ℕ) → SeesWords s → IsWord (value_of s e w) }
 {}

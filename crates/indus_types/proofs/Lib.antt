@@ -11,3 +11,4 @@ pub mod SeenWidths
 pub mod ShownWidths
 pub mod ValueWidths
 pub mod Served
+pub mod Smallest

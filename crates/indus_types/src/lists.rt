@@ -38,11 +38,12 @@ pub fn is_list(decls: &Declared, name: &Name) -> bool
 pub fn smallest(decls: &Declared, lists: &[Name]) -> u8
     ensures { result ≡ smallest (map decl_of decls.now.decls.now) lists.now }
 {
-    match lists {
-        [] => 0,
-        [x, rest @ ..] => match rest {
-            [] => size_of(decls, x),
-            [_y, _rest @ ..] => size_of(decls, x).min(smallest(decls, rest)),
-        },
+    let mut least: Option<u8> = None;
+    for x in lists {
+        least = Some(match least {
+            None => size_of(decls, x),
+            Some(n) => n.min(size_of(decls, x)),
+        });
     }
+    least.unwrap_or(0)
 }

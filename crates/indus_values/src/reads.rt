@@ -137,15 +137,22 @@ pub fn name_word(
 fn same_words(a: &[Bits], b: &[Bits]) -> bool
     ensures { result ≡ same_words a.now b.now }
 {
-    match a {
-        [] => match b {
-            [] => true,
-            [_y, _rest @ ..] => false,
-        },
-        [x, a @ ..] => match b {
-            [] => false,
-            [y, b @ ..] => x.value == y.value && same_words(a, b),
-        },
+    let mut left = a;
+    let mut right = b;
+    loop {
+        match left {
+            [] => return right.is_empty(),
+            [x, more @ ..] => match right {
+                [] => return false,
+                [y, others @ ..] => {
+                    if x.value != y.value {
+                        return false;
+                    }
+                    left = more;
+                    right = others;
+                }
+            },
+        }
     }
 }
 

@@ -189,13 +189,14 @@ pub fn distinct(alloc: Global, numbers: &[usize]) -> Result<Vec<usize>, AllocErr
 pub fn smallest(typed: &TypedProperty, lists: &[Name]) -> u8
     ensures { result ≡ smallest (property_of typed.now).decls lists.now }
 {
-    match lists {
-        [] => 0,
-        [x, rest @ ..] => match rest {
-            [] => size_of(typed, x),
-            [_y, _rest @ ..] => size_of(typed, x).min(smallest(typed, rest)),
-        },
+    let mut least: Option<u8> = None;
+    for x in lists {
+        least = Some(match least {
+            None => size_of(typed, x),
+            Some(n) => n.min(size_of(typed, x)),
+        });
     }
+    least.unwrap_or(0)
 }
 
 /// The size of a list, and 0 where the name is of none.

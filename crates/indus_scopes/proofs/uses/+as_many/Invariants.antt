@@ -1,5 +1,0 @@
-use Rattle.std.proofs.Common.{length}
-use Rattle.indus_scopes.proofs.uses.+as_many.Given as goal
-
-abbrev pub decreases-as_many : goal.decreases-as_many
-decreases-as_many l = length l.keys.now
