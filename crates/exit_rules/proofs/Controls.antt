@@ -18,7 +18,7 @@ use Rattle.p4_rule_laws.specs.Guards.{IsFlag}
 use Rattle.p4_rule_laws.specs.Growth.{BodyGrows, LocalsGrow, new_local, control_with}
 use Rattle.p4_rule_laws.proofs.AlikeScopes.{alike_self}
 use Rattle.p4_rule_laws.proofs.BodiesGrow.{same_body}
-use Rattle.p4_rule_laws.proofs.GrowthLemmas.{locals_grow, control_grows}
+use Rattle.p4_rule_laws.proofs.GrowthLemmas.{locals_grow, same_params, control_grows}
 use Rattle.p4_rule_laws.proofs.GuardLemmas.{not_true, flag_declared}
 use Rattle.p4_rule_laws.proofs.KeepsLemmas.{keeps_self, undeclared}
 use Rattle.exit_statements.specs.Without.{in_control as of_control, Exits, stmts_leave, stmts_without}
@@ -113,7 +113,7 @@ module _ (old : Names) (left_new : old flags.left ≡ false) (returned_new : old
   abbrev body : Stmts
   body = stmts_without flags (exits_at m c) of_control false c.apply
 
-  apply_fine : (h : Part) → takes_any h ≡ true → (b : Bool) → control_leaves m c ≡ b → BodyGrows old h (in_control s c) (in_control s (control_with c (with_flag b (map local_without c.locals)) body)) c.apply body
+  apply_fine : (h : Part) → takes_any h ≡ true → (b : Bool) → control_leaves m c ≡ b → BodyGrows old h (in_control s c) (in_control s (control_with c c.params (with_flag b (map local_without c.locals)) body)) c.apply body
   apply_fine h k true e =
       let t : Scope = after_locals (declare v flags.left flag_what) (map local_without c.locals) in
       let g : IsFlag t flags.left = left_locals old flags.left left_new (declare v flags.left flag_what) c.locals o.locals ∙ flag_declared v flags.left in
@@ -127,7 +127,7 @@ module _ (old : Names) (left_new : old flags.left ≡ false) (returned_new : old
       subst P (sym (stmts_same flags (exits_at m c) of_control c.apply (or_left (stmts_leave (exits_at m c) c.apply) (list_any local_exits c.locals) e))) (same_body old h (in_control s c) t c.apply o.apply)
 
   any_fine : (h : Part) → takes_any h ≡ true → IsFine (control_tests h s c) → IsFine (control_tests h s (control_without m c))
-  any_fine h k f = control_grows old h s s c (with_flag (control_leaves m c) (map local_without c.locals)) body o.name o.params (locals_fine h k) (λ e. apply_fine h k (control_leaves m c) refl) (alike_self old s) f
+  any_fine h k f = control_grows old h s s c c.params (with_flag (control_leaves m c) (map local_without c.locals)) body o.name (same_params old s s c.params o.params) (locals_fine h k) (λ e. apply_fine h k (control_leaves m c) refl) (alike_self old s) f
 
   either_fine : (h : Part) → IsEither h → HasOwnSums s → IsFine (control_tests h s c) → IsFine (control_tests h s (control_without m c))
   either_fine h (inr k) w f = any_fine h k f

@@ -117,7 +117,7 @@ module _ (old : Names) (left_new : old flags.left ≡ false) (returned_new : old
             (ap is_missing (left_params old flags.returned returned_new t a.params o.0.1) ∙ free)
             (λ e. left_params old flags.left left_new t a.params o.0.1 ∙ i (or_first (stmts_exit a.body) (list_any local_exits ls) e)) f;
       })
-      (λ w f. body_count s t w a.body o.0.2))
+      (λ k w f. body_count s t w a.body o.0.2))
       (locals_without h v (after_local s (local_action p a)) (after_local t (local_action p (action_without a))) ls o.1
       (ap is_missing (left_local old flags.returned returned_new t (local_action p a) o.0) ∙ free)
       (λ e. left_local old flags.left left_new t (local_action p a) o.0 ∙ i (or_second (stmts_exit a.body) (list_any local_exits ls) e)))

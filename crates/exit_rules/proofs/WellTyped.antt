@@ -73,7 +73,7 @@ scope_same p = firsts_same (exits_in p) core p.tops
 abbrev no_fields : List ℕ → More
 no_fields x = record { front = []; back = [] }
 
-tops_grow : (m : Exits) (main : List (List ℕ)) (u s : Scope) (ys : List Top) → OldTops is_given ys → HasOwnSums s → AreFree s → TopsGrow is_given no_fields main u s s ys (map (top_without m) ys)
+tops_grow : (m : Exits) (main : List (List ℕ)) (u s : Scope) (ys : List Top) → OldTops is_given ys → HasOwnSums s → AreFree s → TopsGrow is_given no_fields false main u s s ys (map (top_without m) ys)
 tops_grow m main u s [] o w f = no_top
 tops_grow m main u s (constant p t x e ∷ ys) o w f = same_top (constant p t x e) refl o.0 (tops_grow m main u (after_top s (constant p t x e)) ys o.1 (top_sums s w (constant p t x e)) (top_free s (constant p t x e) o.0 f))
 tops_grow m main u s (typedef p t x ∷ ys) o w f = same_top (typedef p t x) refl o.0 (tops_grow m main u (after_top s (typedef p t x)) ys o.1 (top_sums s w (typedef p t x)) (top_free s (typedef p t x) o.0 f))
@@ -82,12 +82,12 @@ tops_grow m main u s (register p r ∷ ys) o w f = same_top (register p r) refl 
 tops_grow m main u s (parser p d ∷ ys) o w f = same_top (parser p d) refl o.0 (tops_grow m main u (after_top s (parser p d)) ys o.1 (top_sums s w (parser p d)) (top_free s (parser p d) o.0 f))
 tops_grow m main u s (struct_type p x fs ∷ ys) o w f =
     let zs = map (top_without m) ys in
-    let P : List (PTy × List ℕ) → Type 0 = λ gs. TopsGrow is_given no_fields main u (after_top s (struct_type p x fs)) (after_top s (struct_type p x gs)) ys zs in
-    let Q : List (PTy × List ℕ) → Type 0 = λ gs. TopsGrow is_given no_fields main u s s (struct_type p x fs ∷ ys) (struct_type p x gs ∷ zs) in
+    let P : List (PTy × List ℕ) → Type 0 = λ gs. TopsGrow is_given no_fields false main u (after_top s (struct_type p x fs)) (after_top s (struct_type p x gs)) ys zs in
+    let Q : List (PTy × List ℕ) → Type 0 = λ gs. TopsGrow is_given no_fields false main u s s (struct_type p x fs ∷ ys) (struct_type p x gs ∷ zs) in
     let rest = tops_grow m main u (after_top s (struct_type p x fs)) ys o.1 (top_sums s w (struct_type p x fs)) (top_free s (struct_type p x fs) o.0 f) in
     subst Q (append-nil fs) (wider_struct p x fs o.0.0 o.0.1 (record { front = tt; back = tt }) (record { once = refl; front = tt; back = tt }) (subst P (sym (append-nil fs)) rest))
 tops_grow m main u s (control p c ∷ ys) o w f =
-    other_control p c (control_without m c).locals (control_without m c).apply (λ e g. control_fine is_given left_new returned_new m s f c o.0 main w g)
+    other_control p c c.params (control_without m c).locals (control_without m c).apply refl (λ e g. control_fine is_given left_new returned_new m s f c o.0 main w g)
     (tops_grow m main u (after_top s (control p c)) ys o.1 (top_sums s w (control p c)) (top_free s (control p c) o.0 f))
 
 -- ---- bytes

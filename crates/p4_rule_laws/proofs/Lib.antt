@@ -10,6 +10,7 @@ pub mod JoinedLemmas
 pub mod GuardLemmas
 pub mod ReplacesLemmas
 pub mod ReplacedLemmas
+pub mod ReplacedTables
 pub mod FieldsGrow
 pub mod GrowthLemmas
 pub mod MainGrow
@@ -17,6 +18,7 @@ pub mod RolesGrow
 pub mod EnteredLemmas
 pub mod BodiesGrow
 pub mod StatesGrow
+pub mod ReplacedStates
 pub mod PlainExprs
 pub mod PlainPrograms
 pub mod OwnStates

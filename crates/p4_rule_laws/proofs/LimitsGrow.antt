@@ -107,7 +107,7 @@ has_same (register p r) k ys x = refl
 has_same (parser p d) k ys x = refl
 has_same (control p c) k ys x = refl
 
-wider : {old : Names} {more : List ℕ → More} {main : List (List ℕ)} {u s t : Scope} {ys zs : List Top} → TopsGrow old more main u s t ys zs → (x : List ℕ) → old x ≡ true → has_struct ys x ≡ true → struct_fields zs x ≡ with_more (more x) (struct_fields ys x)
+wider : {old : Names} {more : List ℕ → More} {change : Bool} {main : List (List ℕ)} {u s t : Scope} {ys zs : List Top} → TopsGrow old more change main u s t ys zs → (x : List ℕ) → old x ≡ true → has_struct ys x ≡ true → struct_fields zs x ≡ with_more (more x) (struct_fields ys x)
 wider no_top x o h = absurd (let c : false ≡ true = h in cc)
 wider {more = more} (same_top {ys = ys} {zs = zs} y i k g) x o h = struct_same y i zs x ∙ (wider g x o (sym (has_same y i ys x) ∙ h) ∙ ap (with_more (more x)) (sym (struct_same y i ys x)))
 wider {old = old} (new_top {zs = zs} z i n l g) x o h = struct_passed old z n zs x o ∙ wider g x o h
@@ -116,10 +116,10 @@ wider {more = more} (wider_struct {ys = ys} {zs = zs} p n fs on ofs i j g) x o h
     by : (b : Bool) → same_text n x ≡ b → (has_struct ys x ≡ true → struct_fields zs x ≡ with_more (more x) (struct_fields ys x)) → (b || has_struct ys x) ≡ true → cond b (with_more (more n) fs) (struct_fields zs x) ≡ with_more (more x) (cond b fs (struct_fields ys x))
     by true e ih h = ap (λ (y : List ℕ). with_more (more y) fs) ((bytes_eq-Decides n x).0 e)
     by false e ih h = ih h
-wider (other_states p d tts w b g) x o h = wider g x o h
-wider (other_control p c ms b i g) x o h = wider g x o h
+wider (other_states p d rs tts m w b g) x o h = wider g x o h
+wider (other_control p c rs ms b m i g) x o h = wider g x o h
 
 pub structs_wider :
-    (old : Names) (more : List ℕ → More) (main : List (List ℕ)) (u s t : Scope) (ys zs front : List Top) → TopsGrow old more main u s t ys zs → NewInFront old front → (x : List ℕ) → old x ≡ true → has_struct ys x ≡ true
+    (old : Names) (more : List ℕ → More) (change : Bool) (main : List (List ℕ)) (u s t : Scope) (ys zs front : List Top) → TopsGrow old more change main u s t ys zs → NewInFront old front → (x : List ℕ) → old x ≡ true → has_struct ys x ≡ true
     → struct_fields (front ++ zs) x ≡ with_more (more x) (struct_fields ys x)
-structs_wider old more main u s t ys zs front g n x o h = structs_behind old front n zs x o ∙ wider g x o h
+structs_wider old more change main u s t ys zs front g n x o h = structs_behind old front n zs x o ∙ wider g x o h

@@ -76,29 +76,29 @@ none_left_out main (header_type p y fs) n = refl
 none_left_out main (struct_type p y fs) n = refl
 none_left_out main (register p r) n = refl
 
-pub parsers_grow : {old : Names} {more : List ℕ → More} {main : List (List ℕ)} {u s t : Scope} {ys zs : List Top} → TopsGrow old more main u s t ys zs → (x : List ℕ) → parser_ways ys x ≡ parser_ways zs x
+pub parsers_grow : {old : Names} {more : List ℕ → More} {main : List (List ℕ)} {u s t : Scope} {ys zs : List Top} → TopsGrow old more false main u s t ys zs → (x : List ℕ) → parser_ways ys x ≡ parser_ways zs x
 parsers_grow no_top x = refl
 parsers_grow (same_top {ys = ys} {zs = zs} y n o g) x = parser_same y ys zs x (parsers_grow g x)
 parsers_grow (new_top {zs = zs} z i n k g) x = parsers_grow g x ∙ ap (option_map (λ (d : Parser). d.params)) (sym (parser_passed z i zs x))
 parsers_grow (wider_struct p y fs ox o m j g) x = parsers_grow g x
-parsers_grow (other_states {ys = ys} {zs = zs} p d tts u b g) x = parser_step (same_text d.name x) d (parser_with d tts) (parser_named ys x) (parser_named zs x) refl (parsers_grow g x)
-parsers_grow (other_control p c ms b i g) x = parsers_grow g x
+parsers_grow (other_states {ys = ys} {zs = zs} p d rs tts m u b g) x = parser_step (same_text d.name x) d (parser_with d rs tts) (parser_named ys x) (parser_named zs x) m (parsers_grow g x)
+parsers_grow (other_control p c rs ms b m i g) x = parsers_grow g x
 
-pub controls_grow : {old : Names} {more : List ℕ → More} {main : List (List ℕ)} {u s t : Scope} {ys zs : List Top} → TopsGrow old more main u s t ys zs → (x : List ℕ) → control_ways ys x ≡ control_ways zs x
+pub controls_grow : {old : Names} {more : List ℕ → More} {main : List (List ℕ)} {u s t : Scope} {ys zs : List Top} → TopsGrow old more false main u s t ys zs → (x : List ℕ) → control_ways ys x ≡ control_ways zs x
 controls_grow no_top x = refl
 controls_grow (same_top {ys = ys} {zs = zs} y n o g) x = control_same y ys zs x (controls_grow g x)
 controls_grow (new_top {zs = zs} z i n k g) x = controls_grow g x ∙ ap (option_map (λ (c : Control). c.params)) (sym (control_passed z i zs x))
 controls_grow (wider_struct p y fs ox o m j g) x = controls_grow g x
-controls_grow (other_states p d tts u b g) x = controls_grow g x
-controls_grow (other_control {ys = ys} {zs = zs} p c ms b i g) x = control_step (same_text c.name x) c (control_with c ms b) (control_named ys x) (control_named zs x) refl (controls_grow g x)
+controls_grow (other_states p d rs tts m u b g) x = controls_grow g x
+controls_grow (other_control {ys = ys} {zs = zs} p c rs ms b m i g) x = control_step (same_text c.name x) c (control_with c rs ms b) (control_named ys x) (control_named zs x) m (controls_grow g x)
 
-pub left_out_grow : {old : Names} {more : List ℕ → More} {main : List (List ℕ)} {u s t : Scope} {ys zs : List Top} → TopsGrow old more main u s t ys zs → (names : List (List ℕ)) → leaves_some_out names ys ≡ leaves_some_out names zs
+pub left_out_grow : {old : Names} {more : List ℕ → More} {change : Bool} {main : List (List ℕ)} {u s t : Scope} {ys zs : List Top} → TopsGrow old more change main u s t ys zs → (names : List (List ℕ)) → leaves_some_out names ys ≡ leaves_some_out names zs
 left_out_grow no_top names = refl
 left_out_grow (same_top y n o g) names = ap (λ b. leaves_out names y || b) (left_out_grow g names)
 left_out_grow (new_top {zs = zs} z i n k g) names = left_out_grow g names ∙ ap (λ b. b || leaves_some_out names zs) (sym (none_left_out names z i))
 left_out_grow (wider_struct p y fs ox o m j g) names = left_out_grow g names
-left_out_grow (other_states p d tts u b g) names = ap (λ b. leaves_out names (parser p d) || b) (left_out_grow g names)
-left_out_grow (other_control p c ms b i g) names = ap (λ b. leaves_out names (control p c) || b) (left_out_grow g names)
+left_out_grow (other_states p d rs tts m u b g) names = ap (λ b. leaves_out names (parser p d) || b) (left_out_grow g names)
+left_out_grow (other_control p c rs ms b m i g) names = ap (λ b. leaves_out names (control p c) || b) (left_out_grow g names)
 
 -- ---- what main names
 

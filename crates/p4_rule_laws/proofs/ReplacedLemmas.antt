@@ -19,10 +19,10 @@ use Rattle.p4_rule_laws.proofs.GuardLemmas.{test_value, value_no_outcome, no_out
 module _ (s : Scope) where
   -- ---- arguments
 
-  free_replaced : (e f : Expr) → Replaces s e f → IsFine (free_tests s e) → IsFine (free_tests s f)
+  pub free_replaced : (e f : Expr) → Replaces s e f → IsFine (free_tests s e) → IsFine (free_tests s f)
   free_replaced e f r g = let x = r.wherever (as_value (own s e)) g in let P : Kind → Type 0 = λ k. IsFine (expr_tests s (as_value k) f) in subst P (sym x.kind) x.fine
 
-  all_replaced : (es fs : List Expr) → ExprsReplaced s es fs → IsFine (all_free s es) → IsFine (all_free s fs)
+  pub all_replaced : (es fs : List Expr) → ExprsReplaced s es fs → IsFine (all_free s es) → IsFine (all_free s fs)
   all_replaced [] [] r g = tt
   all_replaced [] (f ∷ fs) r g = absurd r
   all_replaced (e ∷ es) [] r g = absurd r

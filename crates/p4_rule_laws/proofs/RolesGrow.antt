@@ -78,7 +78,7 @@ struct_passed old (parser p d) k zs x o = refl
 struct_passed old (control p c) k zs x o = refl
 
 -- u, v: the scopes behind all declarations
-fields_grow : {old : Names} {more : List ℕ → More} {main : List (List ℕ)} {front s t : Scope} {ys zs : List Top} → TopsGrow old more main front s t ys zs → (u v : Scope) → Alike old u v → (fits : Thing → Bool) (x : List ℕ) → old x ≡ true → InRole fits v (more x) → all_fields fits u (struct_fields ys x) ≡ true → all_fields fits v (struct_fields zs x) ≡ true
+fields_grow : {old : Names} {more : List ℕ → More} {change : Bool} {main : List (List ℕ)} {front s t : Scope} {ys zs : List Top} → TopsGrow old more change main front s t ys zs → (u v : Scope) → Alike old u v → (fits : Thing → Bool) (x : List ℕ) → old x ≡ true → InRole fits v (more x) → all_fields fits u (struct_fields ys x) ≡ true → all_fields fits v (struct_fields zs x) ≡ true
 fields_grow no_top u v a fits x o i f = f
 fields_grow (same_top {ys = ys} {zs = zs} y n k g) u v a fits x o i f =
     let e = ap (all_fields fits u) (struct_same y n ys x) in
@@ -92,10 +92,10 @@ fields_grow {old = old} {more = more} (wider_struct {ys = ys} {zs = zs} p n fs o
   where
     wider : {fits : Thing → Bool} {v : Scope} {m : More} (fs : List (PTy × List ℕ)) → InRole fits v m → all_fields fits v fs ≡ true → all_fields fits v (with_more m fs) ≡ true
     wider {fits = fits} {v = v} {m = m} fs i e = all_joined fits v m.front (fs ++ m.back) i.front (all_joined fits v fs m.back e i.back)
-fields_grow (other_states p d tts w b g) u v a fits x o i f = fields_grow g u v a fits x o i f
-fields_grow (other_control p c ms b j g) u v a fits x o i f = fields_grow g u v a fits x o i f
+fields_grow (other_states p d rs tts m w b g) u v a fits x o i f = fields_grow g u v a fits x o i f
+fields_grow (other_control p c rs ms b m j g) u v a fits x o i f = fields_grow g u v a fits x o i f
 
-pub role_grows : {old : Names} {more : List ℕ → More} {main : List (List ℕ)} {front s t : Scope} {ys zs : List Top} → TopsGrow old more main front s t ys zs → (u v : Scope) → Alike old u v → (fits : Thing → Bool) (x : List ℕ) → old x ≡ true → InRole fits v (more x) → is_struct_of fits u ys x ≡ true → is_struct_of fits v zs x ≡ true
+pub role_grows : {old : Names} {more : List ℕ → More} {change : Bool} {main : List (List ℕ)} {front s t : Scope} {ys zs : List Top} → TopsGrow old more change main front s t ys zs → (u v : Scope) → Alike old u v → (fits : Thing → Bool) (x : List ℕ) → old x ≡ true → InRole fits v (more x) → is_struct_of fits u ys x ≡ true → is_struct_of fits v zs x ≡ true
 role_grows {old = old} {ys = ys} {zs = zs} g u v a fits x o i f =
     let e = ap is_struct (thing_alike old u v a (type.Named x) o) in
     let first : is_struct (thing_in u (type.Named x)) ≡ true = front (is_struct (thing_in u (type.Named x))) (all_fields fits u (struct_fields ys x)) f in
@@ -129,13 +129,13 @@ ways_same old (header_type p n fs) o ys x u = u
 ways_same old (register p r) o ys x u = u
 ways_same old (control p c) o ys x u = u
 
-ways_are_old : {old : Names} {more : List ℕ → More} {main : List (List ℕ)} {u s t : Scope} {ys zs : List Top} → TopsGrow old more main u s t ys zs → (x : List ℕ) → OldSomeWays old (parser_ways ys x)
+ways_are_old : {old : Names} {more : List ℕ → More} {change : Bool} {main : List (List ℕ)} {u s t : Scope} {ys zs : List Top} → TopsGrow old more change main u s t ys zs → (x : List ℕ) → OldSomeWays old (parser_ways ys x)
 ways_are_old no_top x = tt
 ways_are_old {old = old} (same_top {ys = ys} y n o g) x = ways_same old y o ys x (ways_are_old g x)
 ways_are_old (new_top z i n k g) x = ways_are_old g x
 ways_are_old (wider_struct p y fs ox o m j g) x = ways_are_old g x
-ways_are_old {old = old} (other_states {ys = ys} p d tts u b g) x = ways_step old (same_text d.name x) d (parser_named ys x) u (ways_are_old g x)
-ways_are_old (other_control p c ms b i g) x = ways_are_old g x
+ways_are_old {old = old} (other_states {ys = ys} p d rs tts m u b g) x = ways_step old (same_text d.name x) d (parser_named ys x) u (ways_are_old g x)
+ways_are_old (other_control p c rs ms b m i g) x = ways_are_old g x
 
 -- the structs of a fine program are in their roles, and their names are old
 record HasRoles (old : Names) (r : Structs) : Type 0 where
@@ -247,16 +247,10 @@ no_struct_yet x =
     (passed (same_text x (codes "update_checksum")) (function UpdateChecksum) _ (λ e. cc)
     (passed (same_text x (codes "HashAlgorithm")) other missing (λ e. cc) (λ e. cc)))))))))
 
--- the fields that are added to the struct of headers and to that of metadata fit their roles
-module _ (old : Names) (more : List ℕ → More) (p : Program) (q : ℕ) (front zs : List Top) (i : NewInFront old front) (g : TopsGrow old more p.main (after_tops core front) core (after_tops core front) p.tops zs) (j : IsFine (tops_tests p.main core front)) (w : IsWellTyped p) where
+-- what is made of declarations that are fine
+module _ (old : Names) (more : List ℕ → More) (change : Bool) (p : Program) (q : ℕ) (front zs : List Top) (i : NewInFront old front) (g : TopsGrow old more change p.main (after_tops core front) core (after_tops core front) p.tops zs) (j : IsFine (tops_tests p.main core front)) (own_fine : IsFine (tops_tests p.main core p.tops)) where
   abbrev made : Program
   made = grown p q front zs
-
-  parsers_same : (x : List ℕ) → parser_ways p.tops x ≡ parser_ways (front ++ zs) x
-  parsers_same x = parsers_grow g x ∙ sym (parsers_behind old front i zs x)
-
-  controls_same : (x : List ℕ) → control_ways p.tops x ≡ control_ways (front ++ zs) x
-  controls_same x = controls_grow g x ∙ sym (controls_behind old front i zs x)
 
   front_alike : Alike old core (after_tops core front)
   front_alike = skip_tops old core core (alike_self old core) front (new_tops old front i)
@@ -265,35 +259,46 @@ module _ (old : Names) (more : List ℕ → More) (p : Program) (q : ℕ) (front
   sees_front : Sees old more (after_tops core front) core (after_tops core front)
   sees_front = record { alike = front_alike; front = keeps_self (after_tops core front); wider = λ x o e y xs j. absurd (no_struct_yet x e) }
 
-  given : IsFine (program_tests p)
-  given = unbroken_fine (program_tests p) w
-
   own_tops : IsFine (tops_tests p.main (after_tops core front) zs) × Sees old more (after_tops core front) (after_tops core p.tops) (after_tops (after_tops core front) zs)
-  own_tops = tops_grow g sees_front given.0
+  own_tops = tops_grow g sees_front own_fine
 
-  made_fine : IsFine (tops_tests p.main core (front ++ zs))
+  pub made_fine : IsFine (tops_tests p.main core (front ++ zs))
   made_fine = tops_joined p.main core front zs j own_tops.0
 
-  scopes_alike : Alike old (program_scope p) (program_scope made)
-  scopes_alike =
-      let P : Scope → Type 0 = λ u. Alike old (after_tops core p.tops) u in
-      let Q : Scope → Type 0 = λ u. Alike old u (program_scope made) in
+  pub scopes_see : Sees old more (after_tops core front) (program_scope p) (program_scope made)
+  scopes_see =
+      let P : Scope → Type 0 = λ u. Sees old more (after_tops core front) (after_tops core p.tops) u in
+      let Q : Scope → Type 0 = λ u. Sees old more (after_tops core front) u (program_scope made) in
       let made_scope : after_tops (after_tops core front) zs ≡ program_scope made = sym (all_first p.main core (front ++ zs) made_fine ∙ tops_append core front zs) in
-      subst Q (sym (all_first p.main core p.tops given.0)) (subst P made_scope own_tops.1.alike)
+      subst Q (sym (all_first p.main core p.tops own_fine)) (subst P made_scope own_tops.1)
 
-  module _ (hs : InRole is_header (program_scope made) (more (structs_of (program_scope p) p).headers_type)) (ms : InRole is_scalar (program_scope made) (more (structs_of (program_scope p) p).metadata_type)) where
-    in_role : (fits : Thing → Bool) (x : List ℕ) → old x ≡ true → InRole fits (program_scope made) (more x) → is_struct_of fits (program_scope p) p.tops x ≡ true → is_struct_of fits (program_scope made) (front ++ zs) x ≡ true
-    in_role fits x o r f = role_behind old front i fits (program_scope made) zs x o (role_grows g (program_scope p) (program_scope made) scopes_alike fits x o r f)
+-- the fields that are added to the struct of headers and to that of metadata fit their roles
+module _ (old : Names) (more : List ℕ → More) (p : Program) (q : ℕ) (front zs : List Top) (i : NewInFront old front) (g : TopsGrow old more false p.main (after_tops core front) core (after_tops core front) p.tops zs) (j : IsFine (tops_tests p.main core front)) (own_fine : IsFine (tops_tests p.main core p.tops)) where
+  abbrev whole : Program
+  whole = grown p q front zs
 
-    main_grows : IsFine (main_tests (program_scope p) p) → IsFine (main_tests (program_scope made) made)
+  parsers_same : (x : List ℕ) → parser_ways p.tops x ≡ parser_ways (front ++ zs) x
+  parsers_same x = parsers_grow g x ∙ sym (parsers_behind old front i zs x)
+
+  controls_same : (x : List ℕ) → control_ways p.tops x ≡ control_ways (front ++ zs) x
+  controls_same x = controls_grow g x ∙ sym (controls_behind old front i zs x)
+
+  scopes_alike : Alike old (program_scope p) (program_scope whole)
+  scopes_alike = (scopes_see old more false p q front zs i g j own_fine).alike
+
+  module _ (hs : InRole is_header (program_scope whole) (more (structs_of (program_scope p) p).headers_type)) (ms : InRole is_scalar (program_scope whole) (more (structs_of (program_scope p) p).metadata_type)) where
+    in_role : (fits : Thing → Bool) (x : List ℕ) → old x ≡ true → InRole fits (program_scope whole) (more x) → is_struct_of fits (program_scope p) p.tops x ≡ true → is_struct_of fits (program_scope whole) (front ++ zs) x ≡ true
+    in_role fits x o r f = role_behind old front i fits (program_scope whole) zs x o (role_grows g (program_scope p) (program_scope whole) scopes_alike fits x o r f)
+
+    main_grows : IsFine (main_tests (program_scope p) p) → IsFine (main_tests (program_scope whole) whole)
     main_grows f =
         let r = structs_of (program_scope p) p in
-        let m = structs_of (program_scope made) made in
+        let m = structs_of (program_scope whole) whole in
         let has = has_roles old (program_scope p) p.at p.tops p.main (ways_are_old g) f in
-        let named : m.headers_type ≡ r.headers_type = types_same (parser_in made) (parser_in p) 1 (sym (parsers_same _)) in
-        let kept : m.metadata_type ≡ r.metadata_type = types_same (parser_in made) (parser_in p) 2 (sym (parsers_same _)) in
-        let are_headers : m.has_headers ≡ true = ap (is_struct_of is_header (program_scope made) (front ++ zs)) named ∙ in_role is_header r.headers_type has.old_headers hs has.are_headers in
-        let are_metadata : m.has_metadata ≡ true = ap (is_struct_of is_scalar (program_scope made) (front ++ zs)) kept ∙ in_role is_scalar r.metadata_type has.old_metadata ms has.are_metadata in
+        let named : m.headers_type ≡ r.headers_type = types_same (parser_in whole) (parser_in p) 1 (sym (parsers_same _)) in
+        let kept : m.metadata_type ≡ r.metadata_type = types_same (parser_in whole) (parser_in p) 2 (sym (parsers_same _)) in
+        let are_headers : m.has_headers ≡ true = ap (is_struct_of is_header (program_scope whole) (front ++ zs)) named ∙ in_role is_header r.headers_type has.old_headers hs has.are_headers in
+        let are_metadata : m.has_metadata ≡ true = ap (is_struct_of is_scalar (program_scope whole) (front ++ zs)) kept ∙ in_role is_scalar r.metadata_type has.old_metadata ms has.are_metadata in
         let roles = roles_same r m named kept are_headers are_metadata in (
           ap not (sym (names_same p.tops (front ++ zs) parsers_same controls_same p.main)) ∙ f.0,
           (
@@ -305,5 +310,10 @@ module _ (old : Names) (more : List ℕ → More) (p : Program) (q : ℕ) (front
         roles_same : (r m : Structs) → m.headers_type ≡ r.headers_type → m.metadata_type ≡ r.metadata_type → m.has_headers ≡ true → m.has_metadata ≡ true → AreInRole p.tops (front ++ zs) parsers_same controls_same r m
         roles_same r m e f g h = record { same_headers = e; same_metadata = f; are_headers = g; are_metadata = h }
 
-    pub program_grows : IsFine (limit_tests (program_scope made) made) → IsWellTyped made
-    program_grows l = fine_unbroken (program_tests made) (made_fine, (main_grows given.1.0, l))
+pub program_grows :
+    (old : Names) (more : List ℕ → More) (p : Program) (q : ℕ) (front zs : List Top) → NewInFront old front → TopsGrow old more false p.main (after_tops core front) core (after_tops core front) p.tops zs → IsFine (tops_tests p.main core front) → IsWellTyped p
+    → InRole is_header (program_scope (grown p q front zs)) (more (structs_of (program_scope p) p).headers_type) → InRole is_scalar (program_scope (grown p q front zs)) (more (structs_of (program_scope p) p).metadata_type)
+    → IsFine (limit_tests (program_scope (grown p q front zs)) (grown p q front zs)) → IsWellTyped (grown p q front zs)
+program_grows old more p q front zs i g j w hs ms l =
+    let given = unbroken_fine (program_tests p) w in
+    fine_unbroken (program_tests (grown p q front zs)) (made_fine old more false p q front zs i g j given.0, (main_grows old more p q front zs i g j given.0 hs ms given.1.0, l))

@@ -34,7 +34,7 @@ use Rattle.p4_rule_laws.specs.Entered.{entered, renamed_to, Begins, FineFlows}
 use Rattle.p4_rule_laws.proofs.WiderLemmas.{new_is_other}
 use Rattle.p4_rule_laws.proofs.GuardLemmas.{flagged_fine}
 use Rattle.p4_rule_laws.proofs.ReplacesLemmas.{parts_replaced}
-use Rattle.p4_rule_laws.proofs.GrowthLemmas.{parser_grows, control_grows}
+use Rattle.p4_rule_laws.proofs.GrowthLemmas.{same_params, parser_grows, control_grows}
 use Rattle.p4_rule_laws.proofs.RolesGrow.{program_grows}
 use Rattle.p4_rule_laws.proofs.EnteredLemmas.{entered_grow}
 use Rattle.p4_rule_laws.proofs.BodiesGrow.{same_body, around_body, emitted_body}
@@ -192,12 +192,12 @@ behind =
     header_type 0 (codes "e_t") ((Bit 8, codes "x") ∷ [])
     ∷ struct_type 0 (codes "headers") (with_more (more (codes "headers")) ((Named (codes "e_t"), codes "e") ∷ []))
     ∷ struct_type 0 (codes "metadata") (with_more (more (codes "metadata")) ((Bit 8, codes "m") ∷ []))
-    ∷ parser 0 (parser_with the_parser (entered renamed added the_parser.states))
+    ∷ parser 0 (parser_with the_parser the_parser.params (entered renamed added the_parser.states))
     ∷ control 0 (checksums (codes "V"))
-    ∷ control 0 (control_with ingress new_locals (and_then entry (and_then ingress.apply exit)))
+    ∷ control 0 (control_with ingress ingress.params new_locals (and_then entry (and_then ingress.apply exit)))
     ∷ control 0 (applying (codes "E") [])
     ∷ control 0 (checksums (codes "K"))
-    ∷ control 0 (control_with deparser [] (next (header_call (codes "emit") (codes "hydra_tele")) deparser.apply))
+    ∷ control 0 (control_with deparser deparser.params [] (next (header_call (codes "emit") (codes "hydra_tele")) deparser.apply))
     ∷ []
 
 grown_fine : first_fault (grown given 0 front behind) ≡ None
@@ -277,14 +277,14 @@ states_grow exact s =
 
 -- ingress, and what is in sight in its statements
 at_ingress : Scope
-at_ingress = after_top (after_top (behind_types (after_tops core front)) (parser 0 (parser_with the_parser (entered renamed added the_parser.states)))) (control 0 (checksums (codes "V")))
+at_ingress = after_top (after_top (behind_types (after_tops core front)) (parser 0 (parser_with the_parser the_parser.params (entered renamed added the_parser.states)))) (control 0 (checksums (codes "V")))
 
 abbrev made_ingress : Control
-made_ingress = control_with ingress new_locals (and_then entry (and_then ingress.apply exit))
+made_ingress = control_with ingress ingress.params new_locals (and_then entry (and_then ingress.apply exit))
 
 ingress_grows : (s : Scope) → Alike old s at_ingress → IsFine (control_tests place.Apply s ingress) → IsFine (control_tests place.Apply at_ingress made_ingress)
 unfolding declare core old more behind_types at_ingress
-ingress_grows s a f = control_grows old place.Apply s at_ingress ingress new_locals made_ingress.apply refl (refl, refl, (refl, refl, (refl, refl, tt))) locals (λ k. body_grows) a f
+ingress_grows s a f = control_grows old place.Apply s at_ingress ingress ingress.params new_locals made_ingress.apply refl (same_params old s at_ingress ingress.params (refl, refl, (refl, refl, (refl, refl, tt)))) locals (λ k. body_grows) a f
   where
     v : Scope
     v = with_ways at_ingress ingress.params
@@ -309,7 +309,7 @@ abbrev first_emit : Stmt
 first_emit = header_call (codes "emit") (codes "hydra_tele")
 
 abbrev made_deparser : Control
-made_deparser = control_with deparser [] (next first_emit deparser.apply)
+made_deparser = control_with deparser deparser.params [] (next first_emit deparser.apply)
 
 not_old : OldPath old (codes "hdr" ∷ codes "hydra_tele" ∷ []) → ⊥
 unfolding old
@@ -317,7 +317,7 @@ not_old o = let c : false ≡ true = o.1.0 in cc
 
 deparser_grows : (s : Scope) → Alike old s at_deparser → IsFine (control_tests place.Deparser s deparser) → IsFine (control_tests place.Deparser at_deparser made_deparser)
 unfolding declare core old more behind_types at_ingress at_deparser
-deparser_grows s a f = control_grows old place.Deparser s at_deparser deparser [] made_deparser.apply refl (refl, refl, (refl, refl, tt)) no_local (λ k. body_grows) a f
+deparser_grows s a f = control_grows old place.Deparser s at_deparser deparser deparser.params [] made_deparser.apply refl (same_params old s at_deparser deparser.params (refl, refl, (refl, refl, tt))) no_local (λ k. body_grows) a f
   where
     t : Scope
     t = in_control at_deparser made_deparser
@@ -336,18 +336,18 @@ fits_metadata : MoreFits 0 (after_tops core front) (more (codes "metadata"))
 unfolding declare core more
 fits_metadata = record { once = refl; front = tt; back = tt }
 
-grows : ReachesIsExact → TopsGrow old more given.main (after_tops core front) core (after_tops core front) given.tops behind
+grows : ReachesIsExact → TopsGrow old more false given.main (after_tops core front) core (after_tops core front) given.tops behind
 unfolding old behind_types before_states at_ingress at_deparser
 grows exact =
     same_top (header_type 0 (codes "e_t") ((Bit 8, codes "x") ∷ [])) refl (refl, (tt, refl, tt))
     (wider_struct 0 (codes "headers") ((Named (codes "e_t"), codes "e") ∷ []) refl (refl, refl, tt) (is_new (codes "headers")) fits_headers
     (wider_struct 0 (codes "metadata") ((Bit 8, codes "m") ∷ []) refl (tt, refl, tt) (is_new (codes "metadata")) fits_metadata
-    (other_states 0 the_parser (entered renamed added the_parser.states) parser_ways (λ w f. parser_grows old _ _ the_parser (entered renamed added the_parser.states) refl parser_ways (λ e. states_grow exact _) w.alike f)
+    (other_states 0 the_parser the_parser.params (entered renamed added the_parser.states) refl parser_ways (λ w f. parser_grows old _ _ the_parser the_parser.params (entered renamed added the_parser.states) refl (same_params old _ _ the_parser.params parser_ways) (λ e. states_grow exact _) w.alike f)
     (same_top (control 0 (checksums (codes "V"))) refl (old_checksums (codes "V") refl)
-    (other_control 0 ingress new_locals made_ingress.apply (λ w f. ingress_grows _ w.alike f)
+    (other_control 0 ingress ingress.params new_locals made_ingress.apply refl (λ w f. ingress_grows _ w.alike f)
     (same_top (control 0 (applying (codes "E") [])) refl (old_applying (codes "E") refl)
     (same_top (control 0 (checksums (codes "K"))) refl (old_checksums (codes "K") refl)
-    (other_control 0 deparser [] made_deparser.apply (λ w f. deparser_grows _ w.alike f) no_top))))))))
+    (other_control 0 deparser deparser.params [] made_deparser.apply refl (λ w f. deparser_grows _ w.alike f) no_top))))))))
   where
     parser_ways : OldWays old the_parser.params
     parser_ways = (refl, refl, (refl, refl, (refl, refl, (refl, refl, tt))))

@@ -4,6 +4,7 @@ pub mod OldPrograms
 pub mod Kept
 pub mod Guards
 pub mod Replaced
+pub mod ReplacedPrograms
 pub mod Laws
 pub mod Growth
 pub mod Entered

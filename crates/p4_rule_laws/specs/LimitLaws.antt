@@ -1,5 +1,5 @@
 -- How what is counted of a program adds up, for the limits of what is made of it. Read `Growth` before it.
-use Rattle.std.specs.Prelude.{◌≡◌, ℕ, List, ◌++◌, true}
+use Rattle.std.specs.Prelude.{◌≡◌, ℕ, List, ◌++◌, Bool, true}
 use Rattle.p4_tree.specs.Tree.{Local, Top}
 use Rattle.p4_tree.specs.declared.statement.PTy.{PTy}
 use Rattle.p4_meaning.specs.Parts.{struct_fields}
@@ -25,5 +25,5 @@ pub record CountsRestOnNames : Type 0 where
 -- a struct of the given program has its fields, with the new ones around them
 abbrev pub StructsAreWider : Type 0
 StructsAreWider =
-    (old : Names) (more : List ℕ → More) (main : List (List ℕ)) (u s t : Scope) (ys zs front : List Top) → TopsGrow old more main u s t ys zs → NewInFront old front → (x : List ℕ) → old x ≡ true → has_struct ys x ≡ true
+    (old : Names) (more : List ℕ → More) (change : Bool) (main : List (List ℕ)) (u s t : Scope) (ys zs front : List Top) → TopsGrow old more change main u s t ys zs → NewInFront old front → (x : List ℕ) → old x ≡ true → has_struct ys x ≡ true
     → struct_fields (front ++ zs) x ≡ with_more (more x) (struct_fields ys x)
