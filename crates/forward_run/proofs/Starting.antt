@@ -6,7 +6,7 @@ use Rattle.std.proofs.lemmas.List.Elements.{All-head, All-tail}
 use Rattle.p4_tree.specs.Tree.{Program}
 use Rattle.p4_meaning.specs.Parts.{parts_of}
 use Rattle.p4_meaning.specs.Pass.{Queued, Registers, kept_before, start_cells}
-use Rattle.p4_machine.specs.Buffers.{Buffer, IsFor}
+use Rattle.p4_machine.specs.Buffers.{Buffer, IsMadeFor}
 use Rattle.p4_tables.specs.Named.{tables_in}
 use Rattle.p4_tables.specs.State.{Held}
 use Rattle.indus_tree.specs.State.{Contents}
@@ -38,11 +38,11 @@ before_are j =
     }
 
 -- a buffer for each
-pub before_for : (p : Program) (ts : List (List Held)) (bs : List Buffer) → length bs ≡ length ts → All (IsFor p) bs → AreFor (map (switch_before p) ts) bs
+pub before_for : (p : Program) (ts : List (List Held)) (bs : List Buffer) → length bs ≡ length ts → All (λ b. IsMadeFor p b.needs) bs → AreFor (map (switch_before p) ts) bs
 before_for p [] [] e h = tt
 before_for p [] (b ∷ bs) e h = absurd (omega (arith, e))
 before_for p (t ∷ ts) [] e h = absurd (omega (arith, e))
-before_for p (t ∷ ts) (b ∷ bs) e h = (All-head (IsFor p) b bs h, before_for p ts bs (omega (arith, e)) (All-tail (IsFor p) b bs h))
+before_for p (t ∷ ts) (b ∷ bs) e h = (All-head (λ (b : Buffer). IsMadeFor p b.needs) b bs h, before_for p ts bs (omega (arith, e)) (All-tail (λ (b : Buffer). IsMadeFor p b.needs) b bs h))
 
 -- ---- events
 

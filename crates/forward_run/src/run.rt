@@ -2,7 +2,7 @@
 
 ghost use Rattle.std.specs.Prelude.{◌≡◌, ◌≤◌, length, map, All, IfOk, OnOk};
 ghost use Rattle.p4_tree.specs.View.{program_of};
-ghost use Rattle.p4_machine.specs.Buffers.{IsFor};
+ghost use Rattle.p4_machine.specs.Buffers.{IsMadeFor};
 ghost use Rattle.p4_tables.specs.Programs.{IsStateOf};
 ghost use Rattle.network_file.specs.Events.{event_of};
 ghost use Rattle.path_runner.specs.Conditions.{IsAtEdge, IsEvent};
@@ -102,7 +102,7 @@ fn switches(
 /// So many buffers for passages of the program.
 fn buffers(alloc: Global, program: &TypedProgram, count: usize) -> Result<Vec<FrameBuf>, AllocError>
     ensures count { IfOk result (λ v. length v.items ≡ count) }
-    ensures made { IfOk result (λ v. All (IsFor (program_of program.now)) v.items) }
+    ensures made { IfOk result (λ v. All (λ b. IsMadeFor (program_of program.now) b.needs) v.items) }
 {
     let mut bufs = Vec::new(alloc);
     for _ in 0..count {

@@ -4,11 +4,14 @@ use Rattle.std.specs.Prelude.{◌≡◌, ℕ, ◌≤◌, List, map, Bool, true, 
 use Rattle.std.specs.Option.{option_map}
 use Rattle.p4_tree.specs.Tree.{Program}
 use Rattle.p4_meaning.specs.Statements.{Digest}
+use Rattle.p4_meaning.specs.Parts.{parts_of}
 use Rattle.p4_meaning.specs.Pass.{Queued}
 use Rattle.p4_rules.specs.Limits.{header_bytes, most_of_program}
 use Rattle.p4_rules.specs.ProgramRules.{program_scope}
+use Rattle.p4_parts.specs.Slots.{slots_in}
 use Rattle.p4_statements.specs.Runs.{digest_of}
 use Rattle.p4_passages.specs.Waiting.{waiting_of}
+use Rattle.p4_machine.specs.declared.needs.Needs.{Needs}
 use Rattle.p4_machine.specs.declared.buffer.FrameBuf.TheInside as buffer
 use Rattle.p4_machine.specs.declared.queued.Queued as code_queued
 use Rattle.p4_machine.specs.declared.pass.Passed as code_passed
@@ -16,29 +19,30 @@ use Rattle.p4_machine.specs.declared.pass.Passed.TheVariants as passed
 use Rattle.p4_machine.specs.declared.pass.Entered as code_entered
 use Rattle.p4_machine.specs.declared.pass.Entered.TheVariants as entered
 
--- a buffer: the frame that goes out and the digests, and for which program it has room: the bytes of its headers, and the
--- most digests of a passage
+-- what is handed in to a passage was made for this program: it has room for the bytes of the program's headers, for the
+-- most digests of a passage, and for the values that a packet has between the halves
+pub record IsMadeFor (p : Program) (n : Needs) : Type 0 where
+  pub header_bytes : n.header_bytes ≡ header_bytes (program_scope p) p
+  pub most_digests : n.most_digests ≡ most_of_program p
+  pub slots : n.slots ≡ slots_in (parts_of p)
+
+-- a buffer: the frame that goes out and the digests, and for what it has room
 pub record Buffer : Type 0 where
   pub frame : List ℕ
   pub digests : List Digest
-  pub header_bytes : ℕ
-  pub most_digests : ℕ
+  pub needs : Needs
 
 abbrev pub buffer_of : buffer.Inside → Buffer
-buffer_of b = record { frame = b.frame.items; digests = map digest_of b.digests.items; header_bytes = b.header_bytes; most_digests = b.most_digests }
+buffer_of b = record { frame = b.frame.items; digests = map digest_of b.digests.items; needs = b.needs }
 
--- the buffer was made for such a program
-pub record IsFor (p : Program) (b : Buffer) : Type 0 where
-  pub header_bytes : b.header_bytes ≡ header_bytes (program_scope p) p
-  pub most_digests : b.most_digests ≡ most_of_program p
-
--- a place for a packet between the halves: the bytes of rest for which it has room, and the packet that waits
+-- a place for a packet between the halves: for what it has room, besides so many bytes of rest, and the packet that waits
 pub record Place : Type 0 where
+  pub needs : Needs
   pub room : ℕ
   pub waiting : Option Queued
 
 abbrev pub place_of : code_queued.Queued → Place
-place_of q = record { room = q.room; waiting = option_map waiting_of q.waiting }
+place_of q = record { needs = q.needs; room = q.room; waiting = option_map waiting_of q.waiting }
 
 -- a packet waits
 abbrev pub is_some_packet : Option Queued → Bool

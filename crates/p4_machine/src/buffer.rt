@@ -3,8 +3,9 @@
 ghost use Rattle.std.specs.Prelude.{◌≡◌, [], IfOk, map};
 ghost use Rattle.p4_tree.specs.View.{program_of};
 ghost use Rattle.p4_statements.specs.Runs.{digest_of};
-ghost use Rattle.p4_machine.specs.Buffers.{IsFor};
+ghost use Rattle.p4_machine.specs.Buffers.{IsMadeFor};
 
+use crate::needs::{Needs, needs_of};
 use p4_statements::Digest;
 use p4_types::TypedProgram;
 use std::alloc::{AllocError, Global};
@@ -15,8 +16,7 @@ use std::marker::Model;
 pub struct FrameBuf {
     pub(crate) frame: Vec<u8>,
     pub(crate) digests: Vec<Digest>,
-    header_bytes: u32,
-    most_digests: u32,
+    needs: Needs,
 }
 
 impl Model for FrameBuf {
@@ -31,13 +31,12 @@ impl FrameBuf {
     /// An empty buffer for passages of this program.
     pub fn new(alloc: Global, p: &TypedProgram) -> Result<FrameBuf, AllocError>
         ensures empty { IfOk result (λ b. (b.frame ≡ []) × (b.digests ≡ [])) }
-        ensures made { IfOk result (λ b. IsFor (program_of p.now) b) }
+        ensures made { IfOk result (λ b. IsMadeFor (program_of p.now) b.needs) }
     {
         Ok(FrameBuf {
             frame: Vec::new(alloc),
             digests: Vec::new(alloc),
-            header_bytes: p.header_bytes(),
-            most_digests: p.digest_bound(),
+            needs: needs_of(p)?,
         })
     }
 
@@ -59,8 +58,7 @@ impl FrameBuf {
     pub(crate) fn clear(&mut self)
         ensures frame { self.new.frame ≡ [] }
         ensures digests { self.new.digests ≡ [] }
-        ensures header_bytes { self.new.header_bytes ≡ self.old.header_bytes }
-        ensures most_digests { self.new.most_digests ≡ self.old.most_digests }
+        ensures needs { self.new.needs ≡ self.old.needs }
     {
         self.frame.clear();
         self.digests.clear();

@@ -4,7 +4,7 @@
 //! `room`, `enter`, `leave`, `pass`, `set_table` and `cell`; `Switch`, which meets it over the maps by
 //! name of `p4_passages`; and `FrameBuf` and `Queued`, which are handed in. Contracts say what each call
 //! does as the halves of the trees' meaning (`specs/Passages`), and see buffers and places as records
-//! (`specs/Buffers`).
+//! (`specs/Buffers`). Both are made for a program (`IsMadeFor`).
 //!
 //! Follows: P4_16 Language Specification and v1model, this project's subset.
 //!
@@ -13,6 +13,7 @@
 
 mod buffer;
 mod loaded;
+mod needs;
 mod pass;
 mod queued;
 mod switch;

@@ -10,7 +10,7 @@ ghost use Rattle.p4_tables.specs.State.{replaced};
 ghost use Rattle.p4_tables.specs.Faults.{IsReplaceable};
 ghost use Rattle.table_entries.specs.View.{entry_of, given_act};
 ghost use Rattle.p4_machine.specs.Passages.{entry_in, exit_in, passage_in, register_name};
-ghost use Rattle.p4_machine.specs.Buffers.{IsFor, goes_out, is_queued, is_some_packet, place_of};
+ghost use Rattle.p4_machine.specs.Buffers.{IsMadeFor, goes_out, is_queued, is_some_packet, place_of};
 ghost use Rattle.p4_machine.specs.declared.pass.Passed.TheVariants as passed;
 
 use crate::buffer::FrameBuf;
@@ -49,6 +49,7 @@ pub trait Pass {
     /// A place for a packet of this switch, with room for so many bytes that the parser does not
     /// consume.
     fn room(&self, alloc: Global, bytes: u32) -> Result<Queued, AllocError>
+        ensures made { IfOk result (λ q. IsMadeFor (program self.now) (place_of q).needs) }
         ensures room { IfOk result (λ q. (place_of q).room ≡ bytes) }
         ensures empty { IfOk result (λ q. (place_of q).waiting ≡ None) };
 
@@ -63,7 +64,8 @@ pub trait Pass {
         q: &mut Queued,
     ) -> Result<Entered, AllocError>
         requires short { length frame.now ≤ 65791 }
-        requires buffer { IsFor (program self.old) buf.old }
+        requires buffer { IsMadeFor (program self.old) buf.old.needs }
+        requires place { IsMadeFor (program self.old) (place_of q.old).needs }
         requires empty { (place_of q.old).waiting ≡ None }
         requires room { length frame.now ≤ (place_of q.old).room }
         ensures program { program self.new ≡ program self.old }
@@ -76,7 +78,8 @@ pub trait Pass {
         ensures frame { OnOk result (buf.new.frame ≡ []) }
         ensures digests { OnOk result (buf.new.digests
             ≡ (entry_in (program self.old) (tables self.old) (cells self.old) port frame.now).digests) }
-        ensures buffer { IsFor (program self.new) buf.new }
+        ensures buffer { IsMadeFor (program self.new) buf.new.needs }
+        ensures place { IsMadeFor (program self.new) (place_of q.new).needs }
         ensures room { (place_of q.new).room ≡ (place_of q.old).room };
 
     /// The packet that waits leaves: egress, compute checksum and deparser. The buffer has the frame
@@ -88,7 +91,8 @@ pub trait Pass {
         q: &mut Queued,
         buf: &mut FrameBuf,
     ) -> Result<Passed, AllocError>
-        requires buffer { IsFor (program self.old) buf.old }
+        requires buffer { IsMadeFor (program self.old) buf.old.needs }
+        requires place { IsMadeFor (program self.old) (place_of q.old).needs }
         ensures program { program self.new ≡ program self.old }
         ensures tables { tables self.new ≡ tables self.old }
         ensures cells { OnOk result (cells self.new
@@ -99,7 +103,8 @@ pub trait Pass {
         ensures digests { OnOk result (buf.new.digests
             ≡ (exit_in (program self.old) (tables self.old) (cells self.old) [] (place_of q.old).waiting).digests) }
         ensures empty { (place_of q.new).waiting ≡ None }
-        ensures buffer { IsFor (program self.new) buf.new }
+        ensures buffer { IsMadeFor (program self.new) buf.new.needs }
+        ensures place { IsMadeFor (program self.new) (place_of q.new).needs }
         ensures room { (place_of q.new).room ≡ (place_of q.old).room };
 
     /// A passage: the entry half, and then the exit half.
@@ -111,7 +116,7 @@ pub trait Pass {
         buf: &mut FrameBuf,
     ) -> Result<Passed, AllocError>
         requires short { length frame.now ≤ 65791 }
-        requires buffer { IsFor (program self.old) buf.old }
+        requires buffer { IsMadeFor (program self.old) buf.old.needs }
         ensures program { program self.new ≡ program self.old }
         ensures tables { tables self.new ≡ tables self.old }
         ensures cells { OnOk result (cells self.new
@@ -121,7 +126,7 @@ pub trait Pass {
         ensures dropped { IfOk result (λ x. x ≡ passed.Dropped → buf.new.frame ≡ []) }
         ensures digests { OnOk result (buf.new.digests
             ≡ (passage_in (program self.old) (tables self.old) (cells self.old) port frame.now).digests) }
-        ensures buffer { IsFor (program self.new) buf.new };
+        ensures buffer { IsMadeFor (program self.new) buf.new.needs };
 
     /// One table holds these entries, and, where one is given, this default. After want of memory the
     /// tables are as they were.

@@ -3,23 +3,27 @@
 ghost use Rattle.std.specs.Prelude.{◌≡◌, None};
 ghost use Rattle.p4_machine.specs.Buffers.{is_some_packet, place_of};
 
+use crate::needs::Needs;
 use p4_passages::Waiting;
 
-/// A place for a packet that waits for egress, with room for so many bytes that the parser does not
-/// consume.
+/// A place for a packet of a program that waits for egress, with room for so many bytes that the parser
+/// does not consume.
 #[derive(Drop)]
 pub struct Queued {
+    pub(crate) needs: Needs,
     pub(crate) room: u32,
     pub(crate) waiting: Option<Waiting>,
 }
 
 impl Queued {
     /// A place where nothing waits.
-    pub(crate) fn new(room: u32) -> Queued
+    pub(crate) fn new(needs: Needs, room: u32) -> Queued
+        ensures needs { (place_of result).needs ≡ needs }
         ensures room { (place_of result).room ≡ room }
         ensures empty { (place_of result).waiting ≡ None }
     {
         Queued {
+            needs,
             room,
             waiting: None,
         }

@@ -17,6 +17,7 @@ ghost use Rattle.p4_machine.specs.declared.pass.Passed.TheVariants as passed;
 
 use crate::buffer::FrameBuf;
 use crate::loaded::Loaded;
+use crate::needs::{Needs, needs_of};
 use crate::pass::{Entered, Pass, Passed};
 use crate::queued::Queued;
 use bit_values::Bits;
@@ -38,6 +39,7 @@ pub struct Switch {
     parts: Parts,
     registers: Vec<(Name, Cells)>,
     tables: TableState,
+    needs: Needs,
 }
 
 impl Model for Switch {
@@ -60,6 +62,7 @@ impl Model for Switch {
 fn put(q: &mut Queued, waiting: Option<Waiting>) -> Entered
     ensures waiting { (place_of q.new).waiting ≡ option_map waiting_of waiting }
     ensures answer { is_queued result ≡ is_some_packet (place_of q.new).waiting }
+    ensures needs { (place_of q.new).needs ≡ (place_of q.old).needs }
     ensures room { (place_of q.new).room ≡ (place_of q.old).room }
 {
     match waiting {
@@ -78,6 +81,7 @@ fn put(q: &mut Queued, waiting: Option<Waiting>) -> Entered
 fn take(q: &mut Queued) -> Option<Waiting>
     ensures taken { option_map waiting_of result ≡ (place_of q.old).waiting }
     ensures empty { (place_of q.new).waiting ≡ None }
+    ensures needs { (place_of q.new).needs ≡ (place_of q.old).needs }
     ensures room { (place_of q.new).room ≡ (place_of q.old).room }
 {
     mem::replace(&mut q.waiting, None)
@@ -89,8 +93,7 @@ fn put_out(buf: &mut FrameBuf, gone: Gone) -> Passed
     ensures out { goes_out result buf.new.frame ≡ gone_of gone }
     ensures dropped { result ≡ passed.Dropped → buf.new.frame ≡ [] }
     ensures digests { buf.new.digests ≡ buf.old.digests }
-    ensures header_bytes { buf.new.header_bytes ≡ buf.old.header_bytes }
-    ensures most_digests { buf.new.most_digests ≡ buf.old.most_digests }
+    ensures needs { buf.new.needs ≡ buf.old.needs }
 {
     match gone {
         Gone::Dropped => Passed::Dropped,
@@ -120,8 +123,7 @@ fn go_in(
     ensures queued { IfOk result (λ q. option_map waiting_of q ≡ (parts_enter (parts_in p.now)
         (tables_in (parts_in p.now) tables.now) (cells_in registers.old.items) port frame.now).queued) }
     ensures frame { buf.new.frame ≡ buf.old.frame }
-    ensures header_bytes { buf.new.header_bytes ≡ buf.old.header_bytes }
-    ensures most_digests { buf.new.most_digests ≡ buf.old.most_digests }
+    ensures needs { buf.new.needs ≡ buf.old.needs }
 {
     let tables = Loaded { state: tables };
     enter(alloc, p, &tables, registers, port, frame, &mut buf.digests)
@@ -145,8 +147,7 @@ fn go_out(
     ensures digests { OnOk result (buf.new.digests ≡ (exit_from (parts_in p.now) (tables_in
         (parts_in p.now) tables.now) (cells_in registers.old.items) buf.old.digests (option_map waiting_of waiting)).digests) }
     ensures dropped { IfOk result (λ x. x ≡ passed.Dropped → buf.new.frame ≡ []) }
-    ensures header_bytes { buf.new.header_bytes ≡ buf.old.header_bytes }
-    ensures most_digests { buf.new.most_digests ≡ buf.old.most_digests }
+    ensures needs { buf.new.needs ≡ buf.old.needs }
 {
     match waiting {
         None => Ok(Passed::Dropped),
@@ -194,11 +195,13 @@ impl Switch {
         let parts = parts_of(alloc, program.program())?;
         few(parts.tables.len())?;
         let registers = start_cells(alloc, &parts.registers)?;
+        let needs = needs_of(&program)?;
         Ok(Switch {
             program,
             parts,
             registers,
             tables,
+            needs,
         })
     }
 }
@@ -211,7 +214,7 @@ impl Pass for Switch {
     ghost cells = { λ s. cells_in s.registers };
 
     fn room(&self, _alloc: Global, bytes: u32) -> Result<Queued, AllocError> {
-        Ok(Queued::new(bytes))
+        Ok(Queued::new(self.needs, bytes))
     }
 
     fn enter(
