@@ -6,6 +6,7 @@ mod Shown
 mod Entering
 mod Leaving
 mod Standing
+mod Made
 mod Departing
 pub mod Running
 pub mod Starting

@@ -28,6 +28,12 @@ map_same f [] i x y at same = refl
 map_same f (z ∷ xs) zero x y at same = let e : z ≡ x = (cc) in ap (λ u. u ∷ map f xs) (same ∙ ap f (sym e))
 map_same f (z ∷ xs) (suc i) x y at same = ap (λ us. f z ∷ us) (map_same f xs i x y at same)
 
+-- an item that stands there already
+pub set_same : {X : Type 0} (xs : List X) (i : ℕ) (x : X) → slice_get xs i ≡ Some x → set xs i x ≡ xs
+set_same [] i x at = refl
+set_same (y ∷ ys) zero x at = let e : y ≡ x = (cc) in ap (λ z. z ∷ ys) (sym e)
+set_same (y ∷ ys) (suc i) x at = ap (λ zs. y ∷ zs) (set_same ys i x at)
+
 -- a test that all items pass
 pub passes_at : {X : Type 0} (test : X → Bool) (xs : List X) (i : ℕ) (d : X) → i < length xs → list_all test xs ≡ true → test (get_or xs i d) ≡ true
 passes_at test [] i d h all = absurd (omega (arith, h))

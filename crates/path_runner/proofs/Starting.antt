@@ -4,7 +4,7 @@ use Rattle.std.specs.Prelude.{slice_get, All}
 use Rattle.std.specs.List.{list_all}
 use Rattle.std.proofs.lemmas.List.Elements.{All-head, All-tail}
 use Rattle.std.proofs.lemmas.Bool.Decides.{nat_tests}
-use Rattle.p4_machine.specs.Buffers.{Buffer, IsFor}
+use Rattle.p4_machine.specs.Buffers.{Buffer, IsMadeFor}
 use Rattle.p4_meaning.specs.Pass.{Queued}
 use Rattle.network_run.specs.Network.{Over}
 use Rattle.network_run.specs.NetworkRun.{Limits}
@@ -15,7 +15,7 @@ use Rattle.path_runner.specs.Conditions.{AreFor, IsAtEdge}
 use Rattle.path_runner.specs.Sound.{is_within, going_on}
 
 -- the first switch has the first buffer
-pub first_for : (x : Switch) (xs : List Switch) (b : Buffer) (bs : List Buffer) (all : List Switch) (bufs : List Buffer) → all ≡ x ∷ xs → bufs ≡ b ∷ bs → AreFor all bufs → IsFor x.program b × AreFor xs bs
+pub first_for : (x : Switch) (xs : List Switch) (b : Buffer) (bs : List Buffer) (all : List Switch) (bufs : List Buffer) → all ≡ x ∷ xs → bufs ≡ b ∷ bs → AreFor all bufs → IsMadeFor x.program b.needs × AreFor xs bs
 first_for x xs b bs all bufs e f are =
     let P : List Switch → Type 0 = λ ys. AreFor ys (b ∷ bs) in
     let Q : List Buffer → Type 0 = λ cs. AreFor all cs in

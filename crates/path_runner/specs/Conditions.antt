@@ -1,6 +1,6 @@
 -- What is asked of what is handed in. Read `Nets` before it.
 use Rattle.std.specs.Prelude.{◌≡◌, ◌<◌, ◌≤◌, ℕ, List, [], ◌∷◌, length, true, All}
-use Rattle.p4_machine.specs.Buffers.{Buffer, IsFor}
+use Rattle.p4_machine.specs.Buffers.{Buffer, IsMadeFor}
 use Rattle.indus_tree.specs.State.{Contents}
 use Rattle.network_run.specs.Events.{Event, Enter, Leave, Set}
 use Rattle.network_run.specs.Network.{at_edge}
@@ -30,7 +30,7 @@ abbrev pub AreFor : List Switch → List Buffer → Type 0
 AreFor [] [] = Unit {0}
 AreFor [] (b ∷ bs) = ⊥
 AreFor (x ∷ xs) [] = ⊥
-AreFor (x ∷ xs) (b ∷ bs) = IsFor x.program b × AreFor xs bs
+AreFor (x ∷ xs) (b ∷ bs) = IsMadeFor x.program b.needs × AreFor xs bs
 
 -- what a net is made of: a switch, with a buffer, for each switch of the network; for each a list of tables that hold
 -- control variables, of which there are none yet; the packets, and the limits

@@ -1,8 +1,13 @@
--- What holds of the places of packets at every moment. Read `Nets` before it.
-use Rattle.std.specs.Prelude.{ℕ, ◌+◌, List, [], ◌∷◌, length, Bool, true, ◌&&◌, nat_lt, nat_le}
+-- What holds of the places of packets at every moment. Read `Nets` and `Places` before it.
+use Rattle.std.specs.Prelude.{◌≡◌, ℕ, ◌+◌, List, [], ◌∷◌, length, slice_get, Bool, true, ◌&&◌, nat_lt, nat_le, Some}
+use Rattle.p4_tree.specs.Tree.{Program}
 use Rattle.p4_meaning.specs.Pass.{Queued}
+use Rattle.p4_machine.specs.Buffers.{IsMadeFor, place_of}
 use Rattle.network_run.specs.Network.{Place, Flying, Waiting, Over}
 use Rattle.network_run.specs.NetworkRun.{Limits}
+use Rattle.path_runner.specs.declared.place.Parked.{Parked}
+use Rattle.path_runner.specs.declared.place.Place as code_place
+use Rattle.path_runner.specs.declared.place.Place.TheVariants as code
 
 -- the packet is at one of so many switches, has passed fewer switches than it may, and links carry its frame; or it is at
 -- its end
@@ -26,3 +31,16 @@ abbrev pub IsNotWaiting : Place Queued → Type 0
 IsNotWaiting (Flying s port frame n) = Unit {0}
 IsNotWaiting (Waiting s port q n) = ⊥
 IsNotWaiting Over = Unit {0}
+
+-- ---- places of the program's own
+
+-- a packet that waits does so at this switch, in a place that was made for its program
+abbrev pub IsMadeAt : (switch : ℕ) → Program → code_place.Place → Type 0
+IsMadeAt s p (code.Waiting k) = (k.switch ≡ s) × IsMadeFor p (place_of k.queued).needs
+IsMadeAt s p (code.Flying f) = Unit {0}
+IsMadeAt s p code.Over = Unit {0}
+
+-- each packet that waits has a place that was made for the program of its switch
+abbrev pub AreMade : (programs : List Program) → List code_place.Place → Type 0
+AreMade programs places =
+    (i : ℕ) (k : Parked) (p : Program) → slice_get places i ≡ Some (code.Waiting k) → slice_get programs k.switch ≡ Some p → IsMadeFor p (place_of k.queued).needs

@@ -2,13 +2,14 @@
 
 ghost use Rattle.std.specs.Prelude.{◌≡◌, ◌+◌, ◌<◌, ◌≤◌, ◌++◌, length, map, IfOk, IfSome, OnOk, OnErr};
 ghost use Rattle.std.specs.Option.{option_map};
-ghost use Rattle.p4_machine.specs.Buffers.{place_of};
+ghost use Rattle.p4_machine.specs.Buffers.{IsMadeFor, place_of};
 ghost use Rattle.switch_machines.specs.Programs.{network_digest};
 ghost use Rattle.network_run.specs.NetworkRun.{told_by, queued_or_over, dropped_if_none};
 ghost use Rattle.path_runner.specs.Switches.{entry_at, exit_at};
 ghost use Rattle.network_file.specs.Wiring.{wiring_of};
 ghost use Rattle.path_runner.specs.Places.{place_in, limits_of};
 ghost use Rattle.path_runner.specs.Departures.{left_departure};
+ghost use Rattle.path_runner.specs.Sound.{IsMadeAt};
 ghost use Rattle.path_runner.specs.Views.{station_in, traffic_in};
 
 use crate::packet::Sent;
@@ -36,6 +37,7 @@ pub(crate) fn enter<P: Pass + Drop>(
         ≡ (entry_at (station_in station.old) flight.now.port flight.now.frame.items).registers) }
     ensures place { IfOk result (λ x. place_in x ≡ queued_or_over flight.now.switch flight.now.port flight.now.passed
         (entry_at (station_in station.old) flight.now.port flight.now.frame.items).queued) }
+    ensures made { IfOk result (IsMadeAt flight.now.switch (station_in station.new).program) }
     ensures told { OnOk result (traffic_in traffic.new ≡ record (traffic_in traffic.old) {
       told = (traffic_in traffic.old).told ++ told_by packet flight.now.switch
           (map network_digest (entry_at (station_in station.old) flight.now.port flight.now.frame.items).digests);
@@ -71,6 +73,7 @@ fn sent<P: Pass + Drop>(
     switch: u16,
     queued: &mut Queued,
 ) -> Result<Option<Sent>, AllocError>
+    requires { IsMadeFor (station_in station.old).program (place_of queued.old).needs }
     ensures program { (station_in station.new).program ≡ (station_in station.old).program }
     ensures tables { (station_in station.new).tables ≡ (station_in station.old).tables }
     ensures cells { OnOk result ((station_in station.new).cells
@@ -111,6 +114,7 @@ pub(crate) fn leave<P: Pass + Drop>(
     packet: u32,
     parked: Parked,
 ) -> Result<Place, AllocError>
+    requires made { IsMadeFor (station_in station.old).program (place_of parked.queued).needs }
     requires passed { parked.passed < limits.hops }
     requires counted { traffic.old.dropped + traffic.old.lost < 4294967295 }
     ensures program { (station_in station.new).program ≡ (station_in station.old).program }
@@ -120,6 +124,7 @@ pub(crate) fn leave<P: Pass + Drop>(
     ensures place { IfOk result (λ x. place_in x ≡ (left_departure (wiring_of network.now) (limits_of limits)
         (traffic_in traffic.old) packet parked.switch parked.passed
         (exit_at (station_in station.old) (place_of parked.queued).waiting)).place) }
+    ensures made { IfOk result (IsMadeAt parked.switch (station_in station.new).program) }
     ensures traffic { OnOk result (traffic_in traffic.new ≡ (left_departure (wiring_of network.now) (limits_of limits)
         (traffic_in traffic.old) packet parked.switch parked.passed
         (exit_at (station_in station.old) (place_of parked.queued).waiting)).traffic) }

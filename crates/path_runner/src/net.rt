@@ -5,7 +5,7 @@ ghost use Rattle.std.specs.List.{list_all};
 ghost use Rattle.network_run.specs.Network.{IsWiring};
 ghost use Rattle.network_file.specs.Wiring.{wiring_of};
 ghost use Rattle.path_runner.specs.Places.{place_in, limits_of};
-ghost use Rattle.path_runner.specs.Sound.{is_within, going_on};
+ghost use Rattle.path_runner.specs.Sound.{AreMade, is_within, going_on};
 
 use crate::halves::{enter, leave};
 use crate::handed::{flights, stations, switches};
@@ -33,6 +33,7 @@ pub struct Net<P: Pass + Drop> {
     ghost switches: { length stations.items ≡ length network.names },
     ghost wired: { IsWiring (wiring_of network) },
     ghost within: { list_all (is_within (length network.names) (limits_of limits)) (map place_in places.items) ≡ true },
+    ghost made: { AreMade (map (λ s. P.program s.switch) stations.items) places.items },
     ghost few: { length places.items ≤ 100000 },
     ghost link: { limits.link ≤ 65791 },
     ghost counted: { traffic.dropped + traffic.lost + going_on (map place_in places.items) ≤ 4294967295 },

@@ -1,9 +1,10 @@
 //! Packets that wait between halves.
 
-ghost use Rattle.std.specs.Prelude.{◌≡◌, ◌<◌, length, map, get_or, slice_set, MatchOption};
+ghost use Rattle.std.specs.Prelude.{◌≡◌, ◌<◌, Some, length, map, get_or, slice_get, slice_set, IfSome, MatchOption};
 ghost use Rattle.network_run.specs.Network.{Over};
 ghost use Rattle.path_runner.specs.Places.{place_in, parked_place};
 ghost use Rattle.path_runner.specs.Sound.{IsNotWaiting};
+ghost use Rattle.path_runner.specs.declared.place.Place.TheVariants as code;
 
 use crate::place::{Parked, Place};
 use std::mem;
@@ -16,6 +17,8 @@ pub(crate) fn take_parked(places: &mut Vec<Place>, at: usize) -> Option<Parked>
         ((map place_in places.new.items ≡ map place_in places.old.items) × IsNotWaiting (get_or (map place_in places.old.items) at Over))
         (λ p. (map place_in places.new.items ≡ slice_set (map place_in places.old.items) at Over)
         × (get_or (map place_in places.old.items) at Over ≡ parked_place p)) }
+    ensures waited { IfSome result (λ p. slice_get places.old.items at ≡ Some (code.Waiting p)) }
+    ensures items { MatchOption result (places.new.items ≡ places.old.items) (λ _. places.new.items ≡ slice_set places.old.items at code.Over) }
 {
     match mem::replace(&mut places[at], Place::Over) {
         Place::Waiting(parked) => Some(parked),

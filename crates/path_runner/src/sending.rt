@@ -1,11 +1,13 @@
 //! What becomes of a frame that a switch sends.
 
-ghost use Rattle.std.specs.Prelude.{◌≡◌, ◌+◌, ◌<◌, ◌≤◌, IfOk, OnOk};
+ghost use Rattle.std.specs.Prelude.{◌≡◌, ℕ, ◌+◌, ◌<◌, ◌≤◌, IfOk, OnOk};
+ghost use Rattle.p4_tree.specs.Tree.{Program};
 ghost use Rattle.network_run.specs.Network.{far_end};
 ghost use Rattle.network_file.specs.Wiring.{wiring_of};
 ghost use Rattle.path_runner.specs.Packets.{sent_of};
 ghost use Rattle.path_runner.specs.Places.{place_in, limits_of};
 ghost use Rattle.path_runner.specs.Departures.{sent_departure};
+ghost use Rattle.path_runner.specs.Sound.{IsMadeAt};
 ghost use Rattle.path_runner.specs.Views.{traffic_in};
 
 use crate::packet::Sent;
@@ -31,6 +33,7 @@ pub(crate) fn send(
     requires lost { traffic.old.lost < 4294967295 }
     ensures place { IfOk result (λ x. place_in x ≡ (sent_departure (limits_of limits) (traffic_in traffic.old) passed
         (sent_of sent) (far_end (wiring_of network.now) sent.switch sent.port)).place) }
+    ensures made { (s : ℕ) (p : Program) → IfOk result (IsMadeAt s p) }
     ensures traffic { OnOk result (traffic_in traffic.new ≡ (sent_departure (limits_of limits) (traffic_in traffic.old) passed
         (sent_of sent) (far_end (wiring_of network.now) sent.switch sent.port)).traffic) }
     ensures dropped { traffic.new.dropped ≡ traffic.old.dropped }

@@ -2,7 +2,7 @@
 
 ghost use Rattle.std.specs.Prelude.{◌≡◌, ◌≤◌, true, length, IfOk, IfSome, OnOk};
 ghost use Rattle.std.specs.Option.{option_map, option_and_then};
-ghost use Rattle.p4_machine.specs.Buffers.{IsFor, is_some_packet, place_of};
+ghost use Rattle.p4_machine.specs.Buffers.{IsMadeFor, is_some_packet, place_of};
 
 use p4_machine::{Entered, FrameBuf, Pass, Passed, Queued};
 use std::alloc::{AllocError, Global};
@@ -12,7 +12,7 @@ use std::alloc::{AllocError, Global};
 pub(crate) struct Station<P: Pass + Drop> {
     pub switch: P,
     pub buf: FrameBuf,
-    ghost fits: { IsFor (P.program switch) buf },
+    ghost fits: { IsMadeFor (P.program switch) buf.needs },
 }
 
 impl<P: Pass + Drop> Station<P> {
@@ -35,6 +35,7 @@ impl<P: Pass + Drop> Station<P> {
         ensures queued { IfOk result (λ q. option_and_then (λ x. (place_of x).waiting) q
             ≡ (entry_at (station_in self.old) port frame.now).queued) }
         ensures full { IfOk result (λ q. IfSome q (λ x. is_some_packet (place_of x).waiting ≡ true)) }
+        ensures made { IfOk result (λ q. IfSome q (λ x. IsMadeFor (station_in self.new).program (place_of x).needs)) }
         ensures digests { OnOk result (self.new.buf.digests
             ≡ (entry_at (station_in self.old) port frame.now).digests) }
     {
@@ -51,6 +52,7 @@ impl<P: Pass + Drop> Station<P> {
     /// The exit half of the passage of a packet that waits: the port by which the buffer's frame goes
     /// out, or `None` where the packet is dropped. The buffer has the digests.
     pub fn leave(&mut self, alloc: Global, queued: &mut Queued) -> Result<Option<u16>, AllocError>
+        requires { IsMadeFor (station_in self.old).program (place_of queued.old).needs }
         ensures program { (station_in self.new).program ≡ (station_in self.old).program }
         ensures tables { (station_in self.new).tables ≡ (station_in self.old).tables }
         ensures cells { OnOk result ((station_in self.new).cells

@@ -4,7 +4,7 @@ use Rattle.network_run.specs.Network.{Over}
 use Rattle.path_runner.specs.Places.{place_in}
 use Rattle.path_runner.specs.Sound.{IsNotWaiting}
 use Rattle.path_runner.specs.declared.place.Place.TheVariants as code
-use Rattle.path_runner.proofs.Lists.{map_same}
+use Rattle.path_runner.proofs.Lists.{map_same, set_same}
 use Rattle.path_runner.proofs.Standing.{read_item, view_at, not_waiting}
 use Rattle.path_runner.proofs.parked.take_parked.Goals as goal
 
@@ -16,6 +16,14 @@ returns-in-Waiting-clause-taken c =
           (read_item places (length places) c.args.at c.index_mut.result.now refl c.requires c.index_mut.ensures.value ∙ ap Some (sym c.replace.ensures.value ∙ c.in-Waiting.is)),
     )
 
+pub returns-in-Waiting-clause-items : goal.returns-in-Waiting-clause-items
+returns-in-Waiting-clause-items c = ap (set c.args.places.now.items c.args.at) c.replace.ensures.after
+
+pub returns-in-Waiting-clause-waited : goal.returns-in-Waiting-clause-waited
+returns-in-Waiting-clause-waited c =
+    let places = c.args.places.now.items in
+    read_item places (length places) c.args.at c.index_mut.result.now refl c.requires c.index_mut.ensures.value ∙ ap Some (sym c.replace.ensures.value ∙ c.in-Waiting.is)
+
 pub returns-in_default : goal.returns-in_default
 returns-in_default c =
     let places = c.args.places.now.items in
@@ -23,6 +31,9 @@ returns-in_default c =
     let here = read_item places (length places) c.args.at x refl c.requires c.index_mut.ensures.value in
     record {
       length = simp length-set;
+      waited = tt;
+      items = set-set places c.args.at c.replace.new.dest c.replace-over.new.dest
+          ∙ ap (set places c.args.at) (c.replace-over.ensures.after ∙ c.replace.ensures.value) ∙ set_same places c.args.at x here;
       taken = (
         ap (map place_in) (set-set places c.args.at c.replace.new.dest c.replace-over.new.dest)
             ∙ map_same place_in places c.args.at x c.replace-over.new.dest here (ap place_in (c.replace-over.ensures.after ∙ c.replace.ensures.value)),

@@ -1,11 +1,13 @@
-use Rattle.std.proofs.Common.{length, map, set, refl, ap, ◌∙◌, arith}
+use Rattle.std.proofs.Common.{List, length, map, set, refl, sym, ap, ◌∙◌, subst, arith}
 use Rattle.std.proofs.lemmas.List.{map-set, length-set, length-map}
+use Rattle.p4_tree.specs.Tree.{Program}
 use Rattle.path_runner.specs.Places.{place_in, limits_of}
 use Rattle.path_runner.specs.Nets.{Traffic}
-use Rattle.path_runner.specs.Sound.{is_within}
+use Rattle.path_runner.specs.Sound.{AreMade, is_within}
 use Rattle.path_runner.specs.Switches.{entry_at}
 use Rattle.path_runner.specs.Views.{state_of, station_in}
-use Rattle.path_runner.proofs.Lists.{all_pass}
+use Rattle.path_runner.proofs.Lists.{all_pass, map_same}
+use Rattle.path_runner.proofs.Made.{made_after}
 use Rattle.path_runner.proofs.Standing.{read_item, view_there, views_same, flight_known, flight_at, entered_within, entered_counted}
 use Rattle.path_runner.proofs.Entering.{entered_runs}
 use Rattle.path_runner.proofs.net.Net.enter.Goals as goal
@@ -55,6 +57,34 @@ invariant_of-self-2-clause-within g c =
     rw (map-set place_in n.places.items c.args.packet c.replace-before.new.dest, c.replace-before.ensures.after, c.in_ok-next.ensures.place)
     (all_pass (is_within (length n.network.names) (limits_of n.limits)) (map place_in n.places.items) c.args.packet _ n.within
     (entered_within (length n.network.names) (limits_of n.limits) f.switch f.port f.passed _ known.switch_there known.passed))
+
+pub invariant_of-self-in-Break-1 : goal.invariant_of-self-in-Break-1
+invariant_of-self-in-Break-1 g c =
+    let n = c.args.self.now in
+    let f = c.in-Flying.flight in
+    let known = flight_known (length n.network.names) (limits_of n.limits) n.places.items c.args.packet c.index.result.now f c.requires c.index.ensures c.in-Flying.is n.within in
+    let x = c.index_mut-station.result.now in
+    let unit = read_item n.stations.items (length n.stations.items) f.switch x refl (omega (arith, known.switch_there, n.switches)) c.index_mut-station.ensures.value in
+    record {
+      switches = length-set n.stations.items f.switch c.enter.new.station ∙ n.switches;
+      wired = n.wired;
+      within = n.within;
+      made = subst (λ (ps : List Program). AreMade ps n.places.items) (sym (map_same (λ s. g.P.Pass.program s.switch) n.stations.items f.switch x c.enter.new.station unit c.enter.ensures.program)) n.made;
+      few = n.few;
+      link = n.link;
+      counted = omega (arith, c.in_err-next.ensures.kept, c.enter.ensures.lost, n.counted);
+    }
+
+pub invariant_of-self-2-clause-made : goal.invariant_of-self-2-clause-made
+invariant_of-self-2-clause-made g c =
+    let n = c.args.self.now in
+    let f = c.in-Flying.flight in
+    let known = flight_known (length n.network.names) (limits_of n.limits) n.places.items c.args.packet c.index.result.now f c.requires c.index.ensures c.in-Flying.is n.within in
+    let x = c.index_mut-station.result.now in
+    let unit = read_item n.stations.items (length n.stations.items) f.switch x refl (omega (arith, known.switch_there, n.switches)) c.index_mut-station.ensures.value in
+    made_after (map (λ s. g.P.Pass.program s.switch) n.stations.items) _ n.places.items c.args.packet f.switch (g.P.Pass.program x.switch) _ c.in_ok-next.next c.replace-before.new.dest n.made
+    (view_there (λ s. g.P.Pass.program s.switch) n.stations.items f.switch x unit)
+    (map_same (λ s. g.P.Pass.program s.switch) n.stations.items f.switch x c.enter.new.station unit c.enter.ensures.program) c.enter.ensures.program c.replace-before.ensures.after c.in_ok-next.ensures.made
 
 pub invariant_of-self-2-clause-few : goal.invariant_of-self-2-clause-few
 invariant_of-self-2-clause-few g c =

@@ -1,19 +1,26 @@
-use Rattle.std.proofs.Common.{◌≡◌, List, length, map, set, refl, ap, ◌∙◌, arith}
+use Rattle.std.proofs.Common.{◌≡◌, List, length, map, set, refl, sym, ap, ◌∙◌, subst, arith}
 use Rattle.std.proofs.lemmas.List.{map-set, length-set}
 use Rattle.p4_machine.specs.Buffers.{place_of}
 use Rattle.network_run.specs.Network.{Over, Place}
 use Rattle.network_file.specs.Wiring.{wiring_of}
 use Rattle.p4_meaning.specs.Pass.{Queued}
 use Rattle.path_runner.specs.Places.{place_in, limits_of}
-use Rattle.path_runner.specs.Sound.{is_within}
+use Rattle.path_runner.specs.Sound.{AreMade, is_within}
 use Rattle.path_runner.specs.Switches.{exit_at}
 use Rattle.path_runner.specs.Departures.{left_departure}
 use Rattle.path_runner.specs.Views.{state_of, station_in, traffic_in}
-use Rattle.path_runner.proofs.Lists.{all_pass}
+use Rattle.path_runner.specs.declared.place.Place.TheVariants as code
+use Rattle.path_runner.proofs.Lists.{all_pass, map_same}
+use Rattle.path_runner.proofs.Made.{made_after}
 use Rattle.path_runner.proofs.Standing.{read_item, view_there, views_same, waiting_known, put_back}
 use Rattle.path_runner.proofs.Departing.{left_within, left_counted, taken_going}
 use Rattle.path_runner.proofs.Leaving.{left_runs}
 use Rattle.path_runner.proofs.net.Net.leave.Goals as goal
+
+pub invariant_of-self-clause-made : goal.invariant_of-self-clause-made
+invariant_of-self-clause-made g c =
+    let n = c.args.self.now in
+    subst (AreMade (map (λ s. g.P.Pass.program s.switch) n.stations.items)) (sym c.in_default.ensures.items) n.made
 
 pub leave-requires-clause-counted : goal.leave-requires-clause-counted
 leave-requires-clause-counted g c =
@@ -22,16 +29,33 @@ leave-requires-clause-counted g c =
     let known = waiting_known (length n.network.names) (limits_of n.limits) (map place_in n.places.items) c.args.packet c.requires n.within k.switch k.port k.passed (place_of k.queued).waiting k.full c.in-Some.ensures.taken.1 in
     omega (arith, known.going, n.counted)
 
+pub leave-requires-clause-made : goal.leave-requires-clause-made
+leave-requires-clause-made g c =
+    let n = c.args.self.now in
+    let k = c.in-Some.parked in
+    let known = waiting_known (length n.network.names) (limits_of n.limits) (map place_in n.places.items) c.args.packet c.requires n.within k.switch k.port k.passed (place_of k.queued).waiting k.full c.in-Some.ensures.taken.1 in
+    let x = c.index_mut-station.result.now in
+    let unit = read_item n.stations.items (length n.stations.items) k.switch x refl (omega (arith, known.switch_there, n.switches)) c.index_mut-station.ensures.value in
+    n.made c.args.packet k (g.P.Pass.program x.switch) c.in-Some.ensures.waited (view_there (λ s. g.P.Pass.program s.switch) n.stations.items k.switch x unit)
+
 pub invariant_of-self-in-Break-1 : goal.invariant_of-self-in-Break-1
 invariant_of-self-in-Break-1 g c =
     let n = c.args.self.now in
     let k = c.in-Some.parked in
     let ps = map place_in n.places.items in
+    let known = waiting_known (length n.network.names) (limits_of n.limits) ps c.args.packet c.requires n.within k.switch k.port k.passed (place_of k.queued).waiting k.full c.in-Some.ensures.taken.1 in
+    let x = c.index_mut-station.result.now in
+    let unit = read_item n.stations.items (length n.stations.items) k.switch x refl (omega (arith, known.switch_there, n.switches)) c.index_mut-station.ensures.value in
+    let programs = map (λ s. g.P.Pass.program s.switch) n.stations.items in
     let fewer_places : length c.take_parked.new.places.items ≡ length n.places.items = c.in-Some.ensures.length in
     let fewer = taken_going ps c.args.packet k.switch k.port k.passed 0 (place_of k.queued).waiting c.requires k.full c.in-Some.ensures.taken.1 in
     record {
       switches = length-set n.stations.items k.switch c.leave.new.station ∙ n.switches;
       wired = n.wired;
+      made = rw c.in-Some.ensures.items
+          (made_after programs _ n.places.items c.args.packet k.switch (g.P.Pass.program x.switch) _ code.Over code.Over n.made
+          (view_there (λ s. g.P.Pass.program s.switch) n.stations.items k.switch x unit)
+          (map_same (λ s. g.P.Pass.program s.switch) n.stations.items k.switch x c.leave.new.station unit c.leave.ensures.program) c.leave.ensures.program refl tt);
       within = rw c.in-Some.ensures.taken.0 (all_pass (is_within (length n.network.names) (limits_of n.limits)) ps c.args.packet Over n.within refl);
       few = omega (arith, fewer_places, n.few);
       link = n.link;
@@ -66,9 +90,18 @@ invariant_of-self-2 g c =
     let fewer_places : length c.take_parked.new.places.items ≡ length n.places.items = c.in-Some.ensures.length in
     let is : place_in c.replace-over.new.dest ≡ (left_departure (wiring_of n.network) (limits_of n.limits) (traffic_in n.traffic) c.args.packet k.switch k.passed x).place = ap place_in c.replace-over.ensures.after ∙ c.in_ok-next.ensures.place in
     let back = put_back c.take_parked.new.places.items n.places.items c.args.packet c.replace-over.new.dest c.in-Some.ensures.taken.0 in
+    let known = waiting_known (length n.network.names) (limits_of n.limits) ps c.args.packet c.requires n.within k.switch k.port k.passed (place_of k.queued).waiting k.full c.in-Some.ensures.taken.1 in
+    let u = c.index_mut-station.result.now in
+    let unit = read_item n.stations.items (length n.stations.items) k.switch u refl (omega (arith, known.switch_there, n.switches)) c.index_mut-station.ensures.value in
+    let programs = map (λ s. g.P.Pass.program s.switch) n.stations.items in
+    let there = view_there (λ s. g.P.Pass.program s.switch) n.stations.items k.switch u unit in
     record {
       switches = length-set n.stations.items k.switch c.leave.new.station ∙ n.switches;
       wired = n.wired;
+      made = rw c.in-Some.ensures.items
+          (made_after programs _ (set n.places.items c.args.packet code.Over) c.args.packet k.switch (g.P.Pass.program u.switch) _ c.in_ok-next.next c.replace-over.new.dest
+          (made_after programs programs n.places.items c.args.packet k.switch (g.P.Pass.program u.switch) _ code.Over code.Over n.made there refl refl refl tt) there
+          (map_same (λ s. g.P.Pass.program s.switch) n.stations.items k.switch u c.leave.new.station unit c.leave.ensures.program) c.leave.ensures.program c.replace-over.ensures.after c.in_ok-next.ensures.made);
       within = rw (back, is)
           (all_pass (is_within (length n.network.names) (limits_of n.limits)) ps c.args.packet _ n.within
           (left_within (wiring_of n.network) (limits_of n.limits) (traffic_in n.traffic) c.args.packet k.switch k.passed x n.wired));

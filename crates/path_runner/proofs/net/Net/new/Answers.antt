@@ -7,6 +7,7 @@ use Rattle.path_runner.specs.Packets.{arrival_of}
 use Rattle.path_runner.specs.Switches.{switch_of}
 use Rattle.path_runner.specs.Places.{place_in}
 use Rattle.path_runner.specs.Views.{station_in}
+use Rattle.path_runner.proofs.Made.{made_before}
 use Rattle.path_runner.proofs.Starting.{before_starts, arrivals_within, arrivals_going}
 use Rattle.path_runner.proofs.net.Net.new.Goals as goal
 
@@ -26,6 +27,9 @@ invariant_of-result-clause-counted g c =
     let lost = ap (λ (t : Traffic). t.lost) c.new.ensures in
     let going = arrivals_going (map arrival_of c.args.packets.items) in
     rw c.in_ok-places.ensures (omega (arith, dropped, lost, going, c.requires.few))
+
+pub invariant_of-result-clause-made : goal.invariant_of-result-clause-made
+invariant_of-result-clause-made g c = made_before _ c.in_ok-places.places.items (map arrival_of c.args.packets.items) c.in_ok-places.ensures
 
 pub invariant_of-result-clause-within : goal.invariant_of-result-clause-within
 invariant_of-result-clause-within g c =
