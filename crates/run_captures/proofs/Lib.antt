@@ -1,3 +1,3 @@
-pub mod ByPort
+pub mod Sorting
 pub mod Short
 pub mod Files

@@ -1,13 +1,14 @@
 //! The captures that a run writes.
 
-ghost use Rattle.std.specs.Prelude.{◌≡◌, ◌≤◌, ◌++◌, [], ℕ, length, map, get_or, All, IfOk, OnOk, string_bytes};
+ghost use Rattle.std.specs.Prelude.{◌≡◌, ◌≤◌, ◌++◌, [], ℕ, List, length, map, get_or, All, IfOk, OnOk, string_bytes};
+ghost use Rattle.network_run.specs.Network as network;
 ghost use Rattle.pcap_io.specs.Record.{record_of, records_of};
 ghost use Rattle.pcap_io.specs.Written.{capture_bytes};
 ghost use Rattle.job_course.specs.Output.{files_of, file_of};
 ghost use Rattle.run_captures.specs.Captures as captures;
-ghost use Rattle.run_captures.specs.Ports.{AreByPort, AreShort, IsPut, lists_files};
+ghost use Rattle.run_captures.specs.Sorted.{AreShort, AreSorted, IsPut, lists_files, port_of, switch_of, those_at};
 ghost use Rattle.path_runner.specs.Packets.{sent_of};
-ghost use Rattle.run_captures.specs.Views.{time_view, list_view, front_view};
+ghost use Rattle.run_captures.specs.Views.{time_view, lent_view, list_view, front_view};
 
 use network_file::Network;
 use path_runner::Sent;
@@ -58,54 +59,68 @@ fn captured(alloc: Global, times: &[Time], sent: &Sent) -> Result<Captured, Allo
     })
 }
 
-/// A list for each port, with no frame.
-fn no_frames(alloc: Global) -> Result<Vec<Vec<Captured>>, AllocError>
-    ensures { IfOk result (λ v. AreByPort [] 0 [] (map list_view v.items)) }
+/// So many lists, with no frame.
+fn no_frames<'a>(alloc: Global, count: usize) -> Result<Vec<Vec<&'a Sent>>, AllocError>
+    ensures { IfOk result (λ v. (key : network.Sent → ℕ) → AreSorted key count [] (map list_view v.items)) }
 {
     let mut lists = Vec::new(alloc);
-    for _ in 0..PORTS {
+    for _ in 0..count {
         lists.push(Vec::new(alloc))?;
     }
     Ok(lists)
 }
 
-/// A frame goes behind those of its port, where it is one that the switch sent by one of its ports.
-fn put(
-    alloc: Global,
-    times: &[Time],
-    switch: u16,
-    lists: &mut Vec<Vec<Captured>>,
-    sent: &Sent,
-) -> Result<(), AllocError>
-    ensures { OnOk result (IsPut (map time_view times.now) switch (sent_of sent.now)
-        (map list_view lists.old.items) (map list_view lists.new.items)) }
+/// A frame goes behind those of a number, if there is a list for it.
+fn put<'a>(lists: &mut Vec<Vec<&'a Sent>>, at: usize, sent: &'a Sent) -> Result<(), AllocError>
+    ensures { OnOk result ((key : network.Sent → ℕ) → key (sent_of sent.now) ≡ at →
+        IsPut key (sent_of sent.now) (map list_view lists.old.items) (map list_view lists.new.items)) }
 {
-    let port = sent.port as usize;
-    if sent.switch != switch {
+    if at >= lists.len() {
         return Ok(());
     }
-    if port >= lists.len() {
-        return Ok(());
-    }
-    let frame = captured(alloc, times, sent)?;
-    lists[port].push(frame)?;
+    lists[at].push(sent)?;
     Ok(())
 }
 
-/// The frames that a switch sent, by their ports.
-fn by_port(
+/// The frames that switches sent, by the numbers of the switches.
+fn by_switch<'a>(
     alloc: Global,
-    times: &[Time],
-    switch: u16,
-    sent: &[Sent],
-) -> Result<Vec<Vec<Captured>>, AllocError>
-    ensures { IfOk result (λ v. AreByPort (map time_view times.now) switch (map sent_of sent.now) (map list_view v.items)) }
+    count: u16,
+    sent: &'a [Sent],
+) -> Result<Vec<Vec<&'a Sent>>, AllocError>
+    ensures { IfOk result (λ v. AreSorted switch_of count (map sent_of sent.now) (map list_view v.items)) }
 {
-    let mut lists = no_frames(alloc)?;
+    let mut lists = no_frames(alloc, count as usize)?;
     for x in sent {
-        put(alloc, times, switch, &mut lists, x)?;
+        put(&mut lists, x.switch as usize, x)?;
     }
     Ok(lists)
+}
+
+/// The frames of a switch, by the ports by which it sent them.
+fn by_port<'a>(alloc: Global, sent: &[&'a Sent]) -> Result<Vec<Vec<&'a Sent>>, AllocError>
+    ensures { IfOk result (λ v. AreSorted port_of 511 (map lent_view sent.now) (map list_view v.items)) }
+{
+    let mut lists = no_frames(alloc, PORTS)?;
+    for x in sent {
+        put(&mut lists, x.port as usize, *x)?;
+    }
+    Ok(lists)
+}
+
+/// Frames as records of a capture.
+fn captured_all(
+    alloc: Global,
+    times: &[Time],
+    frames: &[&Sent],
+) -> Result<Vec<Captured>, AllocError>
+    ensures { IfOk result (λ v. records_of v.items ≡ map (captures.record_for (map time_view times.now)) (map lent_view frames.now)) }
+{
+    let mut list = Vec::new(alloc);
+    for x in frames {
+        list.push(captured(alloc, times, *x)?)?;
+    }
+    Ok(list)
 }
 
 /// The front of the names of files, and what kind of frames they hold.
@@ -134,18 +149,21 @@ fn put_file(
     files: &mut Vec<(String, Vec<u8>)>,
     front: &Front<'_>,
     name: &str,
+    times: &[Time],
     port: usize,
-    frames: &[Captured],
+    frames: &[&Sent],
 ) -> Result<(), AllocError>
-    requires { AreShort (records_of frames.now) }
+    requires { AreShort (map lent_view frames.now) }
     ensures { OnOk result (files_of files.new.items
-        ≡ files_of files.old.items ++ captures.port_file (front_view front.now) name.now port (records_of frames.now)) }
+        ≡ files_of files.old.items ++ captures.port_file (front_view front.now) name.now port
+        (map (captures.record_for (map time_view times.now)) (map lent_view frames.now))) }
 {
     if frames.is_empty() {
         return Ok(());
     }
+    let captured = captured_all(alloc, times, frames)?;
     let name = capture_name(alloc, front, name, port)?;
-    files.push((name, write_capture(alloc, frames)?))?;
+    files.push((name, write_capture(alloc, &captured)?))?;
     Ok(())
 }
 
@@ -155,14 +173,15 @@ fn put_files(
     files: &mut Vec<(String, Vec<u8>)>,
     front: &Front<'_>,
     name: &str,
-    lists: &[Vec<Captured>],
+    times: &[Time],
+    lists: &[Vec<&Sent>],
 ) -> Result<(), AllocError>
     requires { (p : ℕ) → AreShort (get_or (map list_view lists.now) p []) }
     ensures { OnOk result (files_of files.new.items
-        ≡ files_of files.old.items ++ lists_files (front_view front.now) name.now 0 (map list_view lists.now)) }
+        ≡ files_of files.old.items ++ lists_files (front_view front.now) name.now (map time_view times.now) 0 (map list_view lists.now)) }
 {
     for port in 0..lists.len() {
-        put_file(alloc, files, front, name, port, &lists[port])?;
+        put_file(alloc, files, front, name, times, port, &lists[port])?;
     }
     Ok(())
 }
@@ -175,15 +194,14 @@ fn put_switch(
     front: &Front<'_>,
     name: &str,
     times: &[Time],
-    switch: u16,
-    sent: &[Sent],
+    sent: &[&Sent],
 ) -> Result<(), AllocError>
-    requires { All (λ x. length x.frame.items ≤ 65791) sent.now }
-    ensures { OnOk result (files_of files.new.items
-        ≡ files_of files.old.items ++ captures.switch_files (front_view front.now) name.now (map time_view times.now) (map sent_of sent.now) switch) }
+    requires { AreShort (map lent_view sent.now) }
+    ensures { (switch : ℕ) (xs : List network.Sent) → map lent_view sent.now ≡ those_at switch_of switch xs → OnOk result (files_of files.new.items
+        ≡ files_of files.old.items ++ captures.switch_files (front_view front.now) name.now (map time_view times.now) xs switch) }
 {
-    let lists = by_port(alloc, times, switch, sent)?;
-    put_files(alloc, files, front, name, &lists)
+    let lists = by_port(alloc, sent)?;
+    put_files(alloc, files, front, name, times, &lists)
 }
 
 /// The captures of the frames that the switches of a network sent, behind other files: one for each
@@ -200,9 +218,10 @@ pub fn put_captures(
     ensures { OnOk result (files_of files.new.items
         ≡ files_of files.old.items ++ captures.switches_files (front_view front.now) (map time_view times.now) (map sent_of sent.now) 0 network.now.names) }
 {
+    let lists = by_switch(alloc, network.count(), sent)?;
     for switch in 0..network.count() {
         let name = network.name(switch);
-        put_switch(alloc, files, front, name, times, switch, sent)?;
+        put_switch(alloc, files, front, name, times, &lists[switch as usize])?;
     }
     Ok(())
 }
