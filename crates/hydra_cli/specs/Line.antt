@@ -9,7 +9,9 @@ use Rattle.wire_machine.specs.Machine.{Machine}
 use Rattle.wire_network.specs.Travel.{Net, Fate, left, dropped, lost}
 use Rattle.hydra_cli.specs.declared.wire.LinkedLine.{LinkedLine}
 use Rattle.hydra_cli.specs.declared.wire.Counts.{Counts}
-use Rattle.hydra_cli.specs.Wire.{rejected_at, summary_of}
+use Rattle.hydra_cli.specs.Wire.{rejected_at}
+use Rattle.report_writer.specs.Texts as texts
+use Rattle.report_writer.specs.Texts.{summary_of}
 
 -- each is the linked program of its switch
 pub record IsLinkedLine (p : Property) (line : LinkedLine) : Type 0 where
@@ -58,8 +60,20 @@ lost_of lost = 1
 
 -- the summary of a way
 abbrev pub summary_of_way : Net × Fate → List ℕ
-summary_of_way way = summary_of (sent_of way.1) (ended_of way.1 - rejected_on way.0) (rejected_on way.0) (lost_of way.1) (reports_on way.0)
+summary_of_way way =
+    summary_of (record {
+      packets = 1;
+      sent = sent_of way.1;
+      dropped = ended_of way.1 - rejected_on way.0;
+      rejected = rejected_on way.0;
+      lost = lost_of way.1;
+      reports = reports_on way.0;
+    })
 
--- the summary of these numbers
+-- these numbers, of one packet
+abbrev pub counts_of_one : Counts → texts.Counts
+counts_of_one c = record { packets = 1; sent = c.sent; dropped = c.dropped; rejected = c.rejected; lost = c.lost; reports = c.reports }
+
+-- their summary
 abbrev pub summary_of_counts : Counts → List ℕ
-summary_of_counts c = summary_of c.sent c.dropped c.rejected c.lost c.reports
+summary_of_counts c = summary_of (counts_of_one c)

@@ -1,6 +1,5 @@
 -- What `wire` writes: the texts of programs, the frame that left their network, and the summary of their run.
 use Rattle.std.specs.Prelude.{ℕ, ◌-◌, List, [], ◌∷◌, ◌++◌, length, map, sum_by, count_by, codes}
-use Rattle.std.specs.Fmt.{decimal}
 use Rattle.bit_values.specs.Bits.{cast}
 use Rattle.indus_tree.specs.State.{Contents}
 use Rattle.p4_tree.specs.Tree.{Program}
@@ -10,6 +9,7 @@ use Rattle.network_run.specs.Network.{Net}
 use Rattle.linkage.specs.Linkage.{is_report}
 use Rattle.monitor_laws.specs.Names.{rejects_register}
 use Rattle.p4_printer.specs.Programs.{program_text}
+use Rattle.report_writer.specs.Texts.{summary_of}
 
 -- the file of a switch's linked program: its printed text
 unfoldable pub program_file : (out switch : List ℕ) → Program → List ℕ × List ℕ
@@ -43,13 +43,15 @@ rejected_in w = sum_by (λ s. rejected_at (w.switches s)) (0 ∷ 1 ∷ 2 ∷ [])
 abbrev pub reports_in : Run → ℕ
 reports_in w = count_by (λ t. is_report t.digest) w.told
 
--- the six lines of the summary of one packet
-abbrev pub summary_of : (sent dropped rejected lost reports : ℕ) → List ℕ
-summary_of s d r l n =
-    codes "packets 1\nsent " ++ (decimal s ++ (codes "\ndropped " ++ (decimal d ++ (codes "\nrejected " ++ (decimal r
-    ++ (codes "\nlost " ++ (decimal l ++ (codes "\nreports " ++ (decimal n ++ codes "\n")))))))))
-
--- the summary of a run: how many packets left, were dropped and not rejected, were rejected, were lost, and how
--- many reports there are
+-- the summary of a run of one packet: how many left, were dropped and not rejected, were rejected, were lost, and how many
+-- reports there are
 abbrev pub summary_of_run : Run → List ℕ
-summary_of_run w = summary_of (length w.edges) (length w.dropped - rejected_in w) (rejected_in w) (length w.lost) (reports_in w)
+summary_of_run w =
+    summary_of (record {
+      packets = 1;
+      sent = length w.edges;
+      dropped = length w.dropped - rejected_in w;
+      rejected = rejected_in w;
+      lost = length w.lost;
+      reports = reports_in w;
+    })

@@ -138,10 +138,14 @@ fn is_name_byte(b: u8) -> bool
 fn are_distinct(decls: &[Decl]) -> bool
     ensures { result ≡ are_distinct (map decl_of decls.now) }
 {
-    match decls {
-        [] => true,
-        [d, rest @ ..] => !is_declared(rest, d.name.as_str()) && are_distinct(rest),
+    let mut left = decls;
+    while let [d, behind @ ..] = left {
+        if is_declared(behind, d.name.as_str()) {
+            return false;
+        }
+        left = behind;
     }
+    true
 }
 
 /// Whether the name is declared.

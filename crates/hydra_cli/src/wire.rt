@@ -14,7 +14,8 @@ ghost use Rattle.job_course.specs.Output.{file_of, files_of, out_of};
 ghost use Rattle.job_course.specs.Steps.{Follows, Judged};
 ghost use Rattle.hydra_cli.specs.Command.{IsBuilt, IsNotBuilt, frame, small_property};
 ghost use Rattle.p4_printer.specs.CanSpell.{CanSpell};
-ghost use Rattle.hydra_cli.specs.Line.{CanPrintLine, IsLinkedLine, fate_files, rejected_by as rejected_of, summary_of_counts, summary_of_way};
+ghost use Rattle.report_writer.specs.Texts.{losses_of};
+ghost use Rattle.hydra_cli.specs.Line.{CanPrintLine, IsLinkedLine, fate_files, counts_of_one, rejected_by as rejected_of, summary_of_counts, summary_of_way};
 ghost use Rattle.hydra_cli.specs.Network.{link_limit, machine_for};
 ghost use Rattle.hydra_cli.specs.Output.{IsWireOutput};
 ghost use Rattle.hydra_cli.specs.Wire.{program_file};
@@ -260,10 +261,11 @@ fn rejected(switches: &[Switch]) -> u128
     ensures sum { result ≡ sum_by rejected_of (map machine_of switches.now) }
     ensures low { result ≤ length switches.now * 2 ^ 32 }
 {
-    match switches {
-        [] => 0,
-        [switch, switches @ ..] => rejected_by(switch) + rejected(switches),
+    let mut sum = 0;
+    for switch in switches {
+        sum += rejected_by(switch);
     }
+    sum
 }
 
 fn rejected_by(switch: &Switch) -> u128
@@ -305,18 +307,25 @@ fn push_frame(
     Ok(())
 }
 
+/// The last three lines of the summary.
+fn losses(alloc: Global, counts: Counts) -> Result<String, AllocError>
+    ensures { IfOk result (λ s. string_bytes s ≡ losses_of (counts_of_one counts)) }
+{
+    let Counts {
+        rejected,
+        lost,
+        reports,
+        ..
+    } = counts;
+    format!(in alloc; "rejected {rejected}\nlost {lost}\nreports {reports}\n")
+}
+
 /// The six lines of the summary.
 fn summary(alloc: Global, counts: Counts) -> Result<String, AllocError>
     ensures { IfOk result (λ s. string_bytes s ≡ summary_of_counts counts) }
 {
-    let Counts {
-        sent,
-        dropped,
-        rejected,
-        lost,
-        reports,
-    } = counts;
-    format!(in alloc;
-        "packets 1\nsent {sent}\ndropped {dropped}\nrejected {rejected}\nlost {lost}\nreports {reports}\n"
-    )
+    let Counts { sent, dropped, .. } = counts;
+    let losses = losses(alloc, counts)?;
+    let packets: u8 = 1;
+    format!(in alloc; "packets {packets}\nsent {sent}\ndropped {dropped}\n{losses}")
 }
