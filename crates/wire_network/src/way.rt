@@ -19,18 +19,14 @@ fn far_end(links: &[Link], switch: u16, port: u16) -> Option<(u16, u16)>
     ensures end { result ≡ far_end links.now switch port }
     ensures there { (n : ℕ) → AreJoined links.now n → IfSome result (λ far. far.0 < n) }
 {
-    match links {
-        [] => None,
-        [l, links @ ..] => {
-            if l.switch == switch && l.port == port {
-                Some((l.far_switch, l.far_port))
-            } else if l.far_switch == switch && l.far_port == port {
-                Some((l.switch, l.port))
-            } else {
-                far_end(links, switch, port)
-            }
+    for l in links {
+        if l.switch == switch && l.port == port {
+            return Some((l.far_switch, l.far_port));
+        } else if l.far_switch == switch && l.far_port == port {
+            return Some((l.switch, l.port));
         }
     }
+    None
 }
 
 /// The second half of a passage, where the packet was not dropped in the first.
