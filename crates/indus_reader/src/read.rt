@@ -1,6 +1,6 @@
 //! Reading a whole text.
 
-ghost use Rattle.std.specs.Prelude.{◌≡◌, ◌+◌, ◌≤◌, length, IfOk, IfErr};
+ghost use Rattle.std.specs.Prelude.{◌≡◌, ◌+◌, ◌≤◌, ◌^◌, length, IfOk, IfErr};
 ghost use Rattle.lex_text.specs.Tokens.{FaultOf};
 ghost use Rattle.lex_text.specs.declared.fault.LexFault.{LexFault as Fault};
 ghost use Rattle.lex_text.specs.Places.{AreIn};
@@ -9,6 +9,7 @@ ghost use Rattle.lex_words.specs.Seen.{lexemes_of};
 ghost use Rattle.lex_words.specs.Written.{AreLexemes};
 ghost use Rattle.lex_words.specs.Moving.{Moves, Stays};
 ghost use Rattle.lex_words.specs.Reading.{Gives};
+ghost use Rattle.indus_tree.specs.Reports.{HasReportsBelow};
 ghost use Rattle.indus_tree.specs.Tree.{Property as Tree};
 ghost use Rattle.indus_tree.specs.View.{property_of};
 ghost use Rattle.indus_reader.specs.Faults.{HasCause, IsAnswer, IsProperty, IsRefusal};
@@ -97,6 +98,8 @@ pub fn read_property(alloc: Global, text: &[u8]) -> Result<Property, PropertyFau
     requires { length text.now ≤ 65536 }
     // What is given is spelled by the text, within the limits.
     ensures found { IfOk result (λ p. IsProperty text.now (property_of p)) }
+    // Reports are numbered from 0 in the order of the text, and a number has 16 bits.
+    ensures numbers { IfOk result (λ p. HasReportsBelow (2 ^ 16) (property_of p)) }
     // A text that spells a property within the limits is refused for want of memory alone.
     ensures only { (t : Tree) → IsProperty text.now t → IsAnswer result t }
     // A text that has no tokens is refused for its first fault, or for want of memory.
