@@ -49,6 +49,7 @@ module _ (p : Program) (w : IsWellTyped p) (given : HasGivenNames p) where
         unchanged = stays_as_it_is p;
         passes = passes;
         bound = ap digest_bound agree ∙ bound_stays p;
+        most = digests_same p w given;
         tables = ap (λ (x : Parts). x.tables) agree;
         registers = ap (λ (x : Parts). x.registers) agree;
         actions = ap (λ (x : Parts). map signature x.actions) agree ∙ signatures (all_actions p);

@@ -7,6 +7,7 @@ use Rattle.p4_meaning.specs.Scope.{is_among}
 use Rattle.p4_meaning.specs.Actions.{Param, Action}
 use Rattle.p4_meaning.specs.Parts.{parts_of}
 use Rattle.p4_meaning.specs.DigestBound.{digest_bound}
+use Rattle.p4_rules.specs.Limits.{most_of_program}
 use Rattle.p4_rules.specs.ProgramRules.{IsWellTyped}
 use Rattle.p4_types.specs.Numbers.{Sort, names}
 use Rattle.p4_printer.specs.CanSpell.{CanSpell}
@@ -27,7 +28,9 @@ pub record IsLowered (p q : Program) : Type 0 where
   pub unchanged : program_leaves p ≡ false → q ≡ p
   -- both halves of a passage are the same. No name of a text has a point
   pub passes : HasPlainNames p → PassesSame (parts_of p) (parts_of q)
+  -- at most as many digests, by the meaning and by the rules: the second number is that of the `TypedProgram`
   pub bound : digest_bound (parts_of q) ≡ digest_bound (parts_of p)
+  pub most : most_of_program q ≡ most_of_program p
   -- tables and registers stand there, and actions with their names and parameters, by the same numbers
   pub tables : (parts_of q).tables ≡ (parts_of p).tables
   pub registers : (parts_of q).registers ≡ (parts_of p).registers
