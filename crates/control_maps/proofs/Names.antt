@@ -14,7 +14,7 @@ use Rattle.p4_tables.specs.State.{Held, held_at, replaced}
 use Rattle.p4_tables.specs.Named.{action_name, entries_named, tables_in, table_place}
 use Rattle.p4_tables.specs.Programs.{shapes}
 use Rattle.p4_tables.proofs.Changed.{replaced_shapes}
-use Rattle.p4_tables.proofs.CarryWalk as walk
+use Rattle.p4_tables.proofs.TableNames as walk
 use Rattle.table_laws.specs.Loaded.{given_entries}
 use Rattle.table_laws.proofs.Puts.{replaced_is_put}
 use Rattle.indus_tree.specs.Tree.{Shape, one, list, set, dict}

@@ -15,8 +15,8 @@ use Rattle.table_entries.specs.Entries.{Entry, same_keys}
 use Rattle.p4_tables.specs.State.{Held, no_table, held_at, entries_in, written_in, with_listed}
 use Rattle.p4_tables.specs.Faults.{takes_entry, default_fault_in, AreAccepted, IsAccepted, IsReplaceable}
 use Rattle.p4_tables.specs.Kept.{clash, AreApart, IsSound}
-use Rattle.p4_tables.specs.Carried.{renumbered}
-use Rattle.table_laws.specs.Loaded.{shape_renumbered, IsSameShape}
+use Rattle.p4_tables.specs.Carried.{renumbered, action_renumbered}
+use Rattle.table_laws.specs.Loaded.{IsSameShape}
 use Rattle.table_laws.proofs.Carries.{same_shapes_take_the_same}
 use Rattle.indus_tree.specs.Tree.{Shape, one, list, set, dict}
 use Rattle.indus_tree.specs.State.{Contents, single, members, pairs, width_of}
@@ -142,7 +142,7 @@ module _ (s : table.Shape) (a : ℕ) where
 
 -- ---- by the same numbers
 
-same_numbers : (xs : List ActionShape) → xs ≡ map (shape_renumbered (λ n. n)) xs
+same_numbers : (xs : List ActionShape) → xs ≡ map (action_renumbered (λ n. n)) xs
 same_numbers [] = refl
 same_numbers (x ∷ xs) = ap (λ (ys : List ActionShape). x ∷ ys) (same_numbers xs)
 

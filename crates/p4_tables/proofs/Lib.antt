@@ -12,6 +12,7 @@ pub mod Ranked
 pub mod Signed
 pub mod Fallen
 pub mod ActionNames
-pub mod CarrySteps
-pub mod CarryWalk
-pub mod Words
+pub mod TableNames
+pub mod Renumbered
+pub mod Refilled
+pub mod Decided

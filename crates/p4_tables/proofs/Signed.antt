@@ -1,6 +1,6 @@
 -- What the longest sign tells is what one walk over all entries finds.
-use Rattle.std.proofs.Common.{◌≡◌, ℕ, zero, suc, ◌-◌, ◌/◌, ◌^◌, ◌<◌, ◌≤◌, List, [], ◌∷◌, ◌++◌, get_or, length, map, max, Bool, true, false, Option, Some, None, refl, sym, ap, ap₂, subst, ◌∙◌, arith, Bor}
-use Rattle.std.specs.Prelude.{◌&&◌, nat_eq, nat_le, is_some, if◌then◌else◌}
+use Rattle.std.proofs.Common.{◌≡◌, ℕ, zero, suc, ◌-◌, ◌/◌, ◌^◌, ◌<◌, ◌≤◌, List, [], ◌∷◌, ◌++◌, get_or, length, map, max, Bool, true, false, Option, Some, None, refl, sym, ap, ap₂, subst, ◌∙◌, arith}
+use Rattle.std.specs.Prelude.{◌&&◌, nat_eq, nat_le, if◌then◌else◌}
 use Rattle.std.specs.Option.{option_map, option_or}
 use Rattle.std.specs.List.{Contains}
 use Rattle.std.specs.Cmp.Lexicographic.{pointwise}
@@ -13,7 +13,7 @@ use Rattle.p4_tables.specs.State.{Held}
 use Rattle.p4_tables.specs.Faults.{takes_entry}
 use Rattle.p4_tables.specs.Kept.{AreApart, IsSound}
 use Rattle.table_entries.specs.View.{act_of}
-use Rattle.table_entries.specs.Walk.{lent, found_in}
+use Rattle.table_entries.specs.Walk.{found_in}
 use Rattle.table_entries.specs.Signs.{signs_of, wanted_of, wanted, sign_act}
 use Rattle.table_entries.specs.Index.{longest_of, longest, first_told, first_act, place_in, asks}
 use Rattle.table_entries.specs.declared.signs.Signs.{Signs}

@@ -2,19 +2,17 @@
 
 ghost use Rattle.std.specs.Prelude.{◌≡◌, map, IfOk};
 ghost use Rattle.p4_parts.specs.PartsIn.{action_in};
-ghost use Rattle.table_entries.specs.Entries.{named};
-ghost use Rattle.p4_tables.specs.Carried.{renumbered, same_number};
-ghost use Rattle.p4_tables.specs.Named.{action_name, named_act};
+ghost use Rattle.p4_tables.specs.Carried.{act_renumbered, renumbered, same_number};
+ghost use Rattle.p4_tables.specs.Named.{action_name};
 ghost use Rattle.table_entries.specs.View.{act_of, entry_of};
 
 use crate::start::action_place;
 use p4_parts::Action;
-use p4_values::same_text;
 use std::alloc::{AllocError, Global};
 use table_entries::{Act, Entry};
 
 /// The full name of the action of a number; behind all actions it is `NoAction`.
-fn action_name(actions: &[Action], number: u32) -> &str
+pub(crate) fn action_name(actions: &[Action], number: u32) -> &str
     ensures { result.now ≡ action_name (map action_in actions.now) number }
 {
     if (number as usize) < actions.len() {
@@ -24,21 +22,12 @@ fn action_name(actions: &[Action], number: u32) -> &str
     }
 }
 
-/// The number of the action of the same name. No memory holds more actions than 32 bits number, and
-/// an action that is not there is answered likewise.
-fn same_action(from: &[Action], to: &[Action], number: u32) -> Result<u32, AllocError>
-    ensures number { IfOk result (λ n. n
+/// The number of the action of the same name.
+pub(crate) fn same_action(from: &[Action], to: &[Action], number: u32) -> Result<u32, AllocError>
+    ensures { IfOk result (λ n. n
         ≡ same_number (map action_in from.now) (map action_in to.now) number) }
-    ensures name { IfOk result (λ n. action_name (map action_in to.now) n
-        ≡ action_name (map action_in from.now) number) }
 {
-    let name = action_name(from, number);
-    let place = action_place(to, name)?;
-    if same_text(action_name(to, place), name) {
-        Ok(place)
-    } else {
-        Err(AllocError)
-    }
+    action_place(to, action_name(from, number))
 }
 
 /// An entry that runs the action of the same name.
@@ -48,10 +37,8 @@ pub(crate) fn same_entry(
     to: &[Action],
     e: &Entry,
 ) -> Result<Entry, AllocError>
-    ensures number { IfOk result (λ f. entry_of f ≡ renumbered
+    ensures { IfOk result (λ f. entry_of f ≡ renumbered
         (same_number (map action_in from.now) (map action_in to.now)) (entry_of e.now)) }
-    ensures name { IfOk result (λ f. named (action_name (map action_in to.now)) (entry_of f)
-        ≡ named (action_name (map action_in from.now)) (entry_of e.now)) }
 {
     let action = same_action(from, to, e.action)?;
     let mut copy = e.copy(alloc)?;
@@ -66,8 +53,8 @@ pub(crate) fn same_default(
     to: &[Action],
     d: &Act,
 ) -> Result<Act, AllocError>
-    ensures { IfOk result (λ a. named_act (action_name (map action_in to.now)) (act_of a)
-        ≡ named_act (action_name (map action_in from.now)) (act_of d.now)) }
+    ensures { IfOk result (λ a. act_of a ≡ act_renumbered
+        (same_number (map action_in from.now) (map action_in to.now)) (act_of d.now)) }
 {
     let action = same_action(from, to, d.action)?;
     let mut copy = d.copy(alloc)?;

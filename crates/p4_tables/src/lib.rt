@@ -5,8 +5,8 @@
 //! list that was tested into the place of another; `choose` answers the action that a table runs for
 //! its keys; `shape` says what a table takes, for readers of entries, `listed` and `default` what it
 //! holds. `carried` gives the tables of a program with what those of another one hold, by the names of
-//! tables and actions (`specs/Carried`). Contracts see a list of what each table takes and holds
-//! (`specs/State`).
+//! tables and actions, where `stands_in` tells that each of them has a place there (`specs/Carried`).
+//! Contracts see a list of what each table takes and holds (`specs/State`).
 //!
 //! `choose` takes no memory. What it answers is said by the relation `IsChosen` of `p4_meaning`, and
 //! no two entries that a table holds have that relation to the same keys (`choices_are_unique`).
@@ -21,9 +21,11 @@ mod carried;
 mod carry;
 mod faults;
 mod held;
+mod stands;
 mod start;
 mod state;
 
+pub use stands::stands_in;
 pub use state::{TableState, actions_are_listed, choices_are_unique};
 pub use table_entries::{Act, Chosen, Entry, Match};
 pub use table_faults::EntryFault;

@@ -8,6 +8,7 @@ ghost use Rattle.p4_tables.specs.State.{held_at, entries_in, inserted, with_defa
 ghost use Rattle.p4_tables.specs.Faults.{entry_fault, default_fault, IsReplaceable};
 ghost use Rattle.p4_tables.specs.Answers.{IsHit, IsMiss};
 ghost use Rattle.p4_tables.specs.Programs.{shapes, state_before};
+ghost use Rattle.p4_tables.specs.Kept.{AreSound};
 ghost use Rattle.p4_tables.specs.Laws.{ChoicesAreUnique, RunsListed};
 ghost use Rattle.table_entries.specs.View.{entry_of, act_of, given_act, chosen_act};
 ghost use Rattle.table_shapes.specs.View.{shape_of};
@@ -63,6 +64,23 @@ impl TableState {
     {
         let tables = state_before(alloc, p.program())?;
         Ok(TableState { tables, count: 0 })
+    }
+
+    /// Tables that are sound.
+    pub(crate) fn of(tables: Vec<Held>) -> TableState
+        requires { AreSound tables.items }
+        ensures { result ≡ tables.items }
+    {
+        let count = count_in(&tables);
+        TableState { tables, count }
+    }
+
+    /// What each table takes and holds.
+    pub(crate) fn tables(&self) -> &[Held]
+        ensures same { result.now ≡ self.now }
+        ensures sound { AreSound self.now }
+    {
+        &self.tables
     }
 
     /// The number of entries of all tables.

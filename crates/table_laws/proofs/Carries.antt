@@ -1,12 +1,11 @@
 -- A table of the same shape takes the entries that a table holds.
-use Rattle.std.proofs.Common.{◌≡◌, ◌≢◌, ℕ, ◌+◌, ◌<◌, ◌≤◌, List, [], ◌∷◌, ◌++◌, length, map, Bool, true, false, not, ◌&&◌, ◌||◌, cond, Some, None, refl, sym, ap, ap₂, ◌∙◌, subst, arith, inl, inr}
+use Rattle.std.proofs.Common.{◌≡◌, ℕ, ◌+◌, ◌<◌, ◌≤◌, List, [], ◌∷◌, ◌++◌, length, map, Bool, true, false, not, ◌&&◌, ◌||◌, cond, Some, None, refl, sym, ap, ap₂, ◌∙◌, subst, arith, inl, inr}
 use Rattle.std.specs.Prelude.{nat_eq, nat_le}
 use Rattle.std.specs.List.{AllByRecursion}
-use Rattle.std.proofs.lemmas.Bool.{eqb-true, eq-eqb}
-use Rattle.std.proofs.lemmas.Bool.Decides.{eqb_tells, leb_tells}
+use Rattle.std.proofs.lemmas.Bool.{eqb-true}
+use Rattle.std.proofs.lemmas.Bool.Decides.{leb_tells}
 use Rattle.std.proofs.lemmas.List.{get_or-set_same, length-set, map-append, length-append}
-use Rattle.bit_values.specs.Bits.{Word}
-use Rattle.table_shapes.specs.Shapes.{ActionShape, Shape, has_ternary, are_for_keys, has_action, have_widths, takes}
+use Rattle.table_shapes.specs.Shapes.{ActionShape, Shape, has_ternary, are_for_keys, has_action, takes}
 use Rattle.table_faults.specs.declared.entry.EntryFault.TheVariants.{NoSuchAction, WidthDiffers, SameEntry, SamePriority, TableLimit}
 use Rattle.table_entries.specs.Entries.{Entry, same_keys, same_entry, has_same, has_priority}
 use Rattle.p4_tables.specs.State.{Held, no_table, held_at, entries_in, inserted}
@@ -19,39 +18,8 @@ use Rattle.p4_tables.specs.Named.{action_name}
 use Rattle.p4_tables.specs.Programs.{action_place, action_shape}
 use Rattle.table_laws.specs.Loaded.{IsActionName}
 use Rattle.p4_tables.specs.Carried.{same_number, renumbered}
-use Rattle.table_laws.specs.Loaded.{SameNumbersAreApart, shape_renumbered, IsSameShape, SameShapesTakeTheSame}
-
--- ---- actions by other numbers
-
-nat_eq_other : (i j : ℕ) → i ≢ j → nat_eq i j ≡ false
-nat_eq_other i j n = elim (eqb_tells i j) [ inl h ↦ absurd (n h.1) | inr h ↦ h.0 ]
-
-same_test : (re : ℕ → ℕ) (a n : ℕ) → (re a ≡ re n → a ≡ n) → nat_eq (re a) (re n) ≡ nat_eq a n
-same_test re a n one =
-    elim (eqb_tells a n) [
-      | inl h ↦ eq-eqb (re a) (re n) (ap re h.1) ∙ sym h.0
-      | inr h ↦ nat_eq_other (re a) (re n) (λ e. h.1 (one e)) ∙ sym h.0
-    ]
-
-same_takes : (re : ℕ → ℕ) (xs : List ActionShape) (n : ℕ) (ws : List Word) → AllByRecursion (λ x. re x.number ≡ re n → x.number ≡ n) xs → takes (map (shape_renumbered re) xs) (re n) ws ≡ takes xs n ws
-same_takes re [] n ws h = refl
-same_takes re (x ∷ xs) n ws h = ap₂ (λ (b t : Bool). cond b (have_widths x.params ws) t) (same_test re x.number n h.0) (same_takes re xs n ws h.1)
-
-same_has : (re : ℕ → ℕ) (xs : List ActionShape) (n : ℕ) → AllByRecursion (λ x. re x.number ≡ re n → x.number ≡ n) xs → has_action (map (shape_renumbered re) xs) (re n) ≡ has_action xs n
-same_has re [] n h = refl
-same_has re (x ∷ xs) n h = ap₂ (λ (b t : Bool). b || t) (same_test re x.number n h.0) (same_has re xs n h.1)
-
-takes_has : (xs : List ActionShape) (n : ℕ) (ws : List Word) → takes xs n ws ≡ true → has_action xs n ≡ true
-takes_has [] n ws e = e
-takes_has (x ∷ xs) n ws e = go (nat_eq x.number n) e (takes_has xs n ws)
-  where
-    go : (b : Bool) → cond b (have_widths x.params ws) (takes xs n ws) ≡ true → (takes xs n ws ≡ true → has_action xs n ≡ true) → (b || has_action xs n) ≡ true
-    go true f more = refl
-    go false f more = more f
-
-both_true : (a b : Bool) → (a && b) ≡ true → (a ≡ true) × (b ≡ true)
-both_true true b h = (refl, h)
-both_true false b h = absurd (let c : false ≡ true = h in cc)
+use Rattle.p4_tables.proofs.Renumbered.{same_takes, same_has, takes_has, both_true}
+use Rattle.table_laws.specs.Loaded.{SameNumbersAreApart, IsSameShape, SameShapesTakeTheSame}
 
 and_false : (b : Bool) → (b && false) ≡ false
 and_false true = refl

@@ -9,7 +9,7 @@ use Rattle.table_entries.specs.Entries.{Entry, Act}
 use Rattle.p4_tables.specs.State.{Held, no_table, held_at, replaced}
 use Rattle.p4_tables.specs.Named.{action_name, entries_named, nothing_held, tables_named, tables_in, table_place}
 use Rattle.p4_tables.specs.Carried.{is_table}
-use Rattle.p4_tables.proofs.CarryWalk as walk
+use Rattle.p4_tables.proofs.TableNames as walk
 use Rattle.table_laws.specs.Loaded.{given_entries, PutsByName, ReplacedIsPut}
 
 -- a table that is not declared holds nothing

@@ -9,7 +9,7 @@ use Rattle.p4_meaning.specs.Tables.{Table, Entries}
 use Rattle.p4_meaning.specs.Parts.{Parts, parts_of}
 use Rattle.p4_meaning.specs.Laws.{AreListed}
 use Rattle.value_shapes.specs.declared.values.ValueShape.{ValueShape}
-use Rattle.table_shapes.specs.Shapes.{ActionShape, Shape, has_action}
+use Rattle.table_shapes.specs.Shapes.{Shape, has_action}
 use Rattle.table_entries.specs.Entries.{Entry, Act, named}
 use Rattle.p4_tables.specs.State.{Held, held_at, entries_in, replaced}
 use Rattle.p4_tables.specs.Faults.{AreAccepted}
@@ -17,7 +17,7 @@ use Rattle.p4_tables.specs.Kept.{IsSound}
 use Rattle.p4_tables.specs.Laws.{RunsListed}
 use Rattle.p4_tables.specs.Named.{action_name, named_act, tables_in, table_place}
 use Rattle.p4_tables.specs.Programs.{action_place, action_shape, IsStateOf}
-use Rattle.p4_tables.specs.Carried.{same_number, renumbered}
+use Rattle.p4_tables.specs.Carried.{same_number, renumbered, action_renumbered}
 use Rattle.p4_rules.specs.ProgramRules.{IsWellTyped}
 use Rattle.p4_typing_laws.specs.Counted.{HavePlainNames}
 
@@ -56,15 +56,11 @@ ReplacedIsPut = (f : Parts) (st : List Held) (x : List ℕ) (es : List Entry) (d
 
 -- ---- tables of another program
 
--- an action of a list by another number
-abbrev pub shape_renumbered : (ℕ → ℕ) → ActionShape → ActionShape
-shape_renumbered re a = record { number = re a.number; params = a.params }
-
 -- a table of the other program: keys of the same kinds and widths, and the same list of actions with the same parameters, whose
 -- numbers are other ones, no two of them one
 pub record IsSameShape (re : ℕ → ℕ) (a b : Shape) : Type 0 where
   pub keys : b.keys ≡ a.keys
-  pub actions : b.actions ≡ map (shape_renumbered re) a.actions
+  pub actions : b.actions ≡ map (action_renumbered re) a.actions
   pub apart : (n : ℕ) → has_action a.actions n ≡ true → AllByRecursion (λ x. re x.number ≡ re n → x.number ≡ n) a.actions
 
 -- it takes all entries that the table holds, one after the other, where it is empty and all tables hold few

@@ -1,14 +1,14 @@
-use Rattle.std.proofs.Common.{◌≡◌, ◌≤◌, ◌++◌, length, map, take, drop}
+use Rattle.std.proofs.Common.{◌≡◌, ◌≤◌, drop, length}
 use Rattle.p4_parts.specs.PartsIn.{parts_in}
-use Rattle.p4_tables.specs.Programs.{shapes}
-use Rattle.p4_tables.specs.Named.{action_name, entries_named}
-use Rattle.p4_tables.specs.CarriedRows.{carried_rows}
+use Rattle.p4_tables.specs.CarriedWalk.{all_refilled}
 use Rattle.p4_tables.proofs.carry.carry.Given as goal
 
-abbrev pub invariant-loop-i : goal.invariant-loop-i
-invariant-loop-i l =
+abbrev pub invariant-loop-left : goal.invariant-loop-left
+invariant-loop-left l =
     record {
-      shapes : shapes l.state ≡ shapes l.initial.state;
-      within : l.i ≤ length l.state;
-      rows : map (entries_named (action_name (parts_in l.to).actions)) (take l.i l.state) ++ carried_rows (parts_in l.from) l.held (action_name (parts_in l.to).actions) (drop l.i (parts_in l.to).tables) (drop l.i l.state) ≡ carried_rows (parts_in l.from) l.held (action_name (parts_in l.to).actions) (parts_in l.to).tables l.initial.state;
+      within : l.left ≤ length l.held;
+      filled : l.tables.items ≡ all_refilled (parts_in l.from) (parts_in l.to) (drop l.left (parts_in l.from).tables) (drop l.left l.held) l.initial.tables.items;
     }
+
+abbrev pub decreases-loop-left : goal.decreases-loop-left
+decreases-loop-left l = l.left
