@@ -2,7 +2,7 @@
 
 ghost use Rattle.std.specs.Prelude.{◌≡◌, ◌≤◌, None, length, IfOk};
 ghost use Rattle.p4_tree.specs.View.{program_of};
-ghost use Rattle.p4_machine.specs.Buffers.{IsFor, place_of};
+ghost use Rattle.p4_machine.specs.Buffers.{IsMadeFor, place_of};
 ghost use Rattle.p4_tables.specs.Programs.{IsStateOf};
 
 use crate::entries::loaded;
@@ -21,7 +21,9 @@ pub struct Bench {
     buf: FrameBuf,
     place: Queued,
     other: Queued,
-    ghost fits: { IsFor (program_of switch.program) buf },
+    ghost fits: { IsMadeFor (program_of switch.program) buf.needs },
+    ghost made: { IsMadeFor (program_of switch.program) (place_of place).needs },
+    ghost other_made: { IsMadeFor (program_of switch.program) (place_of other).needs },
     ghost room: { (place_of place).room ≡ 2000 },
     ghost other_room: { (place_of other).room ≡ 20 },
 }

@@ -157,11 +157,25 @@ fn load(alloc: Global, p: &TypedProgram, state: &mut TableState, text: &str) -> 
     }
 }
 
-/// A program's tables, where this is loaded: `table: item`, `table: item; item`, or nothing.
+/// What a text loads: into one table, or into two with ` | ` between.
+fn load_all(alloc: Global, p: &TypedProgram, state: &mut TableState, text: &str) -> Tried<()>
+    ensures { shapes state.new ≡ shapes state.old }
+{
+    match text.split_once(" | ") {
+        Some((first, second)) => {
+            load(alloc, p, state, first)?;
+            load(alloc, p, state, second)
+        }
+        None => load(alloc, p, state, text),
+    }
+}
+
+/// A program's tables, where this is loaded: `table: item`, `table: item; item`, two of these with ` | `
+/// between, or nothing.
 pub fn loaded(alloc: Global, p: &TypedProgram, text: &str) -> Tried<TableState>
     ensures { IfOk result (λ s. IsStateOf (program_of p.now) s) }
 {
     let mut state = TableState::new(alloc, p)?;
-    load(alloc, p, &mut state, text)?;
+    load_all(alloc, p, &mut state, text)?;
     Ok(state)
 }

@@ -4,8 +4,10 @@ ghost use Rattle.std.specs.Prelude.{IfOk};
 ghost use Rattle.p4_tree.specs.View.{program_of};
 ghost use Rattle.p4_tables.specs.Programs.{IsStateOf};
 
-use machine_bench::{Bench, Tried, bench_with, bytes, loaded, program, split_row, text_of};
-use p4_tables::TableState;
+use machine_bench::{
+    Bench, BenchFault, Tried, bench_with, bytes, loaded, program, split_row, text_of,
+};
+use p4_tables::{TableState, stands_in};
 use p4_types::TypedProgram;
 use std::alloc::Global;
 use std::process::Abort;
@@ -22,6 +24,12 @@ table t { key = { h.e.x: exact; } actions = { b; a; NoAction; } const default_ac
 
 const FRONT: &str = "action z(bit<8> v) { h.e.x = v; h.e.y = 9; } action y() { h.e.y = 7; } \
 table s { key = { h.e.y: exact; } actions = { z; y; NoAction; } default_action = y(); } ";
+
+/// Two tables, the second with a default that no file changes.
+const PAIR: &str = "action a(bit<8> v) { h.e.x = v; } action b() { h.e.y = 1; } \
+table t { key = { h.e.x: exact; } actions = { b; a; NoAction; } default_action = a(5); } \
+table u { key = { h.e.x: exact; } actions = { a; b; NoAction; } const default_action = b(); } \
+@ingress t.apply(); u.apply();";
 
 /// What stands behind in the other program's ingress, what is loaded, the frame, and what leaves. A table
 /// that the first program lacks, `s`, is empty, and runs the default that is written.
@@ -46,6 +54,14 @@ const FIXED_ROWS: &str = "\
 ; => Ing.t: 8:1 -> Ing.b => 010203 => 2 010001
 s.apply(); => Ing.t: 8:1 -> Ing.b => 020203 => 2 050007";
 
+/// Likewise, with entries of both tables: the second one's key is what the first one leaves.
+const PAIR_ROWS: &str = "\
+; => Ing.t: 8:1 -> Ing.a 8:8 | Ing.u: 8:8 -> Ing.a 8:9 => 010203 => 2 090203
+; => Ing.t: 8:1 -> Ing.a 8:8 | Ing.u: 8:8 -> Ing.a 8:9 => 020203 => 2 050001
+; => Ing.t: default Ing.b | Ing.u: 8:1 -> NoAction; 8:2 -> Ing.a 8:3 => 010203 => 2 010001
+; => Ing.t: default Ing.b | Ing.u: 8:1 -> NoAction; 8:2 -> Ing.a 8:3 => 020203 => 2 030001
+s.apply(); => Ing.t: 8:1 -> Ing.a 8:8 | Ing.u: 8:8 -> Ing.a 8:9 => 010203 => 2 090007";
+
 /// The program of these pieces of ingress.
 fn program_with(alloc: Global, front: &str, table: &str, behind: &str) -> Tried<TypedProgram> {
     let mut row = String::from_str(alloc, "@in ")?;
@@ -62,6 +78,9 @@ fn carried_over(alloc: Global, to: &TypedProgram, table: &str, items: &str) -> T
 {
     let from = program_with(alloc, "", table, "")?;
     let state = loaded(alloc, &from, items)?;
+    if !stands_in(alloc, &from, to)? {
+        return Err(BenchFault::NoSuchTable);
+    }
     Ok(state.carried(alloc, &from, to)?)
 }
 
@@ -101,4 +120,22 @@ fn entries_and_defaults(rt: HostRuntime) {
 #[test]
 fn const_defaults(rt: HostRuntime) {
     all_right(&rt, rt.alloc(), FIXED, FIXED_ROWS);
+}
+
+#[test]
+fn two_tables(rt: HostRuntime) {
+    all_right(&rt, rt.alloc(), PAIR, PAIR_ROWS);
+}
+
+/// Whether the program with `front` stands in that without it.
+fn stands_without(alloc: Global, front: &str) -> Tried<bool> {
+    let from = program_with(alloc, front, TABLE, "")?;
+    let to = program_with(alloc, "", TABLE, "")?;
+    Ok(stands_in(alloc, &from, &to)?)
+}
+
+#[test]
+fn tables_without_a_place(rt: HostRuntime) {
+    assert!(rt; stands_without(rt.alloc(), "") == Ok(true));
+    assert!(rt; stands_without(rt.alloc(), FRONT) == Ok(false));
 }
