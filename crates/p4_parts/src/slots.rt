@@ -16,8 +16,8 @@ const STANDARD: u32 = 6;
 
 /// So many slots more, if 32 bits number them. No memory holds more.
 fn with_slots(slots: u32, more: usize) -> Result<u32, AllocError>
-    ensures sum {IfOk result (λ n. n ≡ slots + more)}
-    ensures over {OnErr result (4294967295 < slots + more)}
+    ensures sum { IfOk result (λ n. n ≡ slots + more) }
+    ensures over { OnErr result (4294967295 < slots + more) }
 {
     match u32::try_from(more) {
         Ok(more) => slots.checked_add(more).ok_or(AllocError),
@@ -27,8 +27,8 @@ fn with_slots(slots: u32, more: usize) -> Result<u32, AllocError>
 
 /// The slots of headers behind so many others.
 fn with_headers(slots: u32, tops: &[Top], headers: &[(PTy, Name)]) -> Result<u32, AllocError>
-    ensures sum {IfOk result (λ n. n ≡ slots + header_slots (map (header_of (map top_of tops.now)) headers.now))}
-    ensures over {OnErr result (4294967295 < slots + header_slots (map (header_of (map top_of tops.now)) headers.now))}
+    ensures sum { IfOk result (λ n. n ≡ slots + header_slots (map (header_of (map top_of tops.now)) headers.now)) }
+    ensures over { OnErr result (4294967295 < slots + header_slots (map (header_of (map top_of tops.now)) headers.now)) }
 {
     let mut sum = slots;
     for header in headers {
@@ -44,8 +44,8 @@ fn with_headers(slots: u32, tops: &[Top], headers: &[(PTy, Name)]) -> Result<u32
 ///
 /// `AllocError` where 32 bits don't number them: no memory holds so many.
 pub fn slots_of(p: &Program) -> Result<u32, AllocError>
-    ensures slots {IfOk result (λ n. n ≡ slots_in (parts_of (program_of p.now)))}
-    ensures over {OnErr result (4294967295 < slots_in (parts_of (program_of p.now)))}
+    ensures slots { IfOk result (λ n. n ≡ slots_in (parts_of (program_of p.now))) }
+    ensures over { OnErr result (4294967295 < slots_in (parts_of (program_of p.now))) }
 {
     let slots = with_slots(STANDARD, struct_at(p, 2).len())?;
     with_headers(slots, &p.tops, struct_at(p, 1))
