@@ -28,7 +28,8 @@ pub record IsLowered (p q : Program) : Type 0 where
   pub unchanged : program_leaves p ≡ false → q ≡ p
   -- both halves of a passage are the same. No name of a text has a point
   pub passes : HasPlainNames p → PassesSame (parts_of p) (parts_of q)
-  -- at most as many digests, by the meaning and by the rules: the second number is that of the `TypedProgram`
+  -- at most as many digests, by the meaning and by the rules: the second number is that of the `TypedProgram`. Where names
+  -- are plain, both are one (`digests_are_counted` of `p4_typing_laws`)
   pub bound : digest_bound (parts_of q) ≡ digest_bound (parts_of p)
   pub most : most_of_program q ≡ most_of_program p
   -- tables and registers stand there, and actions with their names and parameters, by the same numbers

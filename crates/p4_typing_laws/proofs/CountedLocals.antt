@@ -1,5 +1,5 @@
--- Along the declarations of a control each action counts at most what its body counts, and each table at most what its
--- actions and its default count.
+-- Along the declarations of a control each action counts what its body counts, and each table the most that its actions
+-- and its default count.
 use Rattle.std.proofs.Common.{◌≡◌, ◌⊎◌, inl, inr, ℕ, List, [], ◌∷◌, ◌++◌, map, Bool, true, false, cond, not, ◌||◌, codes, Option, Some, None, refl, sym, ap, ◌∙◌, subst}
 use Rattle.std.specs.List.{AllByRecursion}
 use Rattle.lex_text.specs.Names.{same_text}
@@ -19,17 +19,19 @@ use Rattle.p4_scopes.specs.Uses.{is_action, most_in}
 use Rattle.p4_scopes.specs.declared.thing.Access.TheVariants.{Writable, Constant}
 use Rattle.p4_scopes.specs.declared.thing.Function.{Function}
 use Rattle.p4_scopes.specs.declared.thing.Function.TheVariants.{MarkToDrop, Digest, VerifyChecksum, UpdateChecksum}
+use Rattle.p4_statement_rules.specs.Forms.{takes_runs}
 use Rattle.p4_statement_rules.specs.declared.rule.Part.{Part}
+use Rattle.p4_statement_rules.specs.declared.rule.Part.TheVariants as place
 use Rattle.p4_declaration_rules.specs.Digests.{most_of, greatest, most_of_default, most_of_table}
 use Rattle.p4_declaration_rules.specs.Declarations.{with_params}
 use Rattle.p4_declaration_rules.specs.Tables.{listed_tests, default_args, default_tests, table_tests}
 use Rattle.p4_declaration_rules.specs.Controls.{action_part, local_tests, after_local, locals_tests, after_locals}
 use Rattle.p4_typing_laws.specs.Counted.{IsPlain, IsPlainLocal}
 use Rattle.p4_typing_laws.proofs.Fine.{twice_not}
-use Rattle.p4_typing_laws.proofs.Few.{Few, zero_few, max_few}
-use Rattle.p4_typing_laws.proofs.CallCounts.{text_is, text_same, function_name, is_function_name, Counts, block_few, no_more_values, params_more}
+use Rattle.p4_typing_laws.proofs.Cut.{IsCut, zero_cut, max_cut}
+use Rattle.p4_typing_laws.proofs.CallCounts.{text_is, text_same, function_name, is_function_name, IsQuiet, Counts, block_counts, no_more_values, params_more}
 use Rattle.p4_typing_laws.proofs.FullNames.{full_apart, full_has, no_function, among_head, Knows, known_full, knows_rest, named_other, table_other}
-use Rattle.p4_typing_laws.proofs.CountedNames.{IsQuiet, was_missing, KeepsCore, declare_keeps, Calls, quiet_calls, action_calls, table_calls}
+use Rattle.p4_typing_laws.proofs.CountedNames.{was_missing, KeepsCore, declare_keeps, Calls, IsNoAction, quiet_calls, action_calls, table_calls}
 
 broken : {A : Type 0} → true ≡ false → A
 broken h = absurd (cc)
@@ -74,15 +76,25 @@ function_core Digest = refl
 function_core VerifyChecksum = refl
 function_core UpdateChecksum = refl
 
+-- in an action no action is called and no table applied
+runs_none : (h : Part) → takes_runs (action_part h) ≡ false
+runs_none place.State = refl
+runs_none place.Verify = refl
+runs_none place.Apply = refl
+runs_none place.Action = refl
+runs_none place.Compute = refl
+runs_none place.Deparser = refl
+runs_none place.Other = refl
+
 -- ---- counts
 
 module _ (as' : List Action) (tabs : List Table) (none : action_named as' (codes "NoAction") ≡ None) (c : List ℕ) (own : List (List ℕ)) (new : IsNew own) where
   -- an action, and a table, of the control
   abbrev pub OwnAction : List ℕ → ℕ → Type 0
-  OwnAction x m = (is_among own x ≡ true) × Few (most_named as' (full c x)) m
+  OwnAction x m = (is_among own x ≡ true) × IsCut (most_named as' (full c x)) m
 
   abbrev pub OwnTable : List ℕ → ℕ → Type 0
-  OwnTable x m = (is_among own x ≡ true) × Few (most_applied as' tabs (full c x)) m
+  OwnTable x m = (is_among own x ≡ true) × IsCut (most_applied as' tabs (full c x)) m
 
   module _ (sc : meaning.Scope) (owns : sc.own ≡ own) (control : sc.control ≡ c) where
     full_own : (x : List ℕ) → is_among own x ≡ true → full_name sc x ≡ full c x
@@ -91,73 +103,78 @@ module _ (as' : List Action) (tabs : List Table) (none : action_named as' (codes
     full_core : (x : List ℕ) → is_missing (core_name x) ≡ false → full_name sc x ≡ x
     full_core x h = ap (λ (o : List (List ℕ)). cond (is_among o x) (full sc.control x) x) owns ∙ ap (λ (b : Bool). cond b (full sc.control x) x) (new.apart x h)
 
-    pub counts_of : (s : Scope) → Calls OwnAction OwnTable s → Counts (full_name sc) (most_named as') (most_applied as' tabs) s
-    counts_of s calls =
+    pub counts_of : (may : Bool) (s : Scope) → Calls OwnAction OwnTable s → Counts (full_name sc) (most_named as') (most_applied as' tabs) may s
+    counts_of may s calls =
         record {
           functions = λ x f e. functions x f (calls.functions x f e);
-          actions = λ x ks m e. actions x m (calls.actions x ks m e);
-          tables = λ x m e. tables x m (calls.tables x m e);
+          actions = λ x ks m e k. actions x m (calls.actions x ks m e);
+          tables = λ x m e k. tables x m (calls.tables x m e);
+          inner = calls.inner;
         }
       where
         functions : (x : List ℕ) (f : Function) → x ≡ function_name f → full_name sc x ≡ function_name f
         functions x f e = ap (full_name sc) e ∙ full_core (function_name f) (function_core f)
 
-        no_action : (m : ℕ) → Few (most_named as' (codes "NoAction")) m
-        no_action m = subst (λ (o : Option Action). Few (bound.most_of_action o) m) (sym none) (zero_few m)
+        no_action : IsCut (most_named as' (codes "NoAction")) 0
+        no_action = subst (λ (o : Option Action). IsCut (bound.most_of_action o) 0) (sym none) zero_cut
 
-        actions : (x : List ℕ) (m : ℕ) → (x ≡ codes "NoAction") ⊎ OwnAction x m → (is_function_name (full_name sc x) ≡ false) × Few (most_named as' (full_name sc x)) m
+        actions : (x : List ℕ) (m : ℕ) → IsNoAction x m ⊎ OwnAction x m → (is_function_name (full_name sc x) ≡ false) × IsCut (most_named as' (full_name sc x)) m
         actions x m (inl e) =
-            (let P : List ℕ → Type 0 = λ y. (is_function_name y ≡ false) × Few (most_named as' y) m in
-            subst P (sym (ap (full_name sc) e ∙ full_core (codes "NoAction") refl)) (refl, no_action m))
+            (let P : List ℕ → Type 0 = λ y. (is_function_name y ≡ false) × IsCut (most_named as' y) m in
+            subst P (sym (ap (full_name sc) e.0 ∙ full_core (codes "NoAction") refl)) (refl, subst (λ (n : ℕ). IsCut (most_named as' (codes "NoAction")) n) (sym e.1) no_action))
         actions x m (inr h) =
-            (let P : List ℕ → Type 0 = λ y. (is_function_name y ≡ false) × Few (most_named as' y) m in
+            (let P : List ℕ → Type 0 = λ y. (is_function_name y ≡ false) × IsCut (most_named as' y) m in
             subst P (sym (full_own x h.0)) (no_function (full c x) (full_has c x), h.1))
 
-        tables : (x : List ℕ) (m : ℕ) → OwnTable x m → Few (most_applied as' tabs (full_name sc x)) m
-        tables x m h = subst (λ (y : List ℕ). Few (most_applied as' tabs y) m) (sym (full_own x h.0)) h.1
+        tables : (x : List ℕ) (m : ℕ) → OwnTable x m → IsCut (most_applied as' tabs (full_name sc x)) m
+        tables x m h = subst (λ (y : List ℕ). IsCut (most_applied as' tabs y) m) (sym (full_own x h.0)) h.1
 
-    -- in an action's body no action is called and no table applied
-    pub body_counts : (s : Scope) → Calls OwnAction OwnTable s → Counts (full_name sc) none_told none_told s
-    body_counts s calls =
-        (let all = counts_of s calls in
-        record { functions = all.functions; actions = λ x ks m e. ((all.actions x ks m e).0, zero_few m); tables = λ x m e. zero_few m })
+    -- where none may be, as in an action's body, no action is called and no table applied
+    pub body_counts : (may : Bool) → may ≡ false → (s : Scope) → Calls OwnAction OwnTable s → Counts (full_name sc) none_told none_told may s
+    body_counts may none s calls =
+        record {
+          functions = (counts_of may s calls).functions;
+          actions = λ x ks m e k. broken (sym k ∙ none);
+          tables = λ x m e k. broken (sym k ∙ none);
+          inner = calls.inner;
+        }
 
     -- ---- tables
 
-    action_there : (s : Scope) → Counts (full_name sc) (most_named as') (most_applied as' tabs) s → (x : List ℕ) (st : Stands) → s (x ∷ []) ≡ st → is_missing st ≡ false → not (is_action st) ≡ false → Few (most_named as' (full_name sc x)) (most_in (s (x ∷ [])))
+    action_there : (s : Scope) → Counts (full_name sc) (most_named as') (most_applied as' tabs) true s → (x : List ℕ) (st : Stands) → s (x ∷ []) ≡ st → is_missing st ≡ false → not (is_action st) ≡ false → IsCut (most_named as' (full_name sc x)) (most_in (s (x ∷ [])))
     action_there s counts x missing e h k = broken h
     action_there s counts x (typed b t) e h k = broken k
     action_there s counts x (held a t) e h k = broken k
     action_there s counts x (cells j) e h k = broken k
-    action_there s counts x (act ks m) e h k = subst (λ (st : Stands). Few (most_named as' (full_name sc x)) (most_in st)) (sym e) (counts.actions x ks m e).1
+    action_there s counts x (act ks m) e h k = subst (λ (st : Stands). IsCut (most_named as' (full_name sc x)) (most_in st)) (sym e) (counts.actions x ks m e refl).1
     action_there s counts x (rows m) e h k = broken k
     action_there s counts x state e h k = broken k
     action_there s counts x (function g) e h k = broken k
     action_there s counts x algorithm e h k = broken k
     action_there s counts x other e h k = broken k
 
-    listed_few : (p : ℕ) (s : Scope) → Counts (full_name sc) (most_named as') (most_applied as' tabs) s → (xs : List (List ℕ)) → IsFine (listed_tests p s xs) → Few (bound.greatest as' (map (full_name sc) xs)) (greatest s xs)
-    listed_few p s counts [] f = zero_few _
-    listed_few p s counts (x ∷ xs) f = max_few _ _ _ _ (action_there s counts x (s (x ∷ [])) refl f.0.0 f.0.1) (listed_few p s counts xs f.1)
+    listed_counts : (p : ℕ) (s : Scope) → Counts (full_name sc) (most_named as') (most_applied as' tabs) true s → (xs : List (List ℕ)) → IsFine (listed_tests p s xs) → IsCut (bound.greatest as' (map (full_name sc) xs)) (greatest s xs)
+    listed_counts p s counts [] f = zero_cut
+    listed_counts p s counts (x ∷ xs) f = max_cut _ _ _ _ (action_there s counts x (s (x ∷ [])) refl f.0.0 f.0.1) (listed_counts p s counts xs f.1)
 
-    default_there : (p : ℕ) (s : Scope) → Counts (full_name sc) (most_named as') (most_applied as' tabs) s → (x : List ℕ) (es : List Expr) (st : Stands) → s (x ∷ []) ≡ st → IsFine (default_args p s st es) → Few (most_named as' (full_name sc x)) (most_in (s (x ∷ [])))
+    default_there : (p : ℕ) (s : Scope) → Counts (full_name sc) (most_named as') (most_applied as' tabs) true s → (x : List ℕ) (es : List Expr) (st : Stands) → s (x ∷ []) ≡ st → IsFine (default_args p s st es) → IsCut (most_named as' (full_name sc x)) (most_in (s (x ∷ [])))
     default_there p s counts x es missing e f = broken f
     default_there p s counts x es (typed b t) e f = broken f
     default_there p s counts x es (held a t) e f = broken f
     default_there p s counts x es (cells j) e f = broken f
-    default_there p s counts x es (act ks m) e f = subst (λ (st : Stands). Few (most_named as' (full_name sc x)) (most_in st)) (sym e) (counts.actions x ks m e).1
+    default_there p s counts x es (act ks m) e f = subst (λ (st : Stands). IsCut (most_named as' (full_name sc x)) (most_in st)) (sym e) (counts.actions x ks m e refl).1
     default_there p s counts x es (rows m) e f = broken f
     default_there p s counts x es state e f = broken f
     default_there p s counts x es (function g) e f = broken f
     default_there p s counts x es algorithm e f = broken f
     default_there p s counts x es other e f = broken f
 
-    default_few : (p : ℕ) (s : Scope) → Counts (full_name sc) (most_named as') (most_applied as' tabs) s → (xs : List (List ℕ)) (d : Option (List ℕ × List Expr)) → IsFine (default_tests p s xs d) → Few (most_named as' (default_under sc as' d).action) (most_of_default s d)
-    default_few p s counts xs None f = subst (λ (o : Option Action). Few (bound.most_of_action o) 0) (sym none) (zero_few 0)
-    default_few p s counts xs (Some d) f = default_there p s counts d.0 d.1 (s (d.0 ∷ [])) refl f.1
+    default_counts : (p : ℕ) (s : Scope) → Counts (full_name sc) (most_named as') (most_applied as' tabs) true s → (xs : List (List ℕ)) (d : Option (List ℕ × List Expr)) → IsFine (default_tests p s xs d) → IsCut (most_named as' (default_under sc as' d).action) (most_of_default s d)
+    default_counts p s counts xs None f = subst (λ (o : Option Action). IsCut (bound.most_of_action o) 0) (sym none) zero_cut
+    default_counts p s counts xs (Some d) f = default_there p s counts d.0 d.1 (s (d.0 ∷ [])) refl f.1
 
-    table_few : (s : Scope) → Counts (full_name sc) (most_named as') (most_applied as' tabs) s → (t : tree.Table) → IsFine (table_tests s t) → Few (bound.most_of_table as' (Some (table_under sc as' t))) (most_of_table s t.actions t.default)
-    table_few s counts t f = max_few _ _ _ _ (default_few t.at s counts t.actions t.default f.1.1.1.1.1) (listed_few t.at s counts t.actions f.1.1.1.1.0)
+    table_counts : (s : Scope) → Counts (full_name sc) (most_named as') (most_applied as' tabs) true s → (t : tree.Table) → IsFine (table_tests s t) → IsCut (bound.most_of_table as' (Some (table_under sc as' t))) (most_of_table s t.actions t.default)
+    table_counts s counts t f = max_cut _ _ _ _ (default_counts t.at s counts t.actions t.default f.1.1.1.1.1) (listed_counts t.at s counts t.actions f.1.1.1.1.0)
 
   -- ---- along the declarations
 
@@ -191,7 +208,7 @@ module _ (as' : List Action) (tabs : List Table) (none : action_named as' (codes
           knows = knows_rest c sc (local_action p a) ls b.knows;
           owns = b.owns;
           core = declare_keeps s b.core a.name (action a.params (most_of s a.body)) new_name;
-          calls = action_calls OwnAction OwnTable s b.calls a.name a.params (most_of s a.body) (is_own, few);
+          calls = action_calls OwnAction OwnTable s b.calls a.name a.params (most_of s a.body) (is_own, counted);
           finds_actions = λ x q m. (let was = was_missing s a.name (action a.params (most_of s a.body)) refl x m in b.finds_actions x q was.before ∙ named_other _ (action_under sc a) (full c x) (λ e. was.apart (full_apart a.name x c c plain q (sym named ∙ e)).0));
           finds_tables = λ x q m. b.finds_tables x q (was_missing s a.name (action a.params (most_of s a.body)) refl x m).before;
         }
@@ -208,11 +225,11 @@ module _ (as' : List Action) (tabs : List Table) (none : action_named as' (codes
         found : action_named as' (full c a.name) ≡ Some (action_under sc a)
         found = b.finds_actions a.name plain new_name ∙ named_here (action_under sc a) _ (full c a.name) named
 
-        body : Few (bound.most_of none_told none_told (stmts_under (in_action sc a) a.body)) (most_of s a.body)
-        body = block_few (in_action sc a) none_told none_told s (body_counts sc b.owns b.knows.control s b.calls) a.body (action_part h) (with_params s a.params) (params_more a.params s s (no_more_values s)) f.1.1.1
+        body : IsCut (bound.most_of none_told none_told (stmts_under (in_action sc a) a.body)) (most_of s a.body)
+        body = block_counts (in_action sc a) none_told none_told (action_part h) s (body_counts sc b.owns b.knows.control _ (runs_none h) s b.calls) a.body (with_params s a.params) (params_more a.at a.params s s (no_more_values s) f.1.1.0) f.1.1.1
 
-        few : Few (most_named as' (full c a.name)) (most_of s a.body)
-        few = subst (λ (o : Option Action). Few (bound.most_of_action o) (most_of s a.body)) (sym found) body
+        counted : IsCut (most_named as' (full c a.name)) (most_of s a.body)
+        counted = subst (λ (o : Option Action). IsCut (bound.most_of_action o) (most_of s a.body)) (sym found) body
 
     behind_table : (sc : meaning.Scope) (p : ℕ) (t : tree.Table) (ls : List Local) (s : Scope) → IsBefore acts ts sc (local_table p t ∷ ls) s → IsPlain t.name → IsFine (local_tests h s (local_table p t)) → IsBefore acts ts sc ls (after_local s (local_table p t))
     behind_table sc p t ls s b plain f =
@@ -220,7 +237,7 @@ module _ (as' : List Action) (tabs : List Table) (none : action_named as' (codes
           knows = knows_rest c sc (local_table p t) ls b.knows;
           owns = b.owns;
           core = declare_keeps s b.core t.name (table most) new_name;
-          calls = table_calls OwnAction OwnTable s b.calls t.name most (is_own, few);
+          calls = table_calls OwnAction OwnTable s b.calls t.name most (is_own, counted);
           finds_actions = λ x q m. b.finds_actions x q (was_missing s t.name (table most) refl x m).before;
           finds_tables = λ x q m. (let was = was_missing s t.name (table most) refl x m in b.finds_tables x q was.before ∙ table_other _ (table_under sc as' t) (full c x) (λ e. was.apart (full_apart t.name x c c plain q (sym named ∙ e)).0));
         }
@@ -240,8 +257,8 @@ module _ (as' : List Action) (tabs : List Table) (none : action_named as' (codes
         found : table_named tabs (full c t.name) ≡ Some (table_under sc as' t)
         found = b.finds_tables t.name plain new_name ∙ table_here (table_under sc as' t) _ (full c t.name) named
 
-        few : Few (most_applied as' tabs (full c t.name)) (most_of_table s t.actions t.default)
-        few = subst (λ (o : Option Table). Few (bound.most_of_table as' o) (most_of_table s t.actions t.default)) (sym found) (table_few sc b.owns b.knows.control s (counts_of sc b.owns b.knows.control s b.calls) t f.1)
+        counted : IsCut (most_applied as' tabs (full c t.name)) (most_of_table s t.actions t.default)
+        counted = subst (λ (o : Option Table). IsCut (bound.most_of_table as' o) (most_of_table s t.actions t.default)) (sym found) (table_counts sc b.owns b.knows.control s (counts_of sc b.owns b.knows.control true s b.calls) t f.1)
 
     -- a declaration that is not called, and whose name is no full one
     quiet_before : (sd : meaning.Scope) (ls : List Local) (s : Scope) (n : List ℕ) (w : What) → Knows c sd ls → sd.own ≡ own → KeepsCore s → Calls OwnAction OwnTable s

@@ -1,14 +1,17 @@
--- What the names in sight count, along the declarations of a program: an action at most what its body counts, a table at
--- most what its actions and its default count.
-use Rattle.std.proofs.Common.{◌≡◌, ◌⊎◌, inl, inr, ℕ, List, [], ◌∷◌, Bool, true, false, cond, codes, refl, sym, ap, ◌∙◌, subst}
+-- What the names in sight count, along the declarations of a program: an action what its body counts, a table the most
+-- that its actions and its default count.
+use Rattle.std.proofs.Common.{◌≡◌, ◌⊎◌, inl, inr, ℕ, List, [], ◌∷◌, Bool, true, false, cond, ◌&&◌, ◌||◌, codes, refl, sym, ap, ◌∙◌, subst}
 use Rattle.lex_text.specs.Names.{same_text}
 use Rattle.p4_tree.specs.declared.statement.PTy.{PTy}
-use Rattle.p4_scopes.specs.Scopes.{Stands, missing, typed, held, cells, act, rows, state, function, algorithm, other, is_missing, Scope, What, behind, declare, action, table, core_name, core}
+use Rattle.p4_tree.specs.declared.statement.PTy.TheVariants as type
+use Rattle.p4_scopes.specs.Scopes.{Stands, missing, typed, held, cells, act, rows, state, function, algorithm, other, is_missing, as_held, as_typed, scalar_at, type_at, field_at, Scope, What, alias, fields, value, register, action, table, parser_state, part, behind, declare, standard_at, core_name, core}
 use Rattle.p4_scopes.specs.declared.kind.Kind.{Kind}
+use Rattle.p4_scopes.specs.declared.kind.Kind.TheVariants.{Number, Truth}
 use Rattle.p4_scopes.specs.declared.thing.Thing.{Thing}
+use Rattle.p4_scopes.specs.declared.thing.Access.{Access}
 use Rattle.p4_scopes.specs.declared.thing.Function.{Function}
 use Rattle.p4_scopes.specs.declared.thing.Function.TheVariants.{MarkToDrop, Digest, VerifyChecksum, UpdateChecksum}
-use Rattle.p4_typing_laws.proofs.CallCounts.{text_is, text_same, function_name}
+use Rattle.p4_typing_laws.proofs.CallCounts.{text_is, text_same, function_name, IsQuiet}
 use Rattle.p4_typing_laws.proofs.FullNames.{other_text}
 
 broken : {A : Type 0} → true ≡ false → A
@@ -65,24 +68,72 @@ declare_keeps s k n w new = record { kept = λ x h. other_kept s n w x (λ e. (l
 
 -- ---- what is called at top level
 
--- what neither names a function nor counts
-abbrev pub IsQuiet : Stands → Type 0
-IsQuiet missing = Unit {0}
-IsQuiet (typed f t) = Unit {0}
-IsQuiet (held a t) = Unit {0}
-IsQuiet (cells k) = Unit {0}
-IsQuiet (act ks m) = ⊥
-IsQuiet (rows m) = ⊥
-IsQuiet state = Unit {0}
-IsQuiet (function f) = ⊥
-IsQuiet algorithm = Unit {0}
-IsQuiet other = Unit {0}
+-- where values, types and fields stand, and behind each declared name, nothing is called
+typed_quiet : (st : Stands) → IsQuiet (as_typed st)
+typed_quiet missing = tt
+typed_quiet (typed f t) = tt
+typed_quiet (held a t) = tt
+typed_quiet (cells k) = tt
+typed_quiet (act ks m) = tt
+typed_quiet (rows m) = tt
+typed_quiet state = tt
+typed_quiet (function f) = tt
+typed_quiet algorithm = tt
+typed_quiet other = tt
 
--- L, T: what is known of the other actions and of the tables in sight
+held_quiet : (a : Access) (st : Stands) → IsQuiet (as_held a st)
+held_quiet a missing = tt
+held_quiet a (typed f t) = tt
+held_quiet a (held b t) = tt
+held_quiet a (cells k) = tt
+held_quiet a (act ks m) = tt
+held_quiet a (rows m) = tt
+held_quiet a state = tt
+held_quiet a (function f) = tt
+held_quiet a algorithm = tt
+held_quiet a other = tt
+
+scalar_quiet : (k : Kind) (xs : List (List ℕ)) → IsQuiet (scalar_at k xs)
+scalar_quiet k [] = tt
+scalar_quiet k (x ∷ xs) = tt
+
+type_quiet : (s : Scope) (ty : PTy) (xs : List (List ℕ)) → IsQuiet (type_at s ty xs)
+type_quiet s (type.Bit w) xs = scalar_quiet (Number w) xs
+type_quiet s type.Bool xs = scalar_quiet Truth xs
+type_quiet s (type.Named t) xs = typed_quiet (s (t ∷ xs))
+
+if_quiet : (b : Bool) (u v : Stands) → IsQuiet u → IsQuiet v → IsQuiet (cond b u v)
+if_quiet true u v h k = h
+if_quiet false u v h k = k
+
+field_quiet : (s : Scope) (fs : List (PTy × List ℕ)) (x : List ℕ) (xs : List (List ℕ)) → IsQuiet (field_at s fs x xs)
+field_quiet s [] x xs = tt
+field_quiet s (f ∷ fs) x xs = if_quiet (same_text f.1 x) _ _ (type_quiet s f.0 xs) (field_quiet s fs x xs)
+
+behind_quiet : (s : Scope) (w : What) (x : List ℕ) (xs : List (List ℕ)) → IsQuiet (behind s w (x ∷ xs))
+behind_quiet s (alias t) x xs = tt
+behind_quiet s (fields h fs) x xs = field_quiet s fs x xs
+behind_quiet s (value a t) x xs = held_quiet a (type_at s t (x ∷ xs))
+behind_quiet s (register t) x xs = tt
+behind_quiet s (action ps m) x xs = tt
+behind_quiet s (table m) x xs = tt
+behind_quiet s parser_state x xs = tt
+behind_quiet s part x xs = tt
+
+-- the action that does nothing
+abbrev pub IsNoAction : List ℕ → ℕ → Type 0
+IsNoAction x m = (x ≡ codes "NoAction") × (m ≡ 0)
+
+-- L, T: what is known of the other actions and of the tables in sight. Nothing is called by more names than one
 pub record Calls (L T : List ℕ → ℕ → Type 0) (s : Scope) : Type 0 where
   pub functions : (x : List ℕ) (f : Function) → s (x ∷ []) ≡ function f → x ≡ function_name f
-  pub actions : (x : List ℕ) (ks : List Kind) (m : ℕ) → s (x ∷ []) ≡ act ks m → (x ≡ codes "NoAction") ⊎ L x m
+  pub actions : (x : List ℕ) (ks : List Kind) (m : ℕ) → s (x ∷ []) ≡ act ks m → IsNoAction x m ⊎ L x m
   pub tables : (x : List ℕ) (m : ℕ) → s (x ∷ []) ≡ rows m → T x m
+  pub inner : (x y : List ℕ) (rest : List (List ℕ)) → IsQuiet (s (x ∷ y ∷ rest))
+
+inner_quiet : (s : Scope) (n : List ℕ) (w : What) → ((x y : List ℕ) (rest : List (List ℕ)) → IsQuiet (s (x ∷ y ∷ rest))) → (x y : List ℕ) (rest : List (List ℕ)) → IsQuiet (declare s n w (x ∷ y ∷ rest))
+unfolding declare
+inner_quiet s n w h x y rest = if_quiet (same_text n x) _ _ (behind_quiet s w y rest) (h x y rest)
 
 pub quiet_calls : (L T : List ℕ → ℕ → Type 0) (s : Scope) → Calls L T s → (n : List ℕ) (w : What) → IsQuiet (behind s w []) → Calls L T (declare s n w)
 quiet_calls L T s c n w q =
@@ -90,13 +141,14 @@ quiet_calls L T s c n w q =
       functions = λ x f e. functions x f (declared_at s n w x (function f) e);
       actions = λ x ks m e. actions x ks m (declared_at s n w x (act ks m) e);
       tables = λ x m e. tables x m (declared_at s n w x (rows m) e);
+      inner = inner_quiet s n w c.inner;
     }
   where
     functions : (x : List ℕ) (f : Function) → DeclaredAt s n w x (function f) → x ≡ function_name f
     functions x f (inl e) = absurd (subst IsQuiet e.1 q)
     functions x f (inr e) = c.functions x f e
 
-    actions : (x : List ℕ) (ks : List Kind) (m : ℕ) → DeclaredAt s n w x (act ks m) → (x ≡ codes "NoAction") ⊎ L x m
+    actions : (x : List ℕ) (ks : List Kind) (m : ℕ) → DeclaredAt s n w x (act ks m) → IsNoAction x m ⊎ L x m
     actions x ks m (inl e) = absurd (subst IsQuiet e.1 q)
     actions x ks m (inr e) = c.actions x ks m e
 
@@ -110,13 +162,14 @@ action_calls L T s c n ps m h =
       functions = λ x f e. functions x f (declared_at s n (action ps m) x (function f) e);
       actions = λ x ks k e. actions x ks k (declared_at s n (action ps m) x (act ks k) e);
       tables = λ x k e. tables x k (declared_at s n (action ps m) x (rows k) e);
+      inner = inner_quiet s n (action ps m) c.inner;
     }
   where
     functions : (x : List ℕ) (f : Function) → DeclaredAt s n (action ps m) x (function f) → x ≡ function_name f
     functions x f (inl e) = (let d = e.1 in absurd (cc))
     functions x f (inr e) = c.functions x f e
 
-    actions : (x : List ℕ) (ks : List Kind) (k : ℕ) → DeclaredAt s n (action ps m) x (act ks k) → (x ≡ codes "NoAction") ⊎ L x k
+    actions : (x : List ℕ) (ks : List Kind) (k : ℕ) → DeclaredAt s n (action ps m) x (act ks k) → IsNoAction x k ⊎ L x k
     actions x ks k (inl e) = (let d = e.1 in let same : m ≡ k = cc in inr (subst (λ (y : List ℕ). L y k) e.0 (subst (λ (j : ℕ). L n j) same h)))
     actions x ks k (inr e) = c.actions x ks k e
 
@@ -130,13 +183,14 @@ table_calls L T s c n m h =
       functions = λ x f e. functions x f (declared_at s n (table m) x (function f) e);
       actions = λ x ks k e. actions x ks k (declared_at s n (table m) x (act ks k) e);
       tables = λ x k e. tables x k (declared_at s n (table m) x (rows k) e);
+      inner = inner_quiet s n (table m) c.inner;
     }
   where
     functions : (x : List ℕ) (f : Function) → DeclaredAt s n (table m) x (function f) → x ≡ function_name f
     functions x f (inl e) = (let d = e.1 in absurd (cc))
     functions x f (inr e) = c.functions x f e
 
-    actions : (x : List ℕ) (ks : List Kind) (k : ℕ) → DeclaredAt s n (table m) x (act ks k) → (x ≡ codes "NoAction") ⊎ L x k
+    actions : (x : List ℕ) (ks : List Kind) (k : ℕ) → DeclaredAt s n (table m) x (act ks k) → IsNoAction x k ⊎ L x k
     actions x ks k (inl e) = (let d = e.1 in absurd (cc))
     actions x ks k (inr e) = c.actions x ks k e
 
@@ -150,7 +204,7 @@ Nothing x m = ⊥
 -- before the first declaration functions and `NoAction` alone are called
 pub record IsCore (x : List ℕ) (st : Stands) : Type 0 where
   pub functions : (f : Function) → st ≡ function f → x ≡ function_name f
-  pub actions : (ks : List Kind) (m : ℕ) → st ≡ act ks m → x ≡ codes "NoAction"
+  pub actions : (ks : List Kind) (m : ℕ) → st ≡ act ks m → IsNoAction x m
   pub tables : (m : ℕ) → st ≡ rows m → ⊥
 
 if_core : (x : List ℕ) (b : Bool) (u v : Stands) → (b ≡ true → IsCore x u) → IsCore x v → IsCore x (cond b u v)
@@ -170,7 +224,7 @@ missing_core : (x : List ℕ) → IsCore x missing
 missing_core x = record { functions = λ f e. absurd (cc); actions = λ ks m e. absurd (cc); tables = λ m e. cc }
 
 no_action_core : (x : List ℕ) → x ≡ codes "NoAction" → IsCore x (act [] 0)
-no_action_core x h = record { functions = λ f e. absurd (cc); actions = λ ks m e. h; tables = λ m e. cc }
+no_action_core x h = record { functions = λ f e. absurd (cc); actions = λ ks m e. (h, cc); tables = λ m e. cc }
 
 function_core : (x : List ℕ) (g : Function) → x ≡ function_name g → IsCore x (function g)
 function_core x g h = record { functions = λ f e. (let same : g ≡ f = cc in h ∙ ap function_name same); actions = λ ks m e. absurd (cc); tables = λ m e. cc }
@@ -187,6 +241,21 @@ core_is x =
     (if_core x (same_text x (codes "update_checksum")) _ _ (λ e. function_core x UpdateChecksum (text_is x (codes "update_checksum") e))
     (if_core x (same_text x (codes "HashAlgorithm")) _ _ (λ e. other_core x) (missing_core x)))))))))
 
+standard_quiet : (y : List ℕ) → IsQuiet (standard_at y)
+standard_quiet y =
+    if_quiet (same_text y (codes "egress_spec")) _ _ tt
+    (if_quiet (same_text y (codes "ingress_port") || same_text y (codes "egress_port")) _ _ tt
+    (if_quiet (same_text y (codes "packet_length")) _ _ tt
+    (if_quiet (same_text y (codes "checksum_error")) _ _ tt
+    (if_quiet (same_text y (codes "parser_error")) _ _ tt tt))))
+
+core_quiet : (x y : List ℕ) (rest : List (List ℕ)) → IsQuiet (core (x ∷ y ∷ rest))
+unfolding core
+core_quiet x y [] =
+    if_quiet (same_text x (codes "standard_metadata_t")) _ _ (standard_quiet y)
+    (if_quiet (same_text x (codes "HashAlgorithm") && same_text y (codes "csum16")) _ _ tt tt)
+core_quiet x y (z ∷ zs) = tt
+
 pub core_calls : (L T : List ℕ → ℕ → Type 0) → Calls L T core
 unfolding core
 core_calls L T =
@@ -194,4 +263,5 @@ core_calls L T =
       functions = λ x f e. (core_is x).functions f e;
       actions = λ x ks m e. inl ((core_is x).actions ks m e);
       tables = λ x m e. absurd ((core_is x).tables m e);
+      inner = core_quiet;
     }

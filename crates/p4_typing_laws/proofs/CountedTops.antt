@@ -1,5 +1,5 @@
 -- What each control counts, along the declarations of a program, and what a passage counts.
-use Rattle.std.proofs.Common.{◌≡◌, ◌⊎◌, inl, inr, ℕ, ◌+◌, List, [], ◌∷◌, true, false, not, codes, Some, None, refl, sym, ◌∙◌, subst, arith}
+use Rattle.std.proofs.Common.{◌≡◌, ◌⊎◌, inl, inr, ℕ, ◌+◌, List, [], ◌∷◌, true, false, not, codes, Some, None, refl, sym, ap, ◌∙◌, subst, arith}
 use Rattle.std.specs.List.{AllByRecursion}
 use Rattle.rule_tests.specs.Tests.{IsFine}
 use Rattle.p4_tree.specs.Tree.{Stmts, nothing, block, var, assign, choice, return_, exit_, call, done, next, and_then, Local, local_action, local_table, local_register, local_const, local_var, Control, Top, constant, typedef, header_type, struct_type, register, parser, control}
@@ -18,19 +18,19 @@ use Rattle.p4_scopes.specs.Scopes as scope
 use Rattle.p4_scopes.specs.declared.thing.Thing.TheVariants.{Header, Struct}
 use Rattle.p4_scopes.specs.declared.thing.Access.TheVariants.{Constant}
 use Rattle.p4_statement_rules.specs.Forms as form
-use Rattle.p4_statement_rules.specs.Forms.{Form, takes_call, form_of}
+use Rattle.p4_statement_rules.specs.Forms.{Form, takes_runs, takes_call, form_of}
 use Rattle.p4_statement_rules.specs.Statements.{block_tests}
 use Rattle.p4_statement_rules.specs.declared.rule.Part.{Part}
 use Rattle.p4_statement_rules.specs.declared.rule.Part.TheVariants as place
 use Rattle.p4_declaration_rules.specs.Digests.{most_of_form, most_of}
 use Rattle.p4_declaration_rules.specs.Parsers.{way_access, with_ways, ways_tests}
-use Rattle.p4_declaration_rules.specs.Controls.{in_control, control_tests, part_in, after_top, tops_tests}
+use Rattle.p4_declaration_rules.specs.Controls.{in_control, control_tests, part_in, top_tests, after_top, tops_tests}
 use Rattle.p4_typing_laws.specs.Counted.{IsPlain, IsPlainLocal, HavePlainNames}
 use Rattle.p4_typing_laws.proofs.Fine.{twice_not}
-use Rattle.p4_typing_laws.proofs.Few.{Few, few_below}
-use Rattle.p4_typing_laws.proofs.CallCounts.{block_few, no_more_values}
+use Rattle.p4_typing_laws.proofs.Cut.{IsCut, uncut}
+use Rattle.p4_typing_laws.proofs.CallCounts.{IsQuiet, block_counts, no_more_values}
 use Rattle.p4_typing_laws.proofs.FullNames.{full_apart, knows_all, skip_actions, skip_tables}
-use Rattle.p4_typing_laws.proofs.CountedNames.{was_missing, IsQuiet, KeepsCore, declare_keeps, Calls, quiet_calls, Nothing}
+use Rattle.p4_typing_laws.proofs.CountedNames.{was_missing, other_kept, KeepsCore, declare_keeps, IsNoAction, Calls, quiet_calls, Nothing}
 use Rattle.p4_typing_laws.proofs.CountedLocals.{IsNew, own_missing, own_new, counts_of, body_counts, IsBefore, behind_each}
 
 broken : {A : Type 0} → true ≡ false → A
@@ -99,9 +99,9 @@ ways_calls L T (q ∷ qs) s c = ways_calls L T qs (declare s q.name (value (way_
 
 -- what is known of calls at top level is known in a control
 inner_calls : (L T : List ℕ → ℕ → Type 0) (s : Scope) → Calls Nothing Nothing s → Calls L T s
-inner_calls L T s c = record { functions = c.functions; actions = λ x ks m e. go x m (c.actions x ks m e); tables = λ x m e. absurd (c.tables x m e) }
+inner_calls L T s c = record { functions = c.functions; actions = λ x ks m e. go x m (c.actions x ks m e); tables = λ x m e. absurd (c.tables x m e); inner = c.inner }
   where
-    go : (x : List ℕ) (m : ℕ) → (x ≡ codes "NoAction") ⊎ Nothing x m → (x ≡ codes "NoAction") ⊎ L x m
+    go : (x : List ℕ) (m : ℕ) → IsNoAction x m ⊎ Nothing x m → IsNoAction x m ⊎ L x m
     go x m (inl e) = inl e
     go x m (inr e) = absurd e
 
@@ -109,7 +109,7 @@ inner_calls L T s c = record { functions = c.functions; actions = λ x ks m e. g
 
 -- what a control counts as ingress or egress, and as verify checksum
 pub record ControlCounts (as' : List Action) (tabs : List Table) (main : List (List ℕ)) (s : Scope) (sc : meaning.Scope) (c : Control) : Type 0 where
-  pub runs : Few (bound.most_of (most_named as') (most_applied as' tabs) (whole (body_of 0 1 2 sc (Some c)))) (most_of (in_control s c) c.apply)
+  pub runs : IsCut (bound.most_of (most_named as') (most_applied as' tabs) (whole (body_of 0 1 2 sc (Some c)))) (most_of (in_control s c) c.apply)
   pub verifies : part_in main c.name ≡ place.Verify → bound.most_of none_told none_told (whole (body_of 0 1 9 sc (Some c))) ≡ 0
 
 module _ (as' : List Action) (tabs : List Table) (main : List (List ℕ)) where
@@ -131,6 +131,22 @@ module _ (as' : List Action) (tabs : List Table) (main : List (List ℕ)) where
   EachCounts s sc (parser p d ∷ ts) = EachCounts (after_top s (parser p d)) sc ts
   EachCounts s sc (control p c ∷ ts) = ControlCounts as' tabs main s sc c × EachCounts (after_top s (control p c)) sc ts
 
+-- what stands at a name stands there behind a declaration
+pub top_stays : (main : List (List ℕ)) (s : Scope) (t : Top) → IsFine (top_tests main s t) → (x : List ℕ) → is_missing (s (x ∷ [])) ≡ false → after_top s t (x ∷ []) ≡ s (x ∷ [])
+top_stays main s t f x h = one t f
+  where
+    kept : (n : List ℕ) (w : What) → is_missing (s (n ∷ [])) ≡ true → declare s n w (x ∷ []) ≡ s (x ∷ [])
+    kept n w new = other_kept s n w x (λ e. (let c : true ≡ false = sym new ∙ ap (λ (y : List ℕ). is_missing (s (y ∷ []))) e ∙ h in cc))
+
+    one : (t : Top) → IsFine (top_tests main s t) → after_top s t (x ∷ []) ≡ s (x ∷ [])
+    one (constant p ty y e) g = kept y (value Constant ty) (twice_not _ g.0)
+    one (typedef p ty y) g = kept y (alias ty) (twice_not _ g.0)
+    one (header_type p y fs) g = kept y (fields (Header _) fs) (twice_not _ g.0)
+    one (struct_type p y fs) g = kept y (fields Struct fs) (twice_not _ g.0)
+    one (register p r) g = kept r.name (scope.register r.ty) (twice_not _ g.0)
+    one (parser p d) g = kept d.name part (twice_not _ g.0)
+    one (control p c) g = kept c.name part (twice_not _ g.0)
+
 module _ (as' : List Action) (tabs : List Table) (none : action_named as' (codes "NoAction") ≡ None) (main : List (List ℕ)) where
   behind_names : (sc : meaning.Scope) (ls : List Local) → ((behind_locals sc ls).own ≡ sc.own) × ((behind_locals sc ls).control ≡ sc.control)
   behind_names sc [] = (refl, refl)
@@ -140,14 +156,14 @@ module _ (as' : List Action) (tabs : List Table) (none : action_named as' (codes
   behind_names sc (local_const p t x e ∷ ls) = behind_names (behind_local sc (local_const p t x e)) ls
   behind_names sc (local_var p t x e ∷ ls) = behind_names sc ls
 
-  none_left : (n m : ℕ) → Few n m → m ≡ 0 → n ≡ 0
-  none_left n m few e = (let h = few_below n m few (let k = e in omega (arith, k)) in omega (arith, h, e))
+  none_left : (n m : ℕ) → IsCut n m → m ≡ 0 → n ≡ 0
+  none_left n m cut e = uncut n m cut (let k = e in omega (arith, k)) ∙ e
 
   control_counts : (h : Part) (p : ℕ) (c : Control) (ts : List Top) (s : Scope) (sc : meaning.Scope) → IsBeforeTops as' tabs main sc (control p c ∷ ts) s → AllByRecursion IsPlainLocal c.locals → part_in main c.name ≡ h → IsFine (control_tests h s c) → ControlCounts as' tabs main s sc c
   control_counts h p c ts s sc b plain e f =
       record {
-        runs = subst (λ (n : ℕ). Few n (most_of (in_control s c) c.apply)) (sym (whole_counts (most_named as') (most_applied as' tabs) 0 1 2 sc c)) runs;
-        verifies = λ v. whole_counts none_told none_told 0 1 9 sc c ∙ none_left _ _ verifies (verify_none c.apply (in_control s c) (subst (λ (g : Part). IsFine (block_tests g (in_control s c) c.apply)) (sym e ∙ v) f.1.1.1.0));
+        runs = subst (λ (n : ℕ). IsCut n (most_of (in_control s c) c.apply)) (sym (whole_counts (most_named as') (most_applied as' tabs) 0 1 2 sc c)) runs;
+        verifies = λ v. whole_counts none_told none_told 0 1 9 sc c ∙ none_left _ _ (verifies (sym e ∙ v)) (verify_none c.apply (in_control s c) (subst (λ (g : Part). IsFine (block_tests g (in_control s c) c.apply)) (sym e ∙ v) f.1.1.1.0));
       }
     where
       keeps : KeepsCore (with_ways s c.params)
@@ -170,18 +186,18 @@ module _ (as' : List Action) (tabs : List Table) (none : action_named as' (codes
       end : IsBefore as' tabs none c.name (own_names c.locals) new (actions_of sc ts) (tables_of sc as' ts) (behind_locals (under.in_control 0 1 2 sc c) c.locals) [] (in_control s c)
       end = behind_each as' tabs none c.name (own_names c.locals) new (actions_of sc ts) (tables_of sc as' ts) h c.locals (under.in_control 0 1 2 sc c) (with_ways s c.params) starts plain f.1.1.0
 
-      runs : Few (bound.most_of (most_named as') (most_applied as' tabs) (stmts_under (behind_locals (under.in_control 0 1 2 sc c) c.locals) c.apply)) (most_of (in_control s c) c.apply)
+      runs : IsCut (bound.most_of (most_named as') (most_applied as' tabs) (stmts_under (behind_locals (under.in_control 0 1 2 sc c) c.locals) c.apply)) (most_of (in_control s c) c.apply)
       runs =
-          block_few (behind_locals (under.in_control 0 1 2 sc c) c.locals) (most_named as') (most_applied as' tabs) (in_control s c)
-          (counts_of as' tabs none c.name (own_names c.locals) new (behind_locals (under.in_control 0 1 2 sc c) c.locals) end.owns end.knows.control (in_control s c) end.calls)
-          c.apply h (in_control s c) (no_more_values (in_control s c)) f.1.1.1.0
+          block_counts (behind_locals (under.in_control 0 1 2 sc c) c.locals) (most_named as') (most_applied as' tabs) h (in_control s c)
+          (counts_of as' tabs none c.name (own_names c.locals) new (behind_locals (under.in_control 0 1 2 sc c) c.locals) end.owns end.knows.control _ (in_control s c) end.calls)
+          c.apply (in_control s c) (no_more_values (in_control s c)) f.1.1.1.0
 
-      verifies : Few (bound.most_of none_told none_told (stmts_under (behind_locals (under.in_control 0 1 9 sc c) c.locals) c.apply)) (most_of (in_control s c) c.apply)
-      verifies =
+      verifies : h ≡ place.Verify → IsCut (bound.most_of none_told none_told (stmts_under (behind_locals (under.in_control 0 1 9 sc c) c.locals) c.apply)) (most_of (in_control s c) c.apply)
+      verifies v =
           (let names = behind_names (under.in_control 0 1 9 sc c) c.locals in
-          block_few (behind_locals (under.in_control 0 1 9 sc c) c.locals) none_told none_told (in_control s c)
-          (body_counts as' tabs none c.name (own_names c.locals) new (behind_locals (under.in_control 0 1 9 sc c) c.locals) names.0 names.1 (in_control s c) end.calls)
-          c.apply h (in_control s c) (no_more_values (in_control s c)) f.1.1.1.0)
+          block_counts (behind_locals (under.in_control 0 1 9 sc c) c.locals) none_told none_told h (in_control s c)
+          (body_counts as' tabs none c.name (own_names c.locals) new (behind_locals (under.in_control 0 1 9 sc c) c.locals) names.0 names.1 _ (ap takes_runs v) (in_control s c) end.calls)
+          c.apply (in_control s c) (no_more_values (in_control s c)) f.1.1.1.0)
 
   -- ---- along the declarations of a program
 

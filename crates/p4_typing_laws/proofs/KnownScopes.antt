@@ -23,7 +23,8 @@ use Rattle.p4_typing_laws.proofs.Fine.{twice_not}
 use Rattle.p4_typing_laws.proofs.SoundScopes.{core_sound}
 use Rattle.p4_typing_laws.proofs.SoundPlaces.{local_sound, top_sound}
 use Rattle.p4_typing_laws.proofs.CallCounts.{text_is}
-use Rattle.p4_typing_laws.proofs.CountedNames.{other_kept, KeepsCore, core_keeps, declare_keeps}
+use Rattle.p4_typing_laws.proofs.CountedNames.{KeepsCore, core_keeps, declare_keeps}
+use Rattle.p4_typing_laws.proofs.CountedTops.{top_stays}
 
 broken : {A : Type 0} → true ≡ false → A
 broken h = absurd (cc)
@@ -172,16 +173,4 @@ core_known =
 
 pub stays : (main : List (List ℕ)) (ts : List Top) (s : Scope) → IsFine (tops_tests main s ts) → (x : List ℕ) → is_missing (s (x ∷ [])) ≡ false → after_tops s ts (x ∷ []) ≡ s (x ∷ [])
 stays main [] s f x h = refl
-stays main (t ∷ ts) s f x h = stays main ts (after_top s t) f.1 x (ap is_missing (one t f.0) ∙ h) ∙ one t f.0
-  where
-    kept : (n : List ℕ) (w : What) → is_missing (s (n ∷ [])) ≡ true → declare s n w (x ∷ []) ≡ s (x ∷ [])
-    kept n w new = other_kept s n w x (λ e. (let c : true ≡ false = sym new ∙ ap (λ (y : List ℕ). is_missing (s (y ∷ []))) e ∙ h in cc))
-
-    one : (t : Top) → IsFine (top_tests main s t) → after_top s t (x ∷ []) ≡ s (x ∷ [])
-    one (constant p ty y e) g = kept y (value Constant ty) (twice_not _ g.0)
-    one (typedef p ty y) g = kept y (alias ty) (twice_not _ g.0)
-    one (header_type p y fs) g = kept y (fields (Header _) fs) (twice_not _ g.0)
-    one (struct_type p y fs) g = kept y (fields Struct fs) (twice_not _ g.0)
-    one (register p r) g = kept r.name (scope.register r.ty) (twice_not _ g.0)
-    one (parser p d) g = kept d.name part (twice_not _ g.0)
-    one (control p c) g = kept c.name part (twice_not _ g.0)
+stays main (t ∷ ts) s f x h = (let one = top_stays main s t f.0 x h in stays main ts (after_top s t) f.1 x (ap is_missing one ∙ h) ∙ one)

@@ -8,7 +8,7 @@ pub mod SoundScopes
 pub mod SoundPlaces
 pub mod FineUses
 pub mod Cycles
-pub mod Few
+pub mod Cut
 pub mod CallCounts
 pub mod FullNames
 pub mod CountedNames

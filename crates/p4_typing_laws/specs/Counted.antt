@@ -1,6 +1,6 @@
--- A passage of a well-typed program gives at most as many digests as the rules count. Read `DigestBound` of `p4_meaning`
--- and `Digests` and `Limits` of `p4_rules` before it.
-use Rattle.std.specs.Prelude.{◌≢◌, ℕ, ◌+◌, ◌≤◌, List, [], ◌∷◌, length}
+-- The rules count what the meaning says that a passage of a well-typed program gives at most. Read `DigestBound` of
+-- `p4_meaning`, `Digests` of `p4_declaration_rules` and `Limits` of `p4_rules` before it.
+use Rattle.std.specs.Prelude.{◌≡◌, ◌≢◌, ℕ, ◌+◌, ◌≤◌, List, [], ◌∷◌, length}
 use Rattle.std.specs.List.{AllByRecursion}
 use Rattle.p4_tree.specs.Tree.{Local, local_action, local_table, local_register, local_const, local_var, Top, constant, typedef, header_type, struct_type, register, parser, control, Program}
 use Rattle.p4_meaning.specs.Tables.{Tables}
@@ -34,10 +34,10 @@ HavePlainNames (register p r ∷ ts) = IsPlain r.name × HavePlainNames ts
 HavePlainNames (parser p d ∷ ts) = HavePlainNames ts
 HavePlainNames (control p c ∷ ts) = AllByRecursion IsPlainLocal c.locals × HavePlainNames ts
 
--- what the meaning gives at most is at most what the rules count, which is at most the limit; and so both halves of a
--- passage give at most that many, where tables run actions of their lists
+-- what the meaning gives at most is what the rules count, which is at most the limit; and so both halves of a passage give
+-- at most that many, where tables run actions of their lists
 pub record DigestsAreCounted : Type 0 where
-  pub bound : (p : Program) → IsWellTyped p → HavePlainNames p.tops → digest_bound (parts_of p) ≤ most_of_program p
+  pub bound : (p : Program) → IsWellTyped p → HavePlainNames p.tops → digest_bound (parts_of p) ≡ most_of_program p
   pub limit : (p : Program) → IsWellTyped p → most_of_program p ≤ 20480
   pub passages :
       (p : Program) → IsWellTyped p → HavePlainNames p.tops → (held : Tables) → AreListed (parts_of p) held → (cells : Registers) (port : ℕ) (frame : List ℕ) (q : Queued)

@@ -42,8 +42,8 @@ pub fn no_state_reaches_itself()
     reaches_is_exact();
 }
 
-/// A passage of a well-typed program gives at most as many digests as the rules count of the program,
-/// and these are at most the limit.
+/// What the rules count of the digests of a well-typed program is the bound that the meaning has, and
+/// at most the limit; so a passage gives at most that many.
 pub fn digests_are_counted()
     ensures { DigestsAreCounted }
 {
