@@ -117,10 +117,14 @@ pub record IsSame (s t : State) : Type 0 where
 abbrev pub IsOther : List Numbered → (variable table : ℕ) → Type 0
 IsOther ns v n = AllByRecursion (λ m. nat_eq m.variable v ≡ true → m.table ≢ n) ns
 
+-- all other tables hold what they held
+abbrev pub OthersHold : List Numbered → (variable : ℕ) → (old now : List Held) → Type 0
+OthersHold ns v old now = (n : ℕ) → IsOther ns v n → held_at now n ≡ held_at old n
+
 -- at most the tables of a variable of one switch hold something else
 pub record OthersStay (ns : List Numbered) (k v : ℕ) (old now : List (List Held)) : Type 0 where
   pub switches : (j : ℕ) → j ≢ k → slice_get now j ≡ slice_get old j
-  pub tables : (n : ℕ) → IsOther ns v n → held_at (get_or now k []) n ≡ held_at (get_or old k []) n
+  pub tables : OthersHold ns v (get_or old k []) (get_or now k [])
 
 -- what an event leaves of the tables, also where memory runs out: halves change none, and new contents none but those of
 -- their variable

@@ -7,6 +7,7 @@ ghost use Rattle.network_file.specs.Wiring.{wiring_of};
 ghost use Rattle.path_runner.specs.Conditions.{AreMapped};
 ghost use Rattle.path_runner.specs.Maps.{maps_of};
 ghost use Rattle.path_runner.specs.Places.{place_in, limits_of};
+ghost use Rattle.path_runner.specs.Props.{mapped_prop};
 ghost use Rattle.path_runner.specs.Sound.{AreMade, is_within, going_on};
 ghost use Rattle.path_runner.specs.Switches.{switch_of};
 
@@ -38,7 +39,8 @@ pub struct Net<P: Pass + Drop> {
     given_up: bool,
     ghost switches: { length stations.items ≡ length network.names },
     ghost lists: { length maps.items ≡ length network.names },
-    ghost mapped: { AreMapped (map (λ s. switch_of P.program P.tables P.cells s.switch) stations.items) (maps_of maps.items) },
+    ghost mapped: { AreMapped (map (λ s. switch_of P.program P.tables P.cells s.switch) stations.items) (maps_of maps.items) }
+        by { mapped_prop (map (λ s. switch_of P.program P.tables P.cells s.switch) stations.items) (maps_of maps.items) },
     ghost wired: { IsWiring (wiring_of network) },
     ghost within: { list_all (is_within (length network.names) (limits_of limits)) (map place_in places.items) ≡ true },
     ghost made: { AreMade (map (λ s. P.program s.switch) stations.items) places.items },

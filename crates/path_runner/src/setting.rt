@@ -3,9 +3,8 @@
 //! All tables of the variable are emptied first, so that what comes has room, and then each is given the
 //! contents.
 
-ghost use Rattle.std.specs.Prelude.{◌≡◌, ◌<◌, ℕ, length, OnOk, OnErr};
+ghost use Rattle.std.specs.Prelude.{◌≡◌, ◌<◌, length, OnOk, OnErr};
 ghost use Rattle.p4_meaning.specs.Parts.{parts_of};
-ghost use Rattle.p4_tables.specs.State.{held_at};
 ghost use Rattle.p4_tables.specs.Faults.{IsReplaceable};
 ghost use Rattle.p4_tables.specs.Programs.{shapes};
 ghost use Rattle.indus_values.specs.View.{contents_of};
@@ -13,7 +12,7 @@ ghost use Rattle.control_tables.specs.Contents.{entries_for, default_for};
 ghost use Rattle.control_maps.specs.Numbers.{put_in, set_in, IsMapOf, IsSettable};
 ghost use Rattle.control_maps.specs.Steps.{AreEmptied};
 ghost use Rattle.path_runner.specs.Maps.{map_of, numbered_of};
-ghost use Rattle.path_runner.specs.Nets.{IsOther};
+ghost use Rattle.path_runner.specs.Nets.{OthersHold};
 ghost use Rattle.path_runner.specs.Views.{station_in};
 
 use crate::station::Station;
@@ -41,8 +40,7 @@ pub(crate) fn set<P: Pass + Drop>(
     ensures cells { (station_in station.new).cells ≡ (station_in station.old).cells }
     ensures mapped { IsMapOf (parts_of (station_in station.old).program) (station_in station.new).tables (map_of map.now) }
     ensures shapes { shapes (station_in station.new).tables ≡ shapes (station_in station.old).tables }
-    ensures others { (n : ℕ) → IsOther (map_of map.now) variable n
-        → held_at (station_in station.new).tables n ≡ held_at (station_in station.old).tables n }
+    ensures others { OthersHold (map_of map.now) variable (station_in station.old).tables (station_in station.new).tables }
     ensures tables { OnOk result ((station_in station.new).tables
         ≡ set_in (map_of map.now) variable (contents_of contents.now) (station_in station.old).tables) }
 {
@@ -67,8 +65,7 @@ fn empty<P: Pass + Drop>(
     ensures cells { (station_in station.new).cells ≡ (station_in station.old).cells }
     ensures mapped { IsMapOf (parts_of (station_in station.old).program) (station_in station.new).tables (map_of map.now) }
     ensures shapes { shapes (station_in station.new).tables ≡ shapes (station_in station.old).tables }
-    ensures others { (n : ℕ) → IsOther (map_of map.now) variable n
-        → held_at (station_in station.new).tables n ≡ held_at (station_in station.old).tables n }
+    ensures others { OthersHold (map_of map.now) variable (station_in station.old).tables (station_in station.new).tables }
     ensures emptied { OnOk result (AreEmptied (parts_of (station_in station.old).program) (map_of map.now) variable
         (station_in station.old).tables (station_in station.new).tables (length map.now)) }
 {
