@@ -9,19 +9,20 @@ use Rattle.p4_tables.specs.Named.{tables_in}
 use Rattle.indus_tree.specs.State.{Contents, members}
 use Rattle.network_run.specs.Events.{closing}
 use Rattle.network_run.specs.Network.{Sent, Net}
-use Rattle.network_run.specs.NetworkRun.{Limits}
+use Rattle.network_run.specs.NetworkRun.{Limits, run_of_halves}
 use Rattle.network_run.specs.World.{first_place, first_net, limits_of, steps}
 use Rattle.network_file.specs.Wiring.{wiring_of}
-use Rattle.switch_machines.specs.Programs.{Programs, machine_of}
+use Rattle.switch_machines.specs.Programs.{Controls, Programs, machine_of, machine_with}
 use Rattle.path_runner.specs.Conditions.{most_packets}
-use Rattle.path_runner.specs.Nets.{Switch, State, Shows, RunsTo, Starts, AreKept, IsSame, run_in}
+use Rattle.path_runner.specs.Nets.{Switch, State, Shows, RunsTo, AreKept, IsSame, run_in}
+use Rattle.path_runner.specs.Starts.{Starts}
 use Rattle.path_runner.proofs.Running.{runs_then}
 use Rattle.forward_run.specs.Job.{Job}
 use Rattle.forward_run.specs.Run.{programs_of, world_of, run_of}
 use Rattle.forward_run.specs.Switches.{switch_before, IsEnd, IsEndOf}
 use Rattle.forward_run.proofs.Fewer.{fewer_leave}
 use Rattle.forward_run.proofs.Short.{IsShort, run_short}
-use Rattle.forward_run.proofs.Starting.{start_of, before_are}
+use Rattle.forward_run.proofs.Starting.{start_of, start_unmapped, controls_are, before_are}
 
 -- the run puts no frame out that captures don't hold
 pub edges_short : (j : Job) → All IsShort (run_of j).edges
@@ -67,7 +68,10 @@ module _ (j : Job) (s t u : State) (is : s ≡ start_of j) (starts : Starts (map
       let p = programs_of j in
       let w = first_net (machine_of p) (world_of j) in
       let first : Shows p s w = starts p (λ s. kept_before (parts_of j.program) (tables_in (parts_of j.program) (get_or j.tables s []))) (λ s v. members []) (before_are j) in
-      subst (λ (v : Net Kept Queued Contents). Shows p u v) (ap (λ (x : State). run_in p x w (j.events ++ closing j.hops 0 (length j.packets))) is) (whole p w first)
+      let es = j.events ++ closing j.hops 0 (length j.packets) in
+      let alone : run_in p s w es ≡ run_of_halves (machine_of p) (wiring_of s.network) s.limits w es =
+      ap (λ (c : (switch : ℕ) → Controls Contents). run_of_halves (machine_with c p) (wiring_of s.network) s.limits w es) (controls_are s (start_unmapped j s is)) in
+      subst (λ (v : Net Kept Queued Contents). Shows p u v) (alone ∙ ap (λ (x : State). run_of_halves (machine_of p) (wiring_of x.network) x.limits w es) is) (whole p w first)
 
   module _ (kept : AreKept t u) (names : length j.tables ≡ length j.network.names) (few : length j.packets ≤ most_packets) (l : Limits) where
     network : u.network ≡ j.network

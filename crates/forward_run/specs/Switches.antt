@@ -1,5 +1,5 @@
 -- The switches of a run, as path_runner has them, and its log. Read `Nets` of path_runner before it.
-use Rattle.std.specs.Prelude.{◌≡◌, ◌≤◌, List, length, All}
+use Rattle.std.specs.Prelude.{◌≡◌, ℕ, ◌≤◌, List, [], length, replicate, get_or, All}
 use Rattle.p4_tree.specs.Tree.{Program}
 use Rattle.p4_tree.specs.View.{program_of}
 use Rattle.p4_meaning.specs.Parts.{parts_of}
@@ -7,6 +7,7 @@ use Rattle.p4_meaning.specs.Pass.{start_cells}
 use Rattle.p4_statements.specs.Runs.{cells_in}
 use Rattle.p4_tables.specs.State.{Held}
 use Rattle.p4_machine.specs.declared.switch.Switch as code
+use Rattle.control_maps.specs.Numbers.{Numbered}
 use Rattle.path_runner.specs.Conditions.{most_packets}
 use Rattle.path_runner.specs.Nets.{Switch, State, Shows}
 use Rattle.path_runner.specs.Views.{log_of}
@@ -23,6 +24,13 @@ log_view x =
 -- a switch before the first event: its tables hold this, and its registers are 0
 abbrev pub switch_before : Program → List Held → Switch
 switch_before p held = record { program = p; tables = held; cells = start_cells (parts_of p).registers }
+
+-- no table of so many switches holds a control variable
+abbrev pub no_maps : ℕ → List (List Numbered)
+no_maps n = replicate n []
+
+abbrev pub HasNoMaps : State → Type 0
+HasNoMaps s = (k : ℕ) → get_or s.maps k [] ≡ []
 
 -- the end of a run of a program: there is a switch for each name, the switches run the program, captures hold the frames
 -- that left, and these are no more than packets may be

@@ -5,15 +5,17 @@ ghost use Rattle.p4_tree.specs.View.{program_of};
 ghost use Rattle.p4_machine.specs.Buffers.{IsMadeFor};
 ghost use Rattle.p4_tables.specs.Programs.{IsStateOf};
 ghost use Rattle.network_file.specs.Events.{event_of};
-ghost use Rattle.path_runner.specs.Conditions.{IsAtEdge, IsEvent};
-ghost use Rattle.path_runner.specs.Nets.{IsSame, RunsTo, Starts, state_before};
+ghost use Rattle.path_runner.specs.Conditions.{IsAtEdge};
+ghost use Rattle.path_runner.specs.Maps.{maps_of};
+ghost use Rattle.path_runner.specs.Nets.{IsSame, RunsTo};
+ghost use Rattle.path_runner.specs.Starts.{Starts, state_before};
 ghost use Rattle.path_runner.specs.Packets.{arrival_of};
 ghost use Rattle.path_runner.specs.Views.{state_of};
 ghost use Rattle.job_course.specs.Output.{out_of};
 ghost use Rattle.forward_run.specs.Files.{IsForwardOutput};
-ghost use Rattle.forward_run.specs.Job.{IsReady};
+ghost use Rattle.forward_run.specs.Job.{IsEventAmong, IsReady};
 ghost use Rattle.forward_texts.specs.Switches.{switch_view};
-ghost use Rattle.forward_run.specs.Switches.{switch_before};
+ghost use Rattle.forward_run.specs.Switches.{HasNoMaps, no_maps, switch_before};
 ghost use Rattle.forward_run.specs.Views.{job_of};
 
 use crate::job::ForwardJob;
@@ -71,7 +73,7 @@ fn net_before(
     requires few { length packets.items ≤ 100000 }
     requires packets { All (IsAtEdge network 65535) (map arrival_of packets.items) }
     ensures state { IfOk result (λ n. state_of n ≡ state_before network (record { hops = hops; link = 65535 })
-        (map (switch_before (program_of program.now)) tables.items) (map arrival_of packets.items)) }
+        (map (switch_before (program_of program.now)) tables.items) (no_maps (length tables.items)) (map arrival_of packets.items)) }
     ensures starts { IfOk result (λ n. Starts (map (switch_before (program_of program.now)) tables.items)
         (map arrival_of packets.items) (state_of n)) }
 {
@@ -113,8 +115,7 @@ fn buffers(alloc: Global, program: &TypedProgram, count: usize) -> Result<Vec<Fr
 
 /// So many lists of tables that hold control variables, with none.
 fn no_tables(alloc: Global, count: usize) -> Result<Vec<Vec<(u32, u32, u32, Decl)>>, AllocError>
-    ensures count { IfOk result (λ v. length (map (λ l. length l.items) v.items) ≡ count) }
-    ensures none { IfOk result (λ v. All (λ n. n ≡ 0) (map (λ l. length l.items) v.items)) }
+    ensures { IfOk result (λ v. maps_of v.items ≡ no_maps count) }
 {
     let mut lists = Vec::new(alloc);
     for _ in 0..count {
@@ -125,7 +126,8 @@ fn no_tables(alloc: Global, count: usize) -> Result<Vec<Vec<(u32, u32, u32, Decl
 
 /// Events happen, one after the other.
 fn happen(alloc: Global, net: &mut Net<Switch>, events: &[Event]) -> Result<(), AllocError>
-    requires { All (IsEvent (state_of net.old)) (map event_of events.now) }
+    requires events { All (IsEventAmong (length (state_of net.old).places) (length (state_of net.old).switches)) (map event_of events.now) }
+    requires maps { HasNoMaps (state_of net.old) }
     ensures same { IsSame (state_of net.old) (state_of net.new) }
     ensures runs { OnOk result (RunsTo (state_of net.old) (map event_of events.now) (state_of net.new)) }
 {

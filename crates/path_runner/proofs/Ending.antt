@@ -11,8 +11,8 @@ use Rattle.network_run.specs.NetworkRun.{Limits}
 use Rattle.network_run.specs.RunLaws.{IsOver, HasPassedFewer}
 use Rattle.network_run.proofs.Ends.{all_end}
 use Rattle.network_file.specs.Wiring.{wiring_of}
-use Rattle.switch_machines.specs.Programs.{Programs, machine_of}
-use Rattle.path_runner.specs.Nets.{Switch, State, Traffic, Shows, RunsTo, IsSame, run_in}
+use Rattle.switch_machines.specs.Programs.{Programs, machine_with}
+use Rattle.path_runner.specs.Nets.{Switch, State, controls_of, Traffic, Shows, RunsTo, IsSame, run_in}
 use Rattle.path_runner.specs.Sound.{is_within}
 use Rattle.path_runner.proofs.Lists.{passes_at}
 use Rattle.path_runner.proofs.Running.{runs_then}
@@ -62,13 +62,13 @@ module _ (s t : State) (count : ℕ) (within : list_all (is_within count s.limit
   all_over p w h i =
       let after = runs p w h in
       let here : i < length s.places → (run_in p s w (closing s.limits.hops 0 (length s.places))).packets i ≡ Over =
-      λ there. over_is _ (all_end (machine_of p) (wiring_of s.network) s.limits w (length s.places) i (fewer p w h) there) in
+      λ there. over_is _ (all_end (machine_with (controls_of s) p) (wiring_of s.network) s.limits w (length s.places) i (fewer p w h) there) in
       let past : length s.places ≤ i → (run_in p s w (closing s.limits.hops 0 (length s.places))).packets i ≡ Over =
       λ far. after.packets i ∙ get_or_past t.places i Over (omega (arith, far, same.packets)) in
       split i (length s.places) here past
 
   -- so that a log without packets stands for the end
-  pub log_runs : (n : _) (xs : List Switch) (u : Traffic) → n ≡ t.network → xs ≡ t.switches → u ≡ t.traffic → RunsTo s (closing s.limits.hops 0 (length s.places)) (record { network = n; limits = s.limits; switches = xs; places = []; traffic = u })
+  pub log_runs : (n : _) (xs : List Switch) (u : Traffic) → n ≡ t.network → xs ≡ t.switches → u ≡ t.traffic → RunsTo s (closing s.limits.hops 0 (length s.places)) (record { network = n; limits = s.limits; switches = xs; maps = []; places = []; traffic = u })
   log_runs n xs u by_network by_switches by_traffic p w h =
       let after = runs p w h in
       record {

@@ -13,8 +13,8 @@ use Rattle.network_run.specs.Network.{Place, Flying, Over, Net, Told}
 use Rattle.network_run.specs.Events.{Enter}
 use Rattle.network_run.specs.NetworkRun.{told_by, queued_or_over, dropped_if_none, entered, enters}
 use Rattle.network_file.specs.Wiring.{wiring_of}
-use Rattle.switch_machines.specs.Programs.{Programs, machine_of, entered_of}
-use Rattle.path_runner.specs.Nets.{Switch, kept_of, State, Traffic, Shows, RunsTo}
+use Rattle.switch_machines.specs.Programs.{Programs, machine_with, entered_of}
+use Rattle.path_runner.specs.Nets.{Switch, kept_of, controls_of, State, Traffic, Shows, RunsTo}
 use Rattle.path_runner.specs.Switches.{entry_at, with_cells}
 use Rattle.path_runner.proofs.Lists.{put_item}
 use Rattle.path_runner.proofs.Shown.{switches_after, switch_is, state_is}
@@ -37,11 +37,11 @@ module _ (s : State) (i sw port n : ℕ) (frame : List ℕ) (x : Switch) where
 
   pub entered_shows :
       (p : Programs) (w : Net Kept Queued Contents) → i < length s.places → get_or s.places i Over ≡ Flying sw port frame n →
-      slice_get s.switches sw ≡ Some x → Shows p s w → Shows p entered_state (enters (machine_of p) (wiring_of s.network) s.limits w i (w.packets i))
+      slice_get s.switches sw ≡ Some x → Shows p s w → Shows p entered_state (enters (machine_with (controls_of s) p) (wiring_of s.network) s.limits w i (w.packets i))
   entered_shows p w there at unit h =
       let e = entry_at x port frame in
       let gives : Entered Kept Queued = entered_of p.reads (kept_of x).tables e in
-      let same : (machine_of {C = Contents} p).enter sw (w.switches sw) port frame ≡ gives = entry_is p.reads (p.program sw) (w.switches sw) x port frame (h.switches.programs sw x unit) (h.switches.kept sw x unit) in
+      let same : (machine_with (controls_of s) p).enter sw (w.switches sw) port frame ≡ gives = entry_is p.reads (p.program sw) (w.switches sw) x port frame (h.switches.programs sw x unit) (h.switches.kept sw x unit) in
       let shown : Shows p entered_state (entered (wiring_of s.network) s.limits w i sw port n gives) =
       record {
         switches = switches_after p w.switches s.switches sw x e.registers unit h.switches;
@@ -52,7 +52,7 @@ module _ (s : State) (i sw port n : ℕ) (frame : List ℕ) (x : Switch) where
         dropped = length-append w.dropped (dropped_if_none i e.queued) ∙ ap (λ k. k + length (dropped_if_none i e.queued)) h.dropped;
         lost = h.lost;
       } in
-      subst (λ (place : Place Queued). Shows p entered_state (enters (machine_of p) (wiring_of s.network) s.limits w i place)) (sym (h.packets i ∙ at))
+      subst (λ (place : Place Queued). Shows p entered_state (enters (machine_with (controls_of s) p) (wiring_of s.network) s.limits w i place)) (sym (h.packets i ∙ at))
       (subst (λ (e : Entered Kept Queued). Shows p entered_state (entered (wiring_of s.network) s.limits w i sw port n e)) (sym same) shown)
 
 -- what the program does is the event
@@ -64,6 +64,6 @@ pub entered_runs :
     t ≡ (entered_state s i sw port n frame x).traffic →
     RunsTo s (Enter i ∷ []) (record s { switches = xs; places = ps; traffic = t })
 entered_runs s i sw port n frame x y xs ps t there at unit program tables cells by_switches by_places by_traffic p w h =
-    subst (λ (u : State). Shows p u (enters (machine_of p) (wiring_of s.network) s.limits w i (w.packets i)))
+    subst (λ (u : State). Shows p u (enters (machine_with (controls_of s) p) (wiring_of s.network) s.limits w i (w.packets i)))
     (sym (state_is s _ _ _ _ _ _ (by_switches ∙ ap (set s.switches sw) (switch_is x y _ program tables cells)) by_places by_traffic))
     (entered_shows s i sw port n frame x p w there at unit h)

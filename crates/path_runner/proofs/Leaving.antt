@@ -15,8 +15,8 @@ use Rattle.network_run.specs.Network.{Place, Waiting, Over, Net, Sent, Told, far
 use Rattle.network_run.specs.Events.{Leave}
 use Rattle.network_run.specs.NetworkRun.{queued_or_over, put, told_by, left, went, leaves, exit_half}
 use Rattle.network_file.specs.Wiring.{wiring_of}
-use Rattle.switch_machines.specs.Programs.{Programs, machine_of, leaving_of, going_of}
-use Rattle.path_runner.specs.Nets.{Switch, kept_of, State, Traffic, Shows, RunsTo}
+use Rattle.switch_machines.specs.Programs.{Programs, machine_with, leaving_of, going_of}
+use Rattle.path_runner.specs.Nets.{Switch, kept_of, controls_of, State, Traffic, Shows, RunsTo}
 use Rattle.path_runner.specs.Switches.{exit_at, with_cells}
 use Rattle.path_runner.specs.Departures.{Departure, sent_departure, out_departure, left_departure}
 use Rattle.path_runner.proofs.Shown.{switches_after, switch_is, state_is, moved, dropped_shows, sent_shows}
@@ -60,10 +60,10 @@ module _ (s : State) (i sw : ℕ) (x : Switch) (q : Queued) where
         }
 
     -- what is shown of what the machine gives is shown after the event
-    shown_after : (port n : ℕ) → get_or s.places i Over ≡ Waiting sw port q n → slice_get s.switches sw ≡ Some x → Shows p s w → (t : State) → Shows p t (left (wiring_of s.network) s.limits w i sw port n gone) → Shows p t (leaves (machine_of p) (wiring_of s.network) s.limits w i (w.packets i))
+    shown_after : (port n : ℕ) → get_or s.places i Over ≡ Waiting sw port q n → slice_get s.switches sw ≡ Some x → Shows p s w → (t : State) → Shows p t (left (wiring_of s.network) s.limits w i sw port n gone) → Shows p t (leaves (machine_with (controls_of s) p) (wiring_of s.network) s.limits w i (w.packets i))
     shown_after port n at unit h t shown =
-        let same : (machine_of {C = Contents} p).leave sw (w.switches sw) q ≡ gone = exit_is p.reads (p.program sw) (w.switches sw) x q (h.switches.programs sw x unit) (h.switches.kept sw x unit) in
-        subst (λ (place : Place Queued). Shows p t (leaves (machine_of p) (wiring_of s.network) s.limits w i place)) (sym (h.packets i ∙ at))
+        let same : (machine_with (controls_of s) p).leave sw (w.switches sw) q ≡ gone = exit_is p.reads (p.program sw) (w.switches sw) x q (h.switches.programs sw x unit) (h.switches.kept sw x unit) in
+        subst (λ (place : Place Queued). Shows p t (leaves (machine_with (controls_of s) p) (wiring_of s.network) s.limits w i place)) (sym (h.packets i ∙ at))
         (subst (λ (l : Leaving Kept). Shows p t (left (wiring_of s.network) s.limits w i sw port n l)) (sym same) shown)
 
     module _ (port n : ℕ) (unit : slice_get s.switches sw ≡ Some x) (there : i < length s.places) (h : Shows p s w) where
@@ -85,7 +85,7 @@ module _ (s : State) (i sw : ℕ) (x : Switch) (q : Queued) where
   pub dropped_after :
       (p : Programs) (w : Net Kept Queued Contents) (port n : ℕ) → i < length s.places → get_or s.places i Over ≡ Waiting sw port q n →
       slice_get s.switches sw ≡ Some x → (exit_at x (Some q)).out ≡ None → Shows p s w →
-      Shows p (moved p i told_state Over (record told_state.traffic { dropped = told_state.traffic.dropped + 1 })) (leaves (machine_of p) (wiring_of s.network) s.limits w i (w.packets i))
+      Shows p (moved p i told_state Over (record told_state.traffic { dropped = told_state.traffic.dropped + 1 })) (leaves (machine_with (controls_of s) p) (wiring_of s.network) s.limits w i (w.packets i))
   dropped_after p w port n there at unit out h =
       shown_after p w port n at unit h _ (dropped_of p w port n unit there h (parts_leave (parts_of x.program) (kept_of x).tables x.cells q).going out)
 
@@ -94,7 +94,7 @@ module _ (s : State) (i sw : ℕ) (x : Switch) (q : Queued) where
       (p : Programs) (w : Net Kept Queued Contents) (port n : ℕ) (v : Sent) (u : Departure) → i < length s.places → get_or s.places i Over ≡ Waiting sw port q n →
       slice_get s.switches sw ≡ Some x → v.packet ≡ i → v.switch ≡ sw → (exit_at x (Some q)).out ≡ Some (v.port, v.frame) →
       u ≡ sent_departure s.limits told_state.traffic n v (far_end (wiring_of s.network) v.switch v.port) → Shows p s w →
-      Shows p (moved p i told_state u.place u.traffic) (leaves (machine_of p) (wiring_of s.network) s.limits w i (w.packets i))
+      Shows p (moved p i told_state u.place u.traffic) (leaves (machine_with (controls_of s) p) (wiring_of s.network) s.limits w i (w.packets i))
   sent_after p w port n v u there at unit a b out is h =
       shown_after p w port n at unit h _ (sent_of p w port n unit there h (parts_leave (parts_of x.program) (kept_of x).tables x.cells q).going v u a b out is)
 
@@ -103,9 +103,9 @@ module _ (s : State) (i sw port n : ℕ) (x : Switch) (q : Queued) (p : Programs
   left_of :
       (u : Departure) → i < length s.places → get_or s.places i Over ≡ Waiting sw port q n → slice_get s.switches sw ≡ Some x → Shows p s w →
       (out : Option (ℕ × List ℕ)) → (exit_at x (Some q)).out ≡ out → u ≡ out_departure (wiring_of s.network) s.limits (told_state s i sw x q).traffic i sw n out →
-      Shows p (moved p i (told_state s i sw x q) u.place u.traffic) (leaves (machine_of p) (wiring_of s.network) s.limits w i (w.packets i))
+      Shows p (moved p i (told_state s i sw x q) u.place u.traffic) (leaves (machine_with (controls_of s) p) (wiring_of s.network) s.limits w i (w.packets i))
   left_of u there at unit h None e is =
-      subst (λ (u : Departure). Shows p (moved p i (told_state s i sw x q) u.place u.traffic) (leaves (machine_of p) (wiring_of s.network) s.limits w i (w.packets i))) (sym is)
+      subst (λ (u : Departure). Shows p (moved p i (told_state s i sw x q) u.place u.traffic) (leaves (machine_with (controls_of s) p) (wiring_of s.network) s.limits w i (w.packets i))) (sym is)
       (dropped_after s i sw x q p w port n there at unit e h)
   left_of u there at unit h (Some g) e is =
       sent_after s i sw x q p w port n (record { packet = i; switch = sw; port = g.0; frame = g.1 }) u there at unit refl refl e is h
@@ -120,6 +120,6 @@ pub left_runs :
     RunsTo s (Leave i ∷ []) (record s { switches = xs; places = ps; traffic = t })
 left_runs s i sw port n None x y xs ps t there full at unit program tables cells by_switches by_places by_traffic p w h = absurd (cc)
 left_runs s i sw port n (Some q) x y xs ps t there full at unit program tables cells by_switches by_places by_traffic p w h =
-    subst (λ (u : State). Shows p u (leaves (machine_of p) (wiring_of s.network) s.limits w i (w.packets i)))
+    subst (λ (u : State). Shows p u (leaves (machine_with (controls_of s) p) (wiring_of s.network) s.limits w i (w.packets i)))
     (sym (state_is s _ _ _ _ _ _ (by_switches ∙ ap (set s.switches sw) (switch_is x y _ program tables cells)) by_places by_traffic))
     (left_of s i sw port n x q p w (left_departure (wiring_of s.network) s.limits s.traffic i sw n (exit_at x (Some q))) there at unit h (exit_at x (Some q)).out refl refl)

@@ -8,6 +8,7 @@ mod Leaving
 mod Standing
 mod Made
 mod Departing
+mod NewContents
 pub mod Running
 pub mod Starting
 pub mod Ending

@@ -15,6 +15,13 @@ at_set Q (y ∷ xs) zero v new old (suc j) x e = old (suc j) x (λ h. omega (ari
 at_set Q (y ∷ xs) (suc i) v new old zero x e = old zero x (λ h. omega (arith, h)) e
 at_set Q (y ∷ xs) (suc i) v new old (suc j) x e = at_set (λ k z. Q (suc k) z) xs i v new (λ k z n h. old (suc k) z (λ q. n (omega (arith, q))) h) j x e
 
+pub get_set_other : {X : Type 0} (xs : List X) (i j : ℕ) (v : X) → j ≢ i → slice_get (set xs i v) j ≡ slice_get xs j
+get_set_other [] i j v other = refl
+get_set_other (x ∷ xs) zero zero v other = absurd (other refl)
+get_set_other (x ∷ xs) zero (suc j) v other = refl
+get_set_other (x ∷ xs) (suc i) zero v other = refl
+get_set_other (x ∷ xs) (suc i) (suc j) v other = get_set_other xs i j v (λ q. other (ap suc q))
+
 -- a function that is the list's items, with one changed
 pub put_item : {X : Type 0} (f : ℕ → X) (xs : List X) (i : ℕ) (v d : X) → i < length xs → ((j : ℕ) → f j ≡ get_or xs j d) → (j : ℕ) → put f i v j ≡ get_or (set xs i v) j d
 put_item f xs i v d h same j =

@@ -7,7 +7,7 @@ use Rattle.p4_machine.specs.Buffers.{IsMadeFor, is_some_packet, place_of}
 use Rattle.network_run.specs.Network.{Place, Flying}
 use Rattle.network_run.specs.NetworkRun.{queued_or_over}
 use Rattle.network_run.specs.World.{Arrival, first_place}
-use Rattle.path_runner.specs.Nets.{in_flight}
+use Rattle.path_runner.specs.Starts.{in_flight}
 use Rattle.path_runner.specs.Places.{place_in, parked_place}
 use Rattle.path_runner.specs.Sound.{IsMadeAt, AreMade}
 use Rattle.path_runner.specs.declared.place.Parked.{Parked}

@@ -1,29 +1,33 @@
 -- Events one behind the other.
-use Rattle.std.proofs.Common.{◌≡◌, ℕ, zero, suc, ◌+◌, List, [], ◌∷◌, ◌++◌, refl, ap, sym, ◌∙◌, subst, arith}
+use Rattle.std.proofs.Common.{◌≡◌, ℕ, zero, suc, ◌+◌, List, [], ◌∷◌, ◌++◌, refl, ap, ap₂, sym, ◌∙◌, subst, arith}
 use Rattle.p4_meaning.specs.Pass.{Kept, Queued}
 use Rattle.indus_tree.specs.State.{Contents}
 use Rattle.network_run.specs.Network.{Net}
 use Rattle.network_run.specs.Events.{Event, Enter, Leave, to_its_end}
 use Rattle.network_run.proofs.Ends.{run_append}
+use Rattle.network_run.specs.NetworkRun.{Limits, run_of_halves}
 use Rattle.network_file.specs.Wiring.{wiring_of}
-use Rattle.switch_machines.specs.Programs.{Programs, machine_of}
-use Rattle.path_runner.specs.Nets.{State, Shows, RunsTo, AreKept, IsSame, run_in}
+use Rattle.switch_machines.specs.Programs.{Controls, Programs, machine_with}
+use Rattle.path_runner.specs.Nets.{State, controls_in, controls_of, Shows, RunsTo, AreKept, IsSame, run_in}
 
 pub kept_then : (s t u : State) → AreKept s t → AreKept t u → AreKept s u
-kept_then s t u a b = record { network = b.network ∙ a.network; programs = b.programs ∙ a.programs; tables = b.tables ∙ a.tables }
+kept_then s t u a b = record { network = b.network ∙ a.network; programs = b.programs ∙ a.programs; shapes = b.shapes ∙ a.shapes }
 
 pub same_then : (s t u : State) → IsSame s t → IsSame t u → IsSame s u
-same_then s t u a b = record { kept = kept_then s t u a.kept b.kept; limits = b.limits ∙ a.limits; packets = b.packets ∙ a.packets }
+same_then s t u a b = record { kept = kept_then s t u a.kept b.kept; maps = b.maps ∙ a.maps; limits = b.limits ∙ a.limits; packets = b.packets ∙ a.packets }
 
 -- a run in the same network, within the same limits
 run_same : (p : Programs) (s t : State) (w : Net Kept Queued Contents) (es : List (Event Contents)) → IsSame s t → run_in p t w es ≡ run_in p s w es
-run_same p s t w es same = rw (same.kept.network, same.limits) refl
+run_same p s t w es same =
+    ap (λ (c : (switch : ℕ) → Controls Contents). run_of_halves (machine_with c p) (wiring_of t.network) t.limits w es) (ap₂ controls_in same.kept.programs same.maps)
+    ∙ (ap (λ n. run_of_halves (machine_with (controls_of s) p) (wiring_of n) t.limits w es) same.kept.network
+    ∙ ap (λ (l : Limits). run_of_halves (machine_with (controls_of s) p) (wiring_of s.network) l w es) same.limits)
 
 pub runs_then : (s t u : State) (es fs : List (Event Contents)) → IsSame s t → RunsTo s es t → RunsTo t fs u → RunsTo s (es ++ fs) u
 runs_then s t u es fs same one other p w h =
     let behind : Shows p u (run_in p t (run_in p s w es) fs) = other p (run_in p s w es) (one p w h) in
     subst (λ (v : Net Kept Queued Contents). Shows p u v)
-    (run_same p s t (run_in p s w es) fs same ∙ sym (run_append (machine_of p) (wiring_of s.network) s.limits es fs w)) behind
+    (run_same p s t (run_in p s w es) fs same ∙ sym (run_append (machine_with (controls_of s) p) (wiring_of s.network) s.limits es fs w)) behind
 
 -- one switch more on the way of a packet to its end
 ends_more : (i n : ℕ) → to_its_end {C = Contents} i (suc n) ≡ to_its_end i n ++ (Enter i ∷ Leave i ∷ [])

@@ -4,6 +4,7 @@ use Rattle.std.specs.Prelude.{slice_get, nat_lt, nat_le, if◌then◌else◌}
 use Rattle.std.proofs.lemmas.List.{map-append, length-append}
 use Rattle.p4_meaning.specs.Parts.{parts_of}
 use Rattle.p4_meaning.specs.Pass.{Kept, Queued, Registers}
+use Rattle.p4_meaning.specs.Tables.{Tables}
 use Rattle.p4_tree.specs.Tree.{Program}
 use Rattle.p4_tables.specs.State.{Held}
 use Rattle.indus_tree.specs.State.{Contents}
@@ -21,6 +22,9 @@ use Rattle.path_runner.proofs.Lists.{at_set, put_item}
 switch_parts : (p q : Program) (t u : List Held) (c d : Registers) → p ≡ q → t ≡ u → c ≡ d → record { program = p; tables = t; cells = c } ≡ (let x : Switch = record { program = q; tables = u; cells = d } in x)
 switch_parts p q t u c d a b e = rw (a, b, e) refl
 
+pub kept_parts : (a b : Registers) (t u : Tables) → a ≡ b → t ≡ u → record { registers = a; tables = t } ≡ (let k : Kept = record { registers = b; tables = u } in k)
+kept_parts a b t u e g = rw (e, g) refl
+
 -- a switch that runs the same program with the same tables
 pub switch_is : (x y : Switch) (cells : Registers) → y.program ≡ x.program → y.tables ≡ x.tables → y.cells ≡ cells → y ≡ with_cells x cells
 switch_is x y cells a b c = switch_parts y.program x.program y.tables x.tables y.cells cells a b c
@@ -30,7 +34,7 @@ pub state_is : (s : State) (xs ys : List Switch) (ps qs : List (Place Queued)) (
 state_is s xs ys ps qs t u a b c = rw (a, b, c) refl
 
 -- a switch with other cells, among others
-put_other : (f : ℕ → Kept) (i j : ℕ) (v : Kept) → j ≢ i → put f i v j ≡ f j
+pub put_other : (f : ℕ → Kept) (i j : ℕ) (v : Kept) → j ≢ i → put f i v j ≡ f j
 put_other f i j v other = put_cases (λ k u. u ≡ f j) f i v j (λ same. absurd (other same)) (λ o. refl)
 
 pub switches_after : (p : Programs) (keeps : ℕ → Kept) (xs : List Switch) (sw : ℕ) (x : Switch) (cells : Registers) → slice_get xs sw ≡ Some x → AreSwitches p keeps xs → AreSwitches p (put keeps sw (kept_of (with_cells x cells))) (set xs sw (with_cells x cells))

@@ -1,11 +1,15 @@
 -- What callers rest on, in reading order: the programs as the network's run takes them, what a net holds and stands for,
--- what is asked of what is handed in, and of which values of the program these are the views.
+-- at first too, what is asked of what is handed in, and of which values of the program these are the views.
 pub mod Nets
+pub mod Starts
 pub mod Conditions
 pub mod Packets
+pub mod Maps
 pub mod Switches
 pub mod Views
--- What serves the proofs: where packets are, what holds of their places, and what becomes of those that leave a switch.
+-- What serves the proofs: where packets are, what holds of their places, what becomes of those that leave a switch, and
+-- that maps being maps is a fact.
 pub mod Places
 pub mod Sound
 pub mod Departures
+pub mod Props

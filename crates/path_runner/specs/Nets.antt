@@ -1,19 +1,22 @@
 -- What a net holds, and the networks of the definition that it stands for. Read `Programs` of switch_machines before
--- it, and `Network` and `NetworkRun` of the network's run.
-use Rattle.std.specs.Prelude.{◌≡◌, ℕ, List, [], length, map, get_or, slice_get, Some}
+-- it, `Network` and `NetworkRun` of the network's run, and `Maps` and `Numbers` of control_maps.
+use Rattle.std.specs.Prelude.{◌≡◌, ◌≢◌, ℕ, List, [], length, map, get_or, slice_get, slice_set, true, nat_eq, Option, Some, None}
+use Rattle.std.specs.List.{AllByRecursion}
 use Rattle.p4_tree.specs.Tree.{Program}
 use Rattle.p4_meaning.specs.Parts.{parts_of}
 use Rattle.p4_meaning.specs.Pass.{Registers, Kept, Queued}
-use Rattle.p4_tables.specs.State.{Held}
+use Rattle.p4_tables.specs.State.{Held, held_at}
 use Rattle.p4_tables.specs.Named.{tables_in}
+use Rattle.p4_tables.specs.Programs.{shapes}
 use Rattle.indus_tree.specs.State.{Contents}
-use Rattle.network_run.specs.Events.{Event}
+use Rattle.network_run.specs.Events.{Event, Enter, Leave, Set}
 use Rattle.network_run.specs.Network.{Place, Over, Sent, Told, Net}
 use Rattle.network_run.specs.NetworkRun.{Limits, run_of_halves}
-use Rattle.network_run.specs.World.{Arrival, first_place}
 use Rattle.network_file.specs.Network.{Network}
 use Rattle.network_file.specs.Wiring.{wiring_of}
-use Rattle.switch_machines.specs.Programs.{Programs, machine_of}
+use Rattle.switch_machines.specs.Programs.{Controls, Programs, machine_with}
+use Rattle.control_maps.specs.Maps.{Lookup, map_controls}
+use Rattle.control_maps.specs.Numbers.{Numbered, named_in, set_in}
 
 -- a switch: its program, what its tables hold by their numbers, and the cells of its registers
 pub record Switch : Type 0 where
@@ -37,11 +40,13 @@ pub record Traffic : Type 0 where
 abbrev pub no_traffic : Traffic
 no_traffic = record { wires = []; edges = []; told = []; dropped = 0; lost = 0 }
 
--- a network with its limits, its switches, the places of its packets, and what has happened in it
+-- a network with its limits, its switches, for each of them the map of its tables that hold control variables, the places
+-- of its packets, and what has happened in it
 pub record State : Type 0 where
   pub network : Network
   pub limits : Limits
   pub switches : List Switch
+  pub maps : List (List Numbered)
   pub places : List (Place Queued)
   pub traffic : Traffic
 
@@ -61,54 +66,69 @@ pub record Shows (p : Programs) (s : State) (w : Net Kept Queued Contents) : Typ
   pub dropped : length w.dropped ≡ s.traffic.dropped
   pub lost : length w.lost ≡ s.traffic.lost
 
+-- ---- what events do
+
+-- the map of a switch by the names of its program; without a switch there is none
+abbrev pub lookups_of : Option Program → List Numbered → List Lookup
+lookups_of None ns = []
+lookups_of (Some p) ns = map (named_in (parts_of p)) ns
+
+-- what the maps say of each switch, where switches run these programs
+abbrev pub controls_in : List Program → List (List Numbered) → (switch : ℕ) → Controls Contents
+controls_in ps maps k = map_controls (lookups_of (slice_get ps k) (get_or maps k []))
+
+abbrev pub controls_of : State → (switch : ℕ) → Controls Contents
+controls_of s = controls_in (map (λ x. x.program) s.switches) s.maps
+
 -- the network of the definition after events
 abbrev pub run_in : Programs → State → Net Kept Queued Contents → List (Event Contents) → Net Kept Queued Contents
-run_in p s w es = run_of_halves (machine_of p) (wiring_of s.network) s.limits w es
+run_in p s w es = run_of_halves (machine_with (controls_of s) p) (wiring_of s.network) s.limits w es
 
 -- whatever network one state stands for before the events, the other stands for behind them
 abbrev pub RunsTo : State → List (Event Contents) → State → Type 0
 RunsTo s es t = (p : Programs) (w : Net Kept Queued Contents) → Shows p s w → Shows p t (run_in p s w es)
 
--- the same network, and switches that run the same programs with the same tables
+-- what the tables of each switch hold
+abbrev pub tables_of : State → List (List Held)
+tables_of s = map (λ x. x.tables) s.switches
+
+-- and after an event: new contents stand in each table of their variable at their switch
+abbrev pub tables_after : State → Event Contents → List (List Held)
+tables_after s (Enter i) = tables_of s
+tables_after s (Leave i) = tables_of s
+tables_after s (Set k v c) = slice_set (tables_of s) k (set_in (get_or s.maps k []) v c (get_or (tables_of s) k []))
+
+-- ---- what stays
+
+-- the same network, and switches that run the same programs with tables of the same shapes
 pub record AreKept (s t : State) : Type 0 where
   pub network : t.network ≡ s.network
   pub programs : map (λ x. x.program) t.switches ≡ map (λ x. x.program) s.switches
-  pub tables : map (λ x. x.tables) t.switches ≡ map (λ x. x.tables) s.switches
+  pub shapes : map (λ x. shapes x.tables) t.switches ≡ map (λ x. shapes x.tables) s.switches
 
--- the same limits and number of packets, too
+-- the same maps, limits and number of packets, too
 pub record IsSame (s t : State) : Type 0 where
   pub kept : AreKept s t
+  pub maps : t.maps ≡ s.maps
   pub limits : t.limits ≡ s.limits
   pub packets : length t.places ≡ length s.places
 
--- ---- the start
+-- no table of the variable has this number
+abbrev pub IsOther : List Numbered → (variable table : ℕ) → Type 0
+IsOther ns v n = AllByRecursion (λ m. nat_eq m.variable v ≡ true → m.table ≢ n) ns
 
--- each packet in flight at its switch and port
-abbrev pub in_flight : List Arrival → List (Place Queued)
-in_flight arrivals = map (λ a. first_place (Some a)) arrivals
+-- all other tables hold what they held
+abbrev pub OthersHold : List Numbered → (variable : ℕ) → (old now : List Held) → Type 0
+OthersHold ns v old now = (n : ℕ) → IsOther ns v n → held_at now n ≡ held_at old n
 
--- before the first event
-abbrev pub state_before : Network → Limits → List Switch → List Arrival → State
-state_before n l xs arrivals = record { network = n; limits = l; switches = xs; places = in_flight arrivals; traffic = no_traffic }
+-- at most the tables of a variable of one switch hold something else
+pub record OthersStay (ns : List Numbered) (k v : ℕ) (old now : List (List Held)) : Type 0 where
+  pub switches : (j : ℕ) → j ≢ k → slice_get now j ≡ slice_get old j
+  pub tables : OthersHold ns v (get_or old k []) (get_or now k [])
 
--- the network of the definition before the first event, whose switches keep this. Where they keep what a machine starts
--- with, it is the first network of a world
-abbrev pub net_before : (kept : ℕ → Kept) (contents : (switch variable : ℕ) → Contents) → List Arrival → Net Kept Queued Contents
-net_before kept contents arrivals =
-    record {
-      switches = kept;
-      contents = contents;
-      packets = λ i. first_place (slice_get arrivals i);
-      log = [];
-      wires = [];
-      edges = [];
-      told = [];
-      dropped = [];
-      lost = [];
-    }
-
--- the state stands for it, whatever runs on these switches
-abbrev pub Starts : List Switch → List Arrival → State → Type 0
-Starts xs arrivals s =
-    (p : Programs) (keeps : ℕ → Kept) (contents : (switch variable : ℕ) → Contents) →
-    AreSwitches p keeps xs → Shows p s (net_before keeps contents arrivals)
+-- what an event leaves of the tables, also where memory runs out: halves change none, and new contents none but those of
+-- their variable
+abbrev pub LeavesTables : Event Contents → State → State → Type 0
+LeavesTables (Enter i) s t = tables_of t ≡ tables_of s
+LeavesTables (Leave i) s t = tables_of t ≡ tables_of s
+LeavesTables (Set k v c) s t = OthersStay (get_or s.maps k []) k v (tables_of s) (tables_of t)

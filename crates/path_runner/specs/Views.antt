@@ -7,6 +7,7 @@ use Rattle.p4_machine.specs.declared.pass.Pass.{Ghosts}
 use Rattle.network_run.specs.NetworkRun.{Limits}
 use Rattle.path_runner.specs.Nets as nets
 use Rattle.path_runner.specs.Nets.{Switch, State}
+use Rattle.path_runner.specs.Maps.{maps_of}
 use Rattle.path_runner.specs.Packets.{sent_of, told_of}
 use Rattle.path_runner.specs.Places.{place_in, limits_of}
 use Rattle.path_runner.specs.Switches.{switch_of}
@@ -35,6 +36,7 @@ state_of {P} {g} n =
       network = n.network;
       limits = limits_of n.limits;
       switches = map station_in n.stations.items;
+      maps = maps_of n.maps.items;
       places = map place_in n.places.items;
       traffic = traffic_in n.traffic;
     }
@@ -50,6 +52,7 @@ log_of program tables cells l x =
       network = x.net;
       limits = l;
       switches = map (switch_of program tables cells) x.switches.items;
+      maps = [];
       places = [];
       traffic = record {
         wires = map sent_of x.wires.items;

@@ -3,7 +3,7 @@
 ghost use Rattle.std.specs.Prelude.{◌≡◌, map, IfOk};
 ghost use Rattle.path_runner.specs.Conditions.{AreFor};
 ghost use Rattle.path_runner.specs.Packets.{arrival_of};
-ghost use Rattle.path_runner.specs.Nets.{in_flight};
+ghost use Rattle.path_runner.specs.Starts.{in_flight};
 ghost use Rattle.path_runner.specs.Places.{place_in};
 ghost use Rattle.path_runner.specs.Switches.{switch_of};
 ghost use Rattle.path_runner.specs.Views.{station_in};

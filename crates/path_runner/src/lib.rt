@@ -9,8 +9,8 @@
 //! the property reads. `switch_machines` says what the programs are there, `specs/Conditions` what is
 //! asked of what is handed in.
 //!
-//! No table holds a control variable yet, so that new contents change no switch. After want of memory a
-//! net is given up. Speed is not promised.
+//! Tables that hold control variables are handed in as maps (`control_maps`); new contents go into all
+//! tables of their variable in one step. After want of memory a net is given up. Speed is not promised.
 #![tactic(auto)]
 
 mod halves;
@@ -21,6 +21,7 @@ mod packet;
 mod parked;
 mod place;
 mod sending;
+mod setting;
 mod station;
 mod traffic;
 

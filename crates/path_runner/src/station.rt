@@ -1,10 +1,15 @@
 //! A switch with its buffer.
 
-ghost use Rattle.std.specs.Prelude.{◌≡◌, ◌≤◌, true, length, IfOk, IfSome, OnOk};
+ghost use Rattle.std.specs.Prelude.{◌≡◌, ◌<◌, ◌≤◌, true, length, map, IfOk, IfSome, OnOk, OnErr};
 ghost use Rattle.std.specs.Option.{option_map, option_and_then};
+ghost use Rattle.table_entries.specs.View.{entry_of, given_act};
+ghost use Rattle.p4_tables.specs.State.{replaced};
+ghost use Rattle.p4_tables.specs.Faults.{IsReplaceable};
 ghost use Rattle.p4_machine.specs.Buffers.{IsMadeFor, is_some_packet, place_of};
 
+use bit_values::Bits;
 use p4_machine::{Entered, FrameBuf, Pass, Passed, Queued};
+use p4_tables::Entry;
 use std::alloc::{AllocError, Global};
 
 /// A switch, and a buffer for its passages.
@@ -66,5 +71,24 @@ impl<P: Pass + Drop> Station<P> {
             Passed::Out { port } => Ok(Some(port)),
             Passed::Dropped => Ok(None),
         }
+    }
+
+    /// A table of the switch holds these entries, and, where one is given, this default.
+    pub fn set_table(
+        &mut self,
+        alloc: Global,
+        table: u32,
+        list: Vec<Entry>,
+        default: Option<(u32, Vec<Bits>)>,
+    ) -> Result<(), AllocError>
+        requires there { table < length (station_in self.old).tables }
+        requires accepted { IsReplaceable (station_in self.old).tables table (map entry_of list.items) (option_map given_act default) }
+        ensures program { (station_in self.new).program ≡ (station_in self.old).program }
+        ensures cells { (station_in self.new).cells ≡ (station_in self.old).cells }
+        ensures tables { OnOk result ((station_in self.new).tables
+            ≡ replaced (station_in self.old).tables table (map entry_of list.items) (option_map given_act default)) }
+        ensures kept { OnErr result ((station_in self.new).tables ≡ (station_in self.old).tables) }
+    {
+        self.switch.set_table(alloc, table, list, default)
     }
 }

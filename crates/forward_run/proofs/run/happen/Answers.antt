@@ -1,13 +1,13 @@
-use Rattle.std.proofs.Common.{◌≡◌, ◌+◌, List, ◌++◌, ◌∷◌, [], map, take, ap, sym, ◌∙◌, subst, arith}
+use Rattle.std.proofs.Common.{◌≡◌, ◌+◌, List, ◌++◌, ◌∷◌, [], length, map, take, ap, sym, ◌∙◌, subst, arith}
 use Rattle.std.proofs.Math.ListN.{get_or-map}
 use Rattle.std.proofs.lemmas.List.{map_more, length-map}
 use Rattle.indus_tree.specs.State.{Contents}
 use Rattle.network_run.specs.Events.{Event}
 use Rattle.network_file.specs.Events.{event_of}
-use Rattle.path_runner.specs.Conditions.{IsEvent}
 use Rattle.path_runner.specs.Nets.{RunsTo}
 use Rattle.path_runner.specs.Views.{state_of}
 use Rattle.path_runner.proofs.Running.{runs_then, same_then}
+use Rattle.forward_run.specs.Job.{IsEventAmong}
 use Rattle.forward_run.proofs.Starting.{event_stays}
 use Rattle.forward_run.proofs.run.happen.Goals as goal
 
@@ -17,8 +17,8 @@ step-requires c =
     let xs = c.args.events.now in
     let i = c.loop-event.event-index in
     let x = c.event-item.result in
-    let is : IsEvent s (event_of x) = subst (IsEvent s) (get_or-map event_of xs i x ∙ ap event_of (sym c.event-item.is)) (c.requires i (event_of x) (omega (arith, length-map xs event_of))) in
-    event_stays s (state_of c.loop-event.net) (event_of x) c.loop-event.invariant.same is
+    let is = subst (IsEventAmong (length s.places) (length s.switches)) (get_or-map event_of xs i x ∙ ap event_of (sym c.event-item.is)) (c.requires.events i (event_of x) (omega (arith, length-map xs event_of))) in
+    event_stays s (state_of c.loop-event.net) (event_of x) c.loop-event.invariant.same c.requires.maps is
 
 pub loop-event-preserved : goal.loop-event-preserved
 loop-event-preserved c =

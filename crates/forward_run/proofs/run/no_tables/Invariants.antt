@@ -1,8 +1,7 @@
-use Rattle.std.proofs.Common.{◌≡◌, length, map, All}
+use Rattle.std.proofs.Common.{◌≡◌}
+use Rattle.path_runner.specs.Maps.{maps_of}
+use Rattle.forward_run.specs.Switches.{no_maps}
 use Rattle.forward_run.proofs.run.no_tables.Given as goal
 
 abbrev pub invariant-loop : goal.invariant-loop
-invariant-loop l = record {
-  count : length (map (λ x. length x.items) l.lists.items) ≡ l.counter;
-  none : All (λ n. n ≡ 0) (map (λ x. length x.items) l.lists.items);
-}
+invariant-loop l = maps_of l.lists.items ≡ no_maps l.counter

@@ -12,7 +12,7 @@ use Rattle.forward_run.specs.Files.{IsForwardOutput}
 use Rattle.forward_run.specs.Job.{Job}
 use Rattle.forward_run.specs.Switches.{IsEndOf, log_view}
 use Rattle.forward_run.specs.Views.{job_of}
-use Rattle.forward_run.proofs.Starting.{events_fit}
+use Rattle.forward_run.proofs.Starting.{events_fit, start_unmapped}
 use Rattle.forward_run.proofs.Ending.{end_is, end_of}
 use Rattle.forward_run.proofs.Written.{if_ok}
 use Rattle.forward_run.proofs.run.run_forward.Goals as goal
@@ -23,8 +23,11 @@ overflow_cast-count c = omega (arith, c.len-count.ensures, c.args.job.packets.ok
 pub net_before-requires-clause-few : goal.net_before-requires-clause-few
 net_before-requires-clause-few c = omega (arith, length-map c.args.job.packets.items arrival_of, c.requires.few)
 
-pub happen-requires : goal.happen-requires
-happen-requires c =
+pub happen-requires-clause-maps : goal.happen-requires-clause-maps
+happen-requires-clause-maps c = start_unmapped (job_of c.args.job) (state_of c.in_ok-net.net) c.in_ok-net.ensures.state
+
+pub happen-requires-clause-events : goal.happen-requires-clause-events
+happen-requires-clause-events c =
     let j = job_of c.args.job in
     let s = state_of c.in_ok-net.net in
     rw c.deref.ensures.value (events_fit j s c.in_ok-net.ensures.state c.requires.switches c.requires.events)

@@ -1,5 +1,5 @@
 use Rattle.std.proofs.Common.{◌≡◌, ◌++◌, map}
-use Rattle.path_runner.specs.Nets.{in_flight}
+use Rattle.path_runner.specs.Starts.{in_flight}
 use Rattle.path_runner.specs.Packets.{arrival_of}
 use Rattle.path_runner.specs.Places.{place_in}
 use Rattle.path_runner.proofs.handed.flights.Given as goal

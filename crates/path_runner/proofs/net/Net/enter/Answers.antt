@@ -1,6 +1,8 @@
 use Rattle.std.proofs.Common.{List, length, map, set, refl, sym, ap, ◌∙◌, subst, arith}
 use Rattle.std.proofs.lemmas.List.{map-set, length-set, length-map}
 use Rattle.p4_tree.specs.Tree.{Program}
+use Rattle.p4_tables.specs.Programs.{shapes}
+use Rattle.path_runner.specs.Maps.{maps_of}
 use Rattle.path_runner.specs.Places.{place_in, limits_of}
 use Rattle.path_runner.specs.Nets.{Traffic}
 use Rattle.path_runner.specs.Sound.{AreMade, is_within}
@@ -10,6 +12,7 @@ use Rattle.path_runner.proofs.Lists.{all_pass, map_same}
 use Rattle.path_runner.proofs.Made.{made_after}
 use Rattle.path_runner.proofs.Standing.{read_item, view_there, views_same, flight_known, flight_at, entered_within, entered_counted}
 use Rattle.path_runner.proofs.Entering.{entered_runs}
+use Rattle.path_runner.proofs.NewContents.{mapped_kept}
 use Rattle.path_runner.proofs.net.Net.enter.Goals as goal
 
 pub index_mut-station-requires : goal.index_mut-station-requires
@@ -43,11 +46,21 @@ returns-in_err-next-clause-same g c =
       kept = record {
         network = refl;
         programs = views_same station_in (λ x. x.program) n.stations.items f.switch c.index_mut-station.result.now c.enter.new.station unit c.enter.ensures.program;
-        tables = views_same station_in (λ x. x.tables) n.stations.items f.switch c.index_mut-station.result.now c.enter.new.station unit c.enter.ensures.tables;
+        shapes = views_same station_in (λ x. shapes x.tables) n.stations.items f.switch c.index_mut-station.result.now c.enter.new.station unit (ap shapes c.enter.ensures.tables);
       };
+      maps = refl;
       limits = refl;
       packets = refl;
     }
+
+pub returns-in_err-next-clause-tables : goal.returns-in_err-next-clause-tables
+returns-in_err-next-clause-tables g c =
+    let n = c.args.self.now in
+    let f = c.in-Flying.flight in
+    let known = flight_known (length n.network.names) (limits_of n.limits) n.places.items c.args.packet c.index.result.now f c.requires c.index.ensures c.in-Flying.is n.within in
+    let x = c.index_mut-station.result.now in
+    let unit = read_item n.stations.items (length n.stations.items) f.switch x refl (omega (arith, known.switch_there, n.switches)) c.index_mut-station.ensures.value in
+    views_same station_in (λ x. x.tables) n.stations.items f.switch x c.enter.new.station unit c.enter.ensures.tables
 
 pub invariant_of-self-2-clause-within : goal.invariant_of-self-2-clause-within
 invariant_of-self-2-clause-within g c =
@@ -67,6 +80,8 @@ invariant_of-self-in-Break-1 g c =
     let unit = read_item n.stations.items (length n.stations.items) f.switch x refl (omega (arith, known.switch_there, n.switches)) c.index_mut-station.ensures.value in
     record {
       switches = length-set n.stations.items f.switch c.enter.new.station ∙ n.switches;
+      lists = n.lists;
+      mapped = mapped_kept station_in n.stations.items (maps_of n.maps.items) f.switch x c.enter.new.station unit c.enter.ensures.program n.mapped c.enter.ensures.tables;
       wired = n.wired;
       within = n.within;
       made = subst (λ (ps : List Program). AreMade ps n.places.items) (sym (map_same (λ s. g.P.Pass.program s.switch) n.stations.items f.switch x c.enter.new.station unit c.enter.ensures.program)) n.made;
@@ -85,6 +100,15 @@ invariant_of-self-2-clause-made g c =
     made_after (map (λ s. g.P.Pass.program s.switch) n.stations.items) _ n.places.items c.args.packet f.switch (g.P.Pass.program x.switch) _ c.in_ok-next.next c.replace-before.new.dest n.made
     (view_there (λ s. g.P.Pass.program s.switch) n.stations.items f.switch x unit)
     (map_same (λ s. g.P.Pass.program s.switch) n.stations.items f.switch x c.enter.new.station unit c.enter.ensures.program) c.enter.ensures.program c.replace-before.ensures.after c.in_ok-next.ensures.made
+
+pub invariant_of-self-2-clause-mapped : goal.invariant_of-self-2-clause-mapped
+invariant_of-self-2-clause-mapped g c =
+    let n = c.args.self.now in
+    let f = c.in-Flying.flight in
+    let known = flight_known (length n.network.names) (limits_of n.limits) n.places.items c.args.packet c.index.result.now f c.requires c.index.ensures c.in-Flying.is n.within in
+    let x = c.index_mut-station.result.now in
+    let unit = read_item n.stations.items (length n.stations.items) f.switch x refl (omega (arith, known.switch_there, n.switches)) c.index_mut-station.ensures.value in
+    mapped_kept station_in n.stations.items (maps_of n.maps.items) f.switch x c.enter.new.station unit c.enter.ensures.program n.mapped c.enter.ensures.tables
 
 pub invariant_of-self-2-clause-few : goal.invariant_of-self-2-clause-few
 invariant_of-self-2-clause-few g c =
@@ -111,11 +135,21 @@ returns-clause-same g c =
       kept = record {
         network = refl;
         programs = views_same station_in (λ x. x.program) n.stations.items f.switch c.index_mut-station.result.now c.enter.new.station unit c.enter.ensures.program;
-        tables = views_same station_in (λ x. x.tables) n.stations.items f.switch c.index_mut-station.result.now c.enter.new.station unit c.enter.ensures.tables;
+        shapes = views_same station_in (λ x. shapes x.tables) n.stations.items f.switch c.index_mut-station.result.now c.enter.new.station unit (ap shapes c.enter.ensures.tables);
       };
+      maps = refl;
       limits = refl;
       packets = simp (length-map, length-set);
     }
+
+pub returns-clause-tables : goal.returns-clause-tables
+returns-clause-tables g c =
+    let n = c.args.self.now in
+    let f = c.in-Flying.flight in
+    let known = flight_known (length n.network.names) (limits_of n.limits) n.places.items c.args.packet c.index.result.now f c.requires c.index.ensures c.in-Flying.is n.within in
+    let x = c.index_mut-station.result.now in
+    let unit = read_item n.stations.items (length n.stations.items) f.switch x refl (omega (arith, known.switch_there, n.switches)) c.index_mut-station.ensures.value in
+    views_same station_in (λ x. x.tables) n.stations.items f.switch x c.enter.new.station unit c.enter.ensures.tables
 
 pub returns-clause-enter : goal.returns-clause-enter
 returns-clause-enter g c =

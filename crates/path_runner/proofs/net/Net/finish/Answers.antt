@@ -2,6 +2,7 @@ use Rattle.std.proofs.Common.{◌≡◌, ℕ, length, map, refl, ap, ◌∙◌, 
 use Rattle.std.proofs.lemmas.List.{length-map}
 use Rattle.network_run.specs.Events.{closing}
 use Rattle.path_runner.specs.Nets.{Switch, RunsTo}
+use Rattle.p4_tables.specs.Programs.{shapes}
 use Rattle.path_runner.specs.Places.{place_in}
 use Rattle.path_runner.specs.Views.{state_of}
 use Rattle.path_runner.proofs.Running.{same_then}
@@ -15,6 +16,7 @@ loop-packet-preserved g c =
     let u = state_of c.end.new.self in
     record {
       same = same_then s t u c.loop-packet.invariant.same c.end.ensures.same;
+      tables = c.end.ensures.tables ∙ c.loop-packet.invariant.tables;
       runs = closing_more s t u c.loop-packet.packet c.loop-packet.invariant.same c.loop-packet.invariant.runs c.in_ok-end.ensures.end;
     }
 
@@ -33,5 +35,8 @@ returns-clause-kept g c =
     record {
       network = same.kept.network;
       programs = ap (map (λ (x : Switch). x.program)) c.in_ok-switches.ensures ∙ same.kept.programs;
-      tables = ap (map (λ (x : Switch). x.tables)) c.in_ok-switches.ensures ∙ same.kept.tables;
+      shapes = ap (map (λ (x : Switch). shapes x.tables)) c.in_ok-switches.ensures ∙ same.kept.shapes;
     }
+
+pub returns-clause-tables : goal.returns-clause-tables
+returns-clause-tables g c = ap (map (λ (x : Switch). x.tables)) c.in_ok-switches.ensures ∙ c.loop-packet.invariant.tables

@@ -4,6 +4,8 @@ use Rattle.p4_machine.specs.Buffers.{place_of}
 use Rattle.network_run.specs.Network.{Over, Place}
 use Rattle.network_file.specs.Wiring.{wiring_of}
 use Rattle.p4_meaning.specs.Pass.{Queued}
+use Rattle.p4_tables.specs.Programs.{shapes}
+use Rattle.path_runner.specs.Maps.{maps_of}
 use Rattle.path_runner.specs.Places.{place_in, limits_of}
 use Rattle.path_runner.specs.Sound.{AreMade, is_within}
 use Rattle.path_runner.specs.Switches.{exit_at}
@@ -15,6 +17,7 @@ use Rattle.path_runner.proofs.Made.{made_after}
 use Rattle.path_runner.proofs.Standing.{read_item, view_there, views_same, waiting_known, put_back}
 use Rattle.path_runner.proofs.Departing.{left_within, left_counted, taken_going}
 use Rattle.path_runner.proofs.Leaving.{left_runs}
+use Rattle.path_runner.proofs.NewContents.{mapped_kept}
 use Rattle.path_runner.proofs.net.Net.leave.Goals as goal
 
 pub invariant_of-self-clause-made : goal.invariant_of-self-clause-made
@@ -51,6 +54,8 @@ invariant_of-self-in-Break-1 g c =
     let fewer = taken_going ps c.args.packet k.switch k.port k.passed 0 (place_of k.queued).waiting c.requires k.full c.in-Some.ensures.taken.1 in
     record {
       switches = length-set n.stations.items k.switch c.leave.new.station ∙ n.switches;
+      lists = n.lists;
+      mapped = mapped_kept station_in n.stations.items (maps_of n.maps.items) k.switch x c.leave.new.station unit c.leave.ensures.program n.mapped c.leave.ensures.tables;
       wired = n.wired;
       made = rw c.in-Some.ensures.items
           (made_after programs _ n.places.items c.args.packet k.switch (g.P.Pass.program x.switch) _ code.Over code.Over n.made
@@ -74,11 +79,22 @@ returns-in_err-next-clause-same g c =
       kept = record {
         network = refl;
         programs = views_same station_in (λ x. x.program) n.stations.items k.switch x c.leave.new.station unit c.leave.ensures.program;
-        tables = views_same station_in (λ x. x.tables) n.stations.items k.switch x c.leave.new.station unit c.leave.ensures.tables;
+        shapes = views_same station_in (λ x. shapes x.tables) n.stations.items k.switch x c.leave.new.station unit (ap shapes c.leave.ensures.tables);
       };
+      maps = refl;
       limits = refl;
       packets = ap (λ (l : List (Place Queued)). length l) c.in-Some.ensures.taken.0 ∙ length-set ps c.args.packet Over;
     }
+
+pub returns-in_err-next-clause-tables : goal.returns-in_err-next-clause-tables
+returns-in_err-next-clause-tables g c =
+    let n = c.args.self.now in
+    let k = c.in-Some.parked in
+    let ps = map place_in n.places.items in
+    let known = waiting_known (length n.network.names) (limits_of n.limits) ps c.args.packet c.requires n.within k.switch k.port k.passed (place_of k.queued).waiting k.full c.in-Some.ensures.taken.1 in
+    let x = c.index_mut-station.result.now in
+    let unit = read_item n.stations.items (length n.stations.items) k.switch x refl (omega (arith, known.switch_there, n.switches)) c.index_mut-station.ensures.value in
+    views_same station_in (λ x. x.tables) n.stations.items k.switch x c.leave.new.station unit c.leave.ensures.tables
 
 pub invariant_of-self-2 : goal.invariant_of-self-2
 invariant_of-self-2 g c =
@@ -97,6 +113,8 @@ invariant_of-self-2 g c =
     let there = view_there (λ s. g.P.Pass.program s.switch) n.stations.items k.switch u unit in
     record {
       switches = length-set n.stations.items k.switch c.leave.new.station ∙ n.switches;
+      lists = n.lists;
+      mapped = mapped_kept station_in n.stations.items (maps_of n.maps.items) k.switch u c.leave.new.station unit c.leave.ensures.program n.mapped c.leave.ensures.tables;
       wired = n.wired;
       made = rw c.in-Some.ensures.items
           (made_after programs _ (set n.places.items c.args.packet code.Over) c.args.packet k.switch (g.P.Pass.program u.switch) _ c.in_ok-next.next c.replace-over.new.dest
@@ -123,13 +141,24 @@ returns-clause-same g c =
       kept = record {
         network = refl;
         programs = views_same station_in (λ x. x.program) n.stations.items k.switch x c.leave.new.station unit c.leave.ensures.program;
-        tables = views_same station_in (λ x. x.tables) n.stations.items k.switch x c.leave.new.station unit c.leave.ensures.tables;
+        shapes = views_same station_in (λ x. shapes x.tables) n.stations.items k.switch x c.leave.new.station unit (ap shapes c.leave.ensures.tables);
       };
+      maps = refl;
       limits = refl;
       packets =
           ap (λ (l : List (Place Queued)). length l) (put_back c.take_parked.new.places.items n.places.items c.args.packet c.replace-over.new.dest c.in-Some.ensures.taken.0)
           ∙ length-set ps c.args.packet (place_in c.replace-over.new.dest);
     }
+
+pub returns-clause-tables : goal.returns-clause-tables
+returns-clause-tables g c =
+    let n = c.args.self.now in
+    let k = c.in-Some.parked in
+    let ps = map place_in n.places.items in
+    let known = waiting_known (length n.network.names) (limits_of n.limits) ps c.args.packet c.requires n.within k.switch k.port k.passed (place_of k.queued).waiting k.full c.in-Some.ensures.taken.1 in
+    let x = c.index_mut-station.result.now in
+    let unit = read_item n.stations.items (length n.stations.items) k.switch x refl (omega (arith, known.switch_there, n.switches)) c.index_mut-station.ensures.value in
+    views_same station_in (λ x. x.tables) n.stations.items k.switch x c.leave.new.station unit c.leave.ensures.tables
 
 pub returns-clause-leave : goal.returns-clause-leave
 returns-clause-leave g c =
