@@ -23,7 +23,7 @@ use Rattle.indus_tree.specs.State.{Contents, single, members, pairs, width_of}
 use Rattle.indus_tree.specs.Keys.{same_words}
 use Rattle.indus_tree.specs.declared.tree.Ty.{Ty}
 use Rattle.control_tables.specs.Contents.{entry_for, entries_for, default_for}
-use Rattle.control_tables.specs.Tables.{key_types}
+use Rattle.lookup_names.specs.Keys.{key_types}
 use Rattle.control_maps.specs.Numbers.{Numbered, HasTypes, HasShape, keys_of, AreUnequal, exact_keys, params_for, HasForm, IsOfForm}
 
 -- ---- keys

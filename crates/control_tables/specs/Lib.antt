@@ -1,5 +1,4 @@
 -- What callers rest on. To be read in this order.
-pub mod Names
 pub mod Tables
 pub mod Contents
 pub mod Laws

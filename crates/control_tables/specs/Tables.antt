@@ -1,24 +1,14 @@
--- The table of a control variable, for one lookup of it, and the table's first action. Read `Names` before it and
--- `Contents` after it.
+-- The table of a control variable, for one lookup of it, and the table's first action. Read `Names` and
+-- `Keys` of `lookup_names` before it and `Contents` after it.
 use Rattle.std.specs.Prelude.{ℕ, ◌+◌, List, [], ◌∷◌, codes, Bool, true, false, Some, None}
 use Rattle.indus_tree.specs.Tree.{Shape, one, list, set, dict}
 use Rattle.indus_tree.specs.State.{shape_width}
 use Rattle.indus_tree.specs.declared.tree.Ty.{Ty}
-use Rattle.p4_tree.specs.Tree.{Expr, num, path, Stmts, assign, done, next, Action, Table}
+use Rattle.p4_tree.specs.Tree.{Expr, num, Stmts, assign, done, next, Action, Table}
 use Rattle.p4_tree.specs.declared.statement.PTy.{PTy}
 use Rattle.p4_tree.specs.declared.statement.PTy.TheVariants.{Bit}
-use Rattle.control_tables.specs.Names.{table_name, action_name, found_name, key_name, value_name}
-
--- the types of the parts of a key; a scalar has none
-abbrev pub key_types : Shape → List Ty
-key_types (one t) = []
-key_types (list t n) = []
-key_types (set ts) = ts
-key_types (dict ts t) = ts
-
--- a variable
-abbrev pub variable : (name : List ℕ) → Expr
-variable x = path 0 (x ∷ [])
+use Rattle.lookup_names.specs.Names.{table_name, action_name, found_name, key_name, value_name}
+use Rattle.lookup_names.specs.Keys.{key_types, variable}
 
 -- each part of the key is a variable, and is matched exactly
 abbrev pub key_at : (number part : ℕ) → Expr × List ℕ

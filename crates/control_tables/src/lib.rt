@@ -16,4 +16,4 @@ pub mod laws;
 mod tables;
 
 pub use contents::contents_for;
-pub use tables::{ControlMap, table_for};
+pub use tables::{ControlMap, table_for, value_width};

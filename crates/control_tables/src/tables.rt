@@ -4,12 +4,13 @@ ghost use Rattle.std.specs.Prelude.{◌≡◌, ◌∷◌, [], map, IfOk};
 ghost use Rattle.indus_tree.specs.State as state;
 ghost use Rattle.indus_tree.specs.View.{decl_of, shape_of};
 ghost use Rattle.p4_tree.specs.View.{expr_of, key_of, stmt_of, stmts_of, default_of as default_seen, table_of as table_seen, action_of as action_seen};
-ghost use Rattle.control_tables.specs.Names as names;
+ghost use Rattle.lookup_names.specs.Keys.{key_types, variable};
 ghost use Rattle.control_tables.specs.Tables as tables;
 ghost use Rattle.control_tables.specs.Views.{pair_of};
 
 use indus_tree::{Decl, Shape, Ty};
 use lex_text::{Literal, Name};
+use lookup_names::{action_name, found_name, key_name, table_name};
 use p4_tree::{Action, Expr, PTy, Stmt, Table};
 use std::alloc::{AllocError, Global};
 
@@ -18,36 +19,6 @@ use std::alloc::{AllocError, Global};
 #[derive(Debug, Drop)]
 pub struct ControlMap {
     pub tables: Vec<(Name, Name, u32)>,
-}
-
-// ---- names
-
-fn table_name(alloc: Global, number: u32) -> Result<Name, AllocError>
-    ensures { IfOk result (λ x. x ≡ names.table_name number) }
-{
-    let text = format!(in alloc; "hydra_t_{number}")?;
-    Name::new(alloc, text.as_str())
-}
-
-fn action_name(alloc: Global, number: u32) -> Result<Name, AllocError>
-    ensures { IfOk result (λ x. x ≡ names.action_name number) }
-{
-    let text = format!(in alloc; "hydra_a_{number}")?;
-    Name::new(alloc, text.as_str())
-}
-
-fn found_name(alloc: Global, number: u32) -> Result<Name, AllocError>
-    ensures { IfOk result (λ x. x ≡ names.found_name number) }
-{
-    let text = format!(in alloc; "hydra_f_{number}")?;
-    Name::new(alloc, text.as_str())
-}
-
-fn key_name(alloc: Global, number: u32, part: usize) -> Result<Name, AllocError>
-    ensures { IfOk result (λ x. x ≡ names.key_name number part) }
-{
-    let text = format!(in alloc; "hydra_k_{number}_{part}")?;
-    Name::new(alloc, text.as_str())
 }
 
 // ---- expressions
@@ -62,7 +33,7 @@ fn type_width(ty: Ty) -> u8
 }
 
 /// The bits of one value of what has a shape.
-fn value_width(shape: &Shape) -> u8
+pub fn value_width(shape: &Shape) -> u8
     ensures { result ≡ state.shape_width (shape_of shape.now) }
 {
     match shape {
@@ -78,7 +49,7 @@ fn number(width: u8, value: u128) -> Expr
 }
 
 fn variable(alloc: Global, name: Name) -> Result<Expr, AllocError>
-    ensures { IfOk result (λ e. expr_of e ≡ tables.variable name) }
+    ensures { IfOk result (λ e. expr_of e ≡ variable name) }
 {
     let mut names = Vec::new(alloc);
     names.push(name)?;
@@ -108,7 +79,7 @@ fn keys_of(alloc: Global, number: u32, types: &[Ty]) -> Result<Vec<(Expr, Name)>
 
 fn keys_for(alloc: Global, number: u32, shape: &Shape) -> Result<Vec<(Expr, Name)>, AllocError>
     ensures { IfOk result (λ v. map key_of v.items
-        ≡ tables.keys_from number 0 (tables.key_types (shape_of shape.now))) }
+        ≡ tables.keys_from number 0 (key_types (shape_of shape.now))) }
 {
     match shape {
         Shape::One(_) | Shape::List(_, _) => Ok(Vec::new(alloc)),

@@ -39,8 +39,7 @@ pub struct Net<P: Pass + Drop> {
     given_up: bool,
     ghost switches: { length stations.items ≡ length network.names },
     ghost lists: { length maps.items ≡ length network.names },
-    ghost mapped: { AreMapped (map (λ s. switch_of P.program P.tables P.cells s.switch) stations.items) (maps_of maps.items) }
-        by { mapped_prop (map (λ s. switch_of P.program P.tables P.cells s.switch) stations.items) (maps_of maps.items) },
+    ghost mapped: { AreMapped (map (λ s. switch_of P.program P.tables P.cells s.switch) stations.items) (maps_of maps.items) } by { mapped_prop (map (λ s. switch_of P.program P.tables P.cells s.switch) stations.items) (maps_of maps.items) },
     ghost wired: { IsWiring (wiring_of network) },
     ghost within: { list_all (is_within (length network.names) (limits_of limits)) (map place_in places.items) ≡ true },
     ghost made: { AreMade (map (λ s. P.program s.switch) stations.items) places.items },
@@ -159,7 +158,13 @@ impl<P: Pass + Drop> Net<P> {
         ensures set { OnOk result (RunsTo (state_of self.old) (Set switch variable (contents_of contents.now) ∷ []) (state_of self.new)) }
     {
         let at = switch as usize;
-        set(alloc, &mut self.stations[at], &self.maps[at], variable, contents)
+        set(
+            alloc,
+            &mut self.stations[at],
+            &self.maps[at],
+            variable,
+            contents,
+        )
     }
 
     /// One event happens.

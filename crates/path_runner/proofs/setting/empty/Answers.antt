@@ -30,19 +30,19 @@ loop-item-preserved g c =
     let before = c.loop-item.invariant in
     elim c.if-item-variable.branch [
       | then-item-variable+in_ok-set_table w ↦
-        (let is = ap (λ s. (station_in s).tables) w.station-is ∙ (w.in_ok-set_table.ensures.tables ∙ ap (λ (es : List _). replaced now x.0 (map entry_of es) None) w.new.ensures.items) in
-        record {
-          program = ap (λ s. (station_in s).program) w.station-is ∙ (w.set_table.ensures.program ∙ before.program);
-          cells = ap (λ s. (station_in s).cells) w.station-is ∙ (w.set_table.ensures.cells ∙ before.cells);
-          emptied = empties f (map_of items) c.args.variable i (numbered_of x) here w.if-item-variable.true old now _ is before.emptied;
-          others = others_next f (map_of items) c.args.variable i (numbered_of x) here w.if-item-variable.true old now _ [] None before.emptied.map is before.others;
-        })
+          (let is = ap (λ s. (station_in s).tables) w.station-is ∙ (w.in_ok-set_table.ensures.tables ∙ ap (λ (es : List _). replaced now x.0 (map entry_of es) None) w.new.ensures.items) in
+          record {
+            program = ap (λ s. (station_in s).program) w.station-is ∙ (w.set_table.ensures.program ∙ before.program);
+            cells = ap (λ s. (station_in s).cells) w.station-is ∙ (w.set_table.ensures.cells ∙ before.cells);
+            emptied = empties f (map_of items) c.args.variable i (numbered_of x) here w.if-item-variable.true old now _ is before.emptied;
+            others = others_next f (map_of items) c.args.variable i (numbered_of x) here w.if-item-variable.true old now _ [] None before.emptied.map is before.others;
+          })
       | else-item-variable w ↦
-        (let is = ap (λ s. (station_in s).tables) w.station-is in
-        record {
-          program = ap (λ s. (station_in s).program) w.station-is ∙ before.program;
-          cells = ap (λ s. (station_in s).cells) w.station-is ∙ before.cells;
-          emptied = empties_other f (map_of items) c.args.variable i (numbered_of x) here w.if-item-variable.false old now _ is before.emptied;
-          others = others_same f (map_of items) c.args.variable i (numbered_of x) here w.if-item-variable.false old now _ is before.others;
-        })
+          (let is = ap (λ s. (station_in s).tables) w.station-is in
+          record {
+            program = ap (λ s. (station_in s).program) w.station-is ∙ before.program;
+            cells = ap (λ s. (station_in s).cells) w.station-is ∙ before.cells;
+            emptied = empties_other f (map_of items) c.args.variable i (numbered_of x) here w.if-item-variable.false old now _ is before.emptied;
+            others = others_same f (map_of items) c.args.variable i (numbered_of x) here w.if-item-variable.false old now _ is before.others;
+          })
     ]

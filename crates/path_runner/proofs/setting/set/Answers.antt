@@ -41,19 +41,19 @@ loop-item-preserved g c =
     let before = c.loop-item.invariant in
     elim c.if-item-variable.branch [
       | then-item-variable+in_ok-fill w ↦
-        (let is = ap (λ s. (station_in s).tables) w.station-is ∙ w.in_ok-fill.ensures.tables in
-        record {
-          program = ap (λ s. (station_in s).program) w.station-is ∙ (w.fill.ensures.program ∙ before.program);
-          cells = ap (λ s. (station_in s).cells) w.station-is ∙ (w.fill.ensures.cells ∙ before.cells);
-          filled = fills f (map_of items) c.args.variable i (numbered_of x) here w.if-item-variable.true v old now before.filled c.requires.settable _ is;
-          others = others_next f (map_of items) c.args.variable i (numbered_of x) here w.if-item-variable.true old now _ (entries_for x.1 v) (default_for x.1 v) before.filled.map is before.others;
-        })
+          (let is = ap (λ s. (station_in s).tables) w.station-is ∙ w.in_ok-fill.ensures.tables in
+          record {
+            program = ap (λ s. (station_in s).program) w.station-is ∙ (w.fill.ensures.program ∙ before.program);
+            cells = ap (λ s. (station_in s).cells) w.station-is ∙ (w.fill.ensures.cells ∙ before.cells);
+            filled = fills f (map_of items) c.args.variable i (numbered_of x) here w.if-item-variable.true v old now before.filled c.requires.settable _ is;
+            others = others_next f (map_of items) c.args.variable i (numbered_of x) here w.if-item-variable.true old now _ (entries_for x.1 v) (default_for x.1 v) before.filled.map is before.others;
+          })
       | else-item-variable w ↦
-        (let is = ap (λ s. (station_in s).tables) w.station-is in
-        record {
-          program = ap (λ s. (station_in s).program) w.station-is ∙ before.program;
-          cells = ap (λ s. (station_in s).cells) w.station-is ∙ before.cells;
-          filled = fills_other f (map_of items) c.args.variable i (numbered_of x) here w.if-item-variable.false old now _ is v before.filled;
-          others = others_same f (map_of items) c.args.variable i (numbered_of x) here w.if-item-variable.false old now _ is before.others;
-        })
+          (let is = ap (λ s. (station_in s).tables) w.station-is in
+          record {
+            program = ap (λ s. (station_in s).program) w.station-is ∙ before.program;
+            cells = ap (λ s. (station_in s).cells) w.station-is ∙ before.cells;
+            filled = fills_other f (map_of items) c.args.variable i (numbered_of x) here w.if-item-variable.false old now _ is v before.filled;
+            others = others_same f (map_of items) c.args.variable i (numbered_of x) here w.if-item-variable.false old now _ is before.others;
+          })
     ]
