@@ -16,7 +16,8 @@ use Rattle.indus_tree.specs.State.{Contents, single, members, pairs, width_of}
 use Rattle.indus_tree.specs.Keys.{same_words}
 use Rattle.indus_tree.specs.declared.tree.Ty.{Ty}
 use Rattle.control_tables.specs.Contents.{entries_for, default_for}
-use Rattle.control_tables.specs.Tables.{key_types, has_miss}
+use Rattle.lookup_names.specs.Keys.{key_types}
+use Rattle.control_tables.specs.Tables.{has_miss}
 use Rattle.control_maps.specs.Maps.{Lookup, miss}
 
 -- a table and its first action, by their numbers in the switch's program, the number of the variable whose contents the
