@@ -4,3 +4,5 @@ pub mod Linking
 pub mod LinkingLaws
 -- A P4 program with an action and a table.
 pub mod Routing
+-- One whose tables hold a control variable.
+pub mod Guarding
