@@ -21,8 +21,9 @@ use Rattle.network_run.specs.Events.{Event, Set, closing}
 use Rattle.network_run.specs.Network.{Net}
 use Rattle.network_run.specs.World.{World, first_net}
 use Rattle.switch_machines.specs.Programs.{Programs, machine_with}
-use Rattle.control_tables.specs.Names.{table_name, found_name, key_name}
-use Rattle.control_tables.specs.Tables.{variable, table_of, action_of}
+use Rattle.lookup_names.specs.Names.{table_name, found_name, key_name}
+use Rattle.lookup_names.specs.Keys.{variable}
+use Rattle.control_tables.specs.Tables.{table_of, action_of}
 use Rattle.control_maps.specs.Numbers.{Numbered, load_in}
 use Rattle.wire_program.specs.WireProgram.{parser_params, deparser_params, two_params, three_params, main_names, control_of}
 use Rattle.path_runner.specs.Nets.{State, Switch, controls_of, run_in}
