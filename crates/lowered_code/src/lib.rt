@@ -5,4 +5,4 @@
 
 mod laws;
 
-pub use laws::written_code_is_code;
+pub use laws::code_does_what_its_block_does;
