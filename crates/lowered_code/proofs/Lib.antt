@@ -1,0 +1,4 @@
+pub mod Widths
+pub mod Lists
+pub mod Numbers
+pub mod Steps
