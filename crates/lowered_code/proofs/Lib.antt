@@ -2,3 +2,8 @@ pub mod Widths
 pub mod Lists
 pub mod Numbers
 pub mod Steps
+pub mod Scratch
+pub mod Seen
+pub mod Values
+pub mod Sight
+pub mod Cells
