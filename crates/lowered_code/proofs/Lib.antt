@@ -7,3 +7,7 @@ pub mod Seen
 pub mod Values
 pub mod Sight
 pub mod Cells
+pub mod Keys
+pub mod SensorReads
+pub mod LookupReads
+pub mod AnyRead

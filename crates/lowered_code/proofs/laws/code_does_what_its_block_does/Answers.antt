@@ -6,6 +6,10 @@ use Rattle.lowered_code.proofs.Seen.{word_seen}
 use Rattle.lowered_code.proofs.Values.{same}
 use Rattle.lowered_code.proofs.Sight.{same_now}
 use Rattle.lowered_code.proofs.Cells.{turned_is}
+use Rattle.lowered_code.proofs.Keys.{keyed_runs}
+use Rattle.lowered_code.proofs.SensorReads.{array_reads}
+use Rattle.lowered_code.proofs.LookupReads.{control_reads}
+use Rattle.lowered_code.proofs.AnyRead.{member_reads}
 use Rattle.lowered_code.proofs.laws.code_does_what_its_block_does.Goals as goal
 
 pub returns : goal.returns
