@@ -11,3 +11,7 @@ pub mod Keys
 pub mod SensorReads
 pub mod LookupReads
 pub mod AnyRead
+pub mod Served
+pub mod Turns
+pub mod Reading
+pub mod Writes

@@ -10,6 +10,8 @@ use Rattle.lowered_code.proofs.Keys.{keyed_runs}
 use Rattle.lowered_code.proofs.SensorReads.{array_reads}
 use Rattle.lowered_code.proofs.LookupReads.{control_reads}
 use Rattle.lowered_code.proofs.AnyRead.{member_reads}
+use Rattle.lowered_code.proofs.Reading.{reads_run}
+use Rattle.lowered_code.proofs.Writes.{told_stands}
 use Rattle.lowered_code.proofs.laws.code_does_what_its_block_does.Goals as goal
 
 pub returns : goal.returns
