@@ -45,15 +45,15 @@ bits_width ty.Bool = refl
 one_bit : (v : Seen) (e : Expr) → own_width v e ≡ 1 → value_of v e 0 ≡ value_of v e 1
 one_bit v e is = sym (value_at_own v e 0) ∙ ap (λ n. value_of v e (either_width n 0)) is
 
-module _ (s : Store) (v : Seen) (t : Ty) (f : p4.Expr) (e : Expr) (h : Same s v f e) (of : IsOfType v t e) (sound : IsSound t) where
-  -- what a variable of the type takes
-  abbrev pub taken : Word
-  taken = cast_word (sound_width (width_of t)) (value_of v e (width_of t))
+-- what a variable of the type takes
+abbrev pub taken : Seen → Ty → Expr → Word
+taken v t e = cast_word (sound_width (width_of t)) (value_of v e (width_of t))
 
-  pub bits_are : (u : ℕ) → u ≡ sound_width (width_of t) → cast_word (sound_width u) (p4v.value_of (to_bits t f) u s) ≡ taken
+module _ (s : Store) (v : Seen) (t : Ty) (f : p4.Expr) (e : Expr) (h : Same s v f e) (of : IsOfType v t e) (sound : IsSound t) where
+  pub bits_are : (u : ℕ) → u ≡ sound_width (width_of t) → cast_word (sound_width u) (p4v.value_of (to_bits t f) u s) ≡ taken v t e
   bits_are u is = by_type t of sound is
     where
-      by_type : (t : Ty) → IsOfType v t e → IsSound t → u ≡ sound_width (width_of t) → cast_word (sound_width u) (p4v.value_of (to_bits t f) u s) ≡ cast_word (sound_width (width_of t)) (value_of v e (width_of t))
+      by_type : (t : Ty) → IsOfType v t e → IsSound t → u ≡ sound_width (width_of t) → cast_word (sound_width u) (p4v.value_of (to_bits t f) u s) ≡ taken v t e
       by_type (ty.Bit w) i k is = ap (λ u. cast_word (sound_width u) (p4v.value_of f u s)) (is ∙ k) ∙ ap (cast_word (sound_width w)) (h.value w)
       by_type ty.Bool i k is =
           ap (λ u. cast_word (sound_width u) (cast_word 1 (p4v.value_of f 0 s))) is

@@ -15,3 +15,6 @@ pub mod Served
 pub mod Turns
 pub mod Reading
 pub mod Writes
+pub mod Rising
+pub mod Tests
+pub mod Statements
