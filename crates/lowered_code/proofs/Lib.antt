@@ -18,3 +18,5 @@ pub mod Writes
 pub mod Rising
 pub mod Tests
 pub mod Statements
+pub mod Variables
+pub mod Lengths

@@ -81,7 +81,7 @@ module _ (p : Setting) (b : Begins p) (d : Doing Held Held) (base : ℕ) (l : Li
       (let known1 = scratch_known p b d base l n new q q1 g.into.scratch known in
       keyed_runs p b d base l n new R (next app done) 0 ts ks (omega (arith, few)) fits suit covers q1 known1 (keys_kept n 0 ts q.store q1.store g.others keys)
       (λ r i.
-      (let there = finds r key (ap (λ f. f []) i.scratch.headers ∙ plain_now p b d q1 known1.stands) (i.found ∙ g.into.found) i.keys (as_many ts ks fits) in
+      (let there = finds (subst (λ y. lookup ds y ≡ Some c) (sym (lookup_name ds x c is)) is) k r key (ap (λ f. f []) i.scratch.headers ∙ plain_now p b d q1 known1.stands) (i.found ∙ g.into.found) i.keys (as_many ts ks fits) in
       alone p.calls R app r
       (record {
         run = record {

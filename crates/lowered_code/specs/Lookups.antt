@@ -1,13 +1,14 @@
 -- What the application of a lookup's table has to do, and what reads need. Read `Standing` before it.
-use Rattle.std.specs.Prelude.{◌≡◌, ℕ, suc, List, [], ◌∷◌, length, false, Option, None}
+use Rattle.std.specs.Prelude.{◌≡◌, ℕ, suc, List, [], ◌∷◌, length, false, Option, Some, None}
 use Rattle.std.specs.List.{AllByRecursion}
 use Rattle.bit_values.specs.Bits.{Word, word}
 use Rattle.bit_values.specs.Widths.{bit}
 use Rattle.lex_text.specs.Names.{same_text}
 use Rattle.indus_tree.specs.Tree.{Shape, one, list, set, dict, Decl}
-use Rattle.indus_tree.specs.State.{Contents, shape_width, width_of}
+use Rattle.indus_tree.specs.State.{Contents, lookup, shape_width, width_of}
 use Rattle.indus_tree.specs.Reads.{single_word}
 use Rattle.indus_tree.specs.Keys.{held_in, found_in}
+use Rattle.indus_tree.specs.declared.tree.DeclKind.TheVariants.{Control}
 use Rattle.p4_meaning.specs.Store.{Store}
 use Rattle.p4_meaning.specs.Statements.{Go, Run, Tested, Calls}
 use Rattle.monitor_laws.specs.Names.{rejected_name}
@@ -60,9 +61,9 @@ Applies calls vars control n c k =
     (q : Run) (key : List Word) → q.store.headers [] ≡ None → q.store.values (found_name n ∷ []) ≡ word (shape_width c.shape) 0 → AreKeys n 0 key q.store → length key ≡ length (key_types c.shape)
     → Applied vars n c k key q (calls.apply_table (table_name control n) q)
 
--- the lookup finds what its variable has at the hop
+-- the lookup of a declared control variable finds what the variable has at the hop
 abbrev pub Finds : Setting → ℕ × Decl → Type 0
-Finds p l = Applies p.calls p.vars p.control l.0 l.1 (p.hop.contents l.1.name)
+Finds p l = lookup p.hop.decls l.1.name ≡ Some l.1 → l.1.kind ≡ Control → Applies p.calls p.vars p.control l.0 l.1 (p.hop.contents l.1.name)
 
 -- numbered reads can be made: their variables are declared, and their lookups find what they should
 pub record AreServed (p : Setting) (rs : List (ℕ × Option Decl)) : Type 0 where
