@@ -4,7 +4,7 @@ use Rattle.bit_values.specs.Bits.{Word}
 use Rattle.bit_values.specs.Widths.{sound_width}
 use Rattle.lex_text.specs.Names.{same_text}
 use Rattle.p4_tree.specs.Tree.{Stmts}
-use Rattle.p4_meaning.specs.Store.{Store, shown}
+use Rattle.p4_meaning.specs.Store.{shown}
 use Rattle.p4_meaning.specs.Value as p4v
 use Rattle.p4_meaning.specs.Statements.{Run, meaning_of}
 use Rattle.network_run.specs.PathMeaning.{Doing}

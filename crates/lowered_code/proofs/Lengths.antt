@@ -9,11 +9,11 @@ use Rattle.indus_tree.specs.State.{lookup, shape_width}
 use Rattle.indus_tree.specs.declared.tree.DeclKind.{DeclKind}
 use Rattle.indus_tree.specs.declared.tree.DeclKind.TheVariants.{Tele, Sensor, Header, Control}
 use Rattle.indus_tree.specs.declared.tree.Ty.{Ty}
-use Rattle.lookup_names.specs.Names.{found_name, key_name}
+use Rattle.lookup_names.specs.Names.{found_name}
 use Rattle.lookup_names.specs.Keys.{key_types, variable}
 use Rattle.lowered_code.specs.Environment.{Environment, tele_path}
 use Rattle.lowered_code.specs.Expressions.{read_decl, lowered, lowered_all}
-use Rattle.lowered_code.specs.Reads.{start_of, turned, turn, take_sensor, keys_of, apply, keyed, read_array, read_sensor, read_kind, read_stmts, reads_stmts}
+use Rattle.lowered_code.specs.Reads.{start_of, turned, turn, keys_of, apply, keyed, read_array, read_sensor, read_kind, read_stmts, reads_stmts}
 use Rattle.lowered_code.specs.Statements.{set_kind, set_name, set_array, tell, maybe_else, stmt_reads, behind, stmt_end, block_end, with_reads, stmt_code, block_code}
 
 pub both_keep : (x y : Stmts) → KeepLength x → KeepLength y → KeepLength (and_then x y)

@@ -7,7 +7,7 @@ use Rattle.indus_tree.specs.State.{lookup}
 use Rattle.indus_tree.specs.declared.tree.DeclKind.{DeclKind}
 use Rattle.indus_tree.specs.declared.tree.DeclKind.TheVariants.{Tele, Sensor, Header, Control}
 use Rattle.lowered_code.specs.Expressions.{read_decl}
-use Rattle.lowered_code.specs.Statements.{stmt_reads, behind, stmt_end, block_end, control_kind, read_lookups, numbered_reads, stmt_numbers, block_numbers, lookups_in, block_lookups}
+use Rattle.lowered_code.specs.Statements.{stmt_reads, behind, stmt_end, block_end, control_kind, read_lookups, numbered_reads, stmt_numbers, block_numbers, lookups_in}
 use Rattle.lowered_code.proofs.LookupReads.{lookup_name}
 
 -- ---- numbers behind statements

@@ -12,8 +12,8 @@ use Rattle.p4_meaning.specs.Value as p4v
 use Rattle.p4_meaning.specs.Statements.{Run}
 use Rattle.network_run.specs.PathMeaning.{Doing}
 use Rattle.indus_tree.specs.Tree.{Expr, read as reads, Shape, one, list, set, dict, Decl}
-use Rattle.indus_tree.specs.State.{Hop, Held, lookup, nothing_of, shape_width, width_of}
-use Rattle.indus_tree.specs.Reads.{Seen, scalar, word_by_kind, built_in_word, variable_word, name_word}
+use Rattle.indus_tree.specs.State.{Held, lookup, nothing_of, shape_width, width_of}
+use Rattle.indus_tree.specs.Reads.{Seen, scalar, word_by_kind, variable_word, name_word}
 use Rattle.indus_tree.specs.Shapes.{HasWidth, IsHeld, IsTeleCount}
 use Rattle.indus_tree.specs.Meaning.{seen_by}
 use Rattle.indus_tree.specs.Value.{value_of}
@@ -28,7 +28,7 @@ use Rattle.lowered_code.specs.Expressions.{value_type, is_in, built_in, lowered}
 use Rattle.lowered_code.specs.Suiting.{IsBuiltIn, IsScalar, Suits}
 use Rattle.lowered_code.specs.Standing.{Setting, environment, Begins, Stands}
 use Rattle.lowered_code.proofs.Seen.{word_seen}
-use Rattle.lowered_code.proofs.Values.{Same, Covers, HoldsRead, HoldsTele, Sees, same}
+use Rattle.lowered_code.proofs.Values.{Same, Covers, HoldsRead, HoldsTele, same}
 
 -- an own path reads what it read when the part began
 view_is : (a q : Run) → Others a q → (f : p4.Expr) → IsView f → (u : Word) → p4v.value_of f 0 a.store ≡ u → ((w : ℕ) → p4v.value_of f w q.store ≡ u) × (p4v.own_width f q.store ≡ u.width)

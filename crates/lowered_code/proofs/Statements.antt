@@ -1,5 +1,5 @@
 -- A block's code leads from a run that stands for a state to one that stands for what the block does to the state.
-use Rattle.std.proofs.Common.{◌≡◌, codes, ℕ, ◌+◌, ◌≤◌, ◌<◌, ◌^◌, List, [], ◌∷◌, ◌++◌, map, length, take, get_or, Bool, true, false, cond, Option, Some, None, refl, sym, ap, ap₂, ◌∙◌, subst, All, arith}
+use Rattle.std.proofs.Common.{◌≡◌, codes, ℕ, ◌+◌, ◌≤◌, ◌<◌, ◌^◌, List, [], ◌∷◌, ◌++◌, map, length, take, Bool, true, false, cond, Option, Some, None, refl, sym, ap, ap₂, ◌∙◌, subst, All, arith}
 use Rattle.std.proofs.lemmas.List.{take_all}
 use Rattle.std.proofs.lemmas.List.Elements.{All-get_or, All-head}
 use Rattle.bit_values.specs.Bits.{Word, word}
@@ -9,7 +9,7 @@ use Rattle.p4_tree.specs.Tree as p4
 use Rattle.p4_tree.specs.Tree.{Stmt, Stmts, MaybeStmt, done, next, and_then}
 use Rattle.p4_meaning.specs.Store.{set_value}
 use Rattle.p4_meaning.specs.Value as p4v
-use Rattle.p4_meaning.specs.Statements.{Go, Run, Ended, after, in_store, cell_at, cell_set, put_cells, index_of, application, tested_by, Calls, meaning_of_stmt, meaning_of_else, meaning_of}
+use Rattle.p4_meaning.specs.Statements.{Go, Run, Ended, after, in_store, cell_at, cell_set, put_cells, index_of, tested_by, Calls, meaning_of_stmt, meaning_of_else, meaning_of}
 use Rattle.network_run.specs.PathMeaning.{Doing, Report}
 use Rattle.indus_tree.specs.Tree as indus
 use Rattle.indus_tree.specs.Tree.{Expr, Exprs, none, more, exprs_count, Shape, one, list, set, dict, Decl}
@@ -26,21 +26,20 @@ use Rattle.sensor_registers.specs.Registers.{cell_value}
 use Rattle.linkage.specs.Linkage.{report_receiver}
 use Rattle.monitor_laws.specs.Names.{tele_header, rejected_name}
 use Rattle.monitor_laws.specs.Trees.{number}
-use Rattle.monitor_laws.specs.MonitorLaws.{report_digest}
 use Rattle.monitor_laws.proofs.Frames.{open_by, assignment}
 use Rattle.lowered_code.specs.Names.{sensor_name}
 use Rattle.lowered_code.specs.Environment.{tele_path}
 use Rattle.lowered_code.specs.Expressions.{value_type, to_bits, lowered, lowered_all}
-use Rattle.lowered_code.specs.Reads.{start_of, turned, reads, reads_stmts}
-use Rattle.lowered_code.specs.Statements.{put_sensor, set_kind, set_name, set_array, tell, maybe_else, stmt_reads, behind, stmt_end, block_end, stmt_code, block_code, numbered_reads, stmt_numbers, block_numbers}
+use Rattle.lowered_code.specs.Reads.{turned, reads, reads_stmts}
+use Rattle.lowered_code.specs.Statements.{put_sensor, set_kind, set_name, set_array, tell, maybe_else, stmt_reads, stmt_end, block_end, stmt_code, block_code, numbered_reads, stmt_numbers, block_numbers}
 use Rattle.lowered_code.specs.Suiting.{IsScalar, IsSound, IsOfType, Suits, AllSuit, KindSuits, TargetSuits, ArraySuits, StmtSuits, BlockSuits}
 use Rattle.lowered_code.specs.Standing.{Setting, environment, Begins, Stands, Ends}
 use Rattle.lowered_code.specs.Lookups.{AreServed}
 use Rattle.lowered_code.proofs.Widths.{cast_has, value_at_own, value_width}
-use Rattle.lowered_code.proofs.Steps.{ends_with, step, steps, nothing_more, alone, sets}
-use Rattle.lowered_code.proofs.Values.{Same, Covers, AllCovered}
+use Rattle.lowered_code.proofs.Steps.{ends_with, steps, nothing_more, alone, sets}
+use Rattle.lowered_code.proofs.Values.{Covers, AllCovered}
 use Rattle.lowered_code.proofs.Sight.{plain_now, valid_now, Known, same_now}
-use Rattle.lowered_code.proofs.Cells.{bits_width, taken, bits_are, bits_own, start_has, turned_is, cell_there}
+use Rattle.lowered_code.proofs.Cells.{taken, bits_are, bits_own, start_has, turned_is, cell_there}
 use Rattle.lowered_code.proofs.LookupReads.{lookup_name}
 use Rattle.lowered_code.proofs.Served.{served_left, served_right}
 use Rattle.lowered_code.proofs.Turns.{InTurn, GoesOn, goes_then, covers_on, expr_reads, exprs_read}
@@ -83,7 +82,6 @@ module _ (p : Setting) (b : Begins p) where
   module _ (d : Doing Held Held) (n : ℕ) (l : List Expr) (r : Run) (k : Known p b d n l r) where
     abbrev v : Seen
     v = seen_by p.hop [] d
-
 
     set_is : (x : List ℕ) (c : Decl) (z : DeclKind) (e : Expr) (m : ℕ) → lookup ds x ≡ Some c → c.kind ≡ z → set_cell (lookup ds x) x m (value_for p.hop [] d x e) d ≡ set_by_kind z x m (taken v (value_type c.shape) e) d
     set_is x c z e m is kind =

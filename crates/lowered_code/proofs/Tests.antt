@@ -1,5 +1,5 @@
 -- The test of a lowered `if` applies no table, and an `else` of nothing is none.
-use Rattle.std.proofs.Common.{◌≡◌, codes, ℕ, List, [], ◌∷◌, Bool, true, false, cond, not, Option, Some, None, refl, ap}
+use Rattle.std.proofs.Common.{◌≡◌, codes, ℕ, List, Bool, true, false, cond, not, Option, Some, None, refl, ap}
 use Rattle.std.specs.Option.{option_map}
 use Rattle.bit_values.specs.Bits.{cast as cast_number}
 use Rattle.lex_text.specs.Names.{same_text, parent}

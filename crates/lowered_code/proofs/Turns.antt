@@ -7,7 +7,7 @@ use Rattle.indus_tree.specs.declared.tree.DeclKind.{DeclKind}
 use Rattle.indus_tree.specs.declared.tree.DeclKind.TheVariants.{Tele, Sensor, Header, Control}
 use Rattle.lowered_code.specs.Expressions.{is_in}
 use Rattle.lowered_code.specs.Reads.{with_read, reads_by_kind, name_reads, reads, all_reads, keys_of}
-use Rattle.lowered_code.specs.Suiting.{SuitsName, Suits, AllSuit}
+use Rattle.lowered_code.specs.Suiting.{Suits, AllSuit}
 use Rattle.lowered_code.proofs.Lists.{in_more, in_last}
 use Rattle.lowered_code.proofs.Values.{IsKindRead, IsNameRead, Covers, AllCovered}
 

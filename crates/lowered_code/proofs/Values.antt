@@ -1,5 +1,5 @@
 -- An expression in P4 has the value that it has in the property, and the width of its own.
-use Rattle.std.proofs.Common.{◌≡◌, ℕ, ◌+◌, List, [], ◌∷◌, Bool, true, not, Option, Some, None, refl, sym, ap, ap₂, ◌∙◌, subst}
+use Rattle.std.proofs.Common.{◌≡◌, ℕ, ◌+◌, List, [], ◌∷◌, true, not, Option, Some, None, refl, sym, ap, ap₂, ◌∙◌, subst}
 use Rattle.bit_values.specs.Bits.{Word, IsWord}
 use Rattle.bit_values.specs.Widths.{bit, holds, either_width, sound_width, cast_word}
 use Rattle.bit_values.specs.Operators as table

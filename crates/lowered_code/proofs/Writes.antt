@@ -1,6 +1,6 @@
 -- What statements write: fields of variables of the packet, cells of sensors, the verdict and reports. Behind it the run stands
 -- for the state with what was written.
-use Rattle.std.proofs.Common.{◌≡◌, ℕ, suc, ◌≤◌, ◌<◌, List, [], ◌∷◌, ◌++◌, map, length, Bool, true, false, cond, ◌&&◌, not, Some, refl, sym, ap, ◌∙◌, subst, arith, append_assoc, append-nil, nat_lt}
+use Rattle.std.proofs.Common.{◌≡◌, ℕ, suc, ◌≤◌, ◌<◌, List, [], ◌∷◌, ◌++◌, map, length, Bool, true, false, cond, not, Some, refl, sym, ap, ◌∙◌, subst, arith, append_assoc, append-nil, nat_lt}
 use Rattle.std.specs.Prelude.{slice_set}
 use Rattle.std.specs.List.{filter}
 use Rattle.std.proofs.Math.Bool.{and-true}

@@ -27,7 +27,7 @@ abbrev pub put_sensor : Decl → (index value : p4.Expr) → Stmts
 put_sensor d i v =
     next
     (p4.call 0 (sensor_name d.name ∷ codes "write" ∷ [])
-        (p4.one 0 i ∷ p4.one 0 (turned (start_of d) (shape_width d.shape) (to_bits (value_type d.shape) v)) ∷ []))
+    (p4.one 0 i ∷ p4.one 0 (turned (start_of d) (shape_width d.shape) (to_bits (value_type d.shape) v)) ∷ []))
     done
 
 abbrev pub set_kind : Environment → DeclKind → Decl → List ℕ → p4.Expr → Stmts

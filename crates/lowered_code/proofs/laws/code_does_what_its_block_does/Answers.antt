@@ -1,6 +1,4 @@
 use Rattle.lowered_code.proofs.Statements.{block_runs}
-use Rattle.lowered_code.proofs.Variables.{vars_apart}
-use Rattle.lowered_code.proofs.Lengths.{block_keeps}
 use Rattle.lowered_code.proofs.laws.code_does_what_its_block_does.Goals as goal
 
 pub returns : goal.returns
