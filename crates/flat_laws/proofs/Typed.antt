@@ -68,7 +68,7 @@ wide_list t n h = good_type t (neither (bad_width t) (nat_eq n 0) (neither (bad_
 no_shape : (k : DeclKind) (s : Shape) → k ≡ Tele → misshapen Tele s ≡ true → misshapen k s ≡ false → ⊥
 no_shape k s e h n = let both : true ≡ false = sym h ∙ ap (λ q. misshapen q s) (sym e) ∙ n in cc
 
-shaped_well : (d : Decl) → IsFineDecl d → misshapen d.kind d.shape ≡ false
+pub shaped_well : (d : Decl) → IsFineDecl d → misshapen d.kind d.shape ≡ false
 shaped_well d f =
     (neither (misshapen d.kind d.shape) (ill_started d.kind d.start)
     (neither (misshapen d.kind d.shape || ill_started d.kind d.start) (ill_headed d.kind d.shape d.path d.valid) (f.fine KindDiffers)).0).0

@@ -8,14 +8,13 @@ use Rattle.lex_text.specs.Names.{same_text}
 use Rattle.indus_tree.specs.Tree as indus
 use Rattle.indus_tree.specs.Tree.{Expr, Exprs, num, flag, read as reads, count, index, member, negation, inversion, binary, cast, none, more, exprs_count, Shape, one, list, set, dict, Decl}
 use Rattle.indus_tree.specs.State.{lookup, shape_width, width_of}
-use Rattle.indus_tree.specs.Hops.{headers_in}
-use Rattle.indus_tree.specs.Shapes.{HasWidth}
 use Rattle.indus_tree.specs.declared.tree.DeclKind.{DeclKind}
 use Rattle.indus_tree.specs.declared.tree.DeclKind.TheVariants.{Tele, Sensor, Header, Control}
 use Rattle.indus_tree.specs.declared.tree.Op.{Op}
 use Rattle.indus_tree.specs.declared.tree.Op.TheVariants as op
 use Rattle.indus_tree.specs.declared.tree.Ty.{Ty}
 use Rattle.indus_tree.specs.declared.tree.Ty.TheVariants as ty
+use Rattle.indus_types.specs.Views.{header_widths, HaveWidths}
 use Rattle.flat_laws.specs.Meaning.{IsPlainProperty}
 use Rattle.monitor_laws.specs.Telemetry.{mark_field, AreApart}
 use Rattle.monitor_laws.specs.MonitorLaws.{IsView}
@@ -96,9 +95,9 @@ abbrev pub AreActionsApart : List Lookup → Type 0
 AreActionsApart [] = Unit {0}
 AreActionsApart (l ∷ ls) = AllByRecursion (λ m. same_text (action_name l.control l.number) (action_name m.control m.number) ≡ false) ls × AreActionsApart ls
 
--- the header variables have the widths with which they are declared
+-- the view has words of the widths with which the header variables are declared
 abbrev pub FitsView : Given → List Word → Type 0
-FitsView g view = (x : List ℕ) (c : Decl) → lookup (decls g) x ≡ Some c → c.kind ≡ Header → HasWidth (shape_width c.shape) (headers_in g.property.decls view x)
+FitsView g view = HaveWidths (header_widths g.property.decls) view
 
 -- truth values
 abbrev pub IsTest : Op → Type 0

@@ -7,15 +7,16 @@ use Rattle.bit_values.specs.Bits.{Word, word}
 use Rattle.lex_text.specs.Names.{same_text}
 use Rattle.indus_tree.specs.Tree as indus
 use Rattle.indus_tree.specs.Tree.{Shape, one, list, set, dict, Decl, Property, block_from}
-use Rattle.indus_tree.specs.State.{Contents, single, members, pairs, Held, lookup, shape_width, width_of, nothing_of}
+use Rattle.indus_tree.specs.State.{Contents, Held, lookup, shape_width, width_of, nothing_of}
 use Rattle.indus_tree.specs.Start.{start_word}
 use Rattle.indus_tree.specs.Reads.{scalar, or_word}
 use Rattle.indus_tree.specs.Hops.{variable_number, contents_in}
-use Rattle.indus_tree.specs.Shapes.{IsHeld, IsTeleCount, IsSensorCount, HasWidth}
+use Rattle.indus_tree.specs.Shapes.{IsHeld, IsTeleCount, IsSensorCount}
 use Rattle.indus_tree.specs.Law.{law_of}
 use Rattle.indus_tree.specs.declared.tree.DeclKind.{DeclKind}
 use Rattle.indus_tree.specs.declared.tree.DeclKind.TheVariants.{Tele, Sensor, Header, Control}
 use Rattle.indus_tree.specs.declared.tree.Ty.{Ty}
+use Rattle.indus_types.specs.StaticWidths.{GiveWidth}
 use Rattle.lower_lists.specs.Flat.{flat_of}
 use Rattle.flat_laws.specs.Numbered.{numbered}
 use Rattle.p4_tree.specs.Tree as p4
@@ -142,12 +143,6 @@ sets ds (l ∷ ls) v k held x =
     if same_text (table_name l.control l.number) x
     then (if is_number (variable_number ds l.decl.name) v then entries_for l k else held x)
     else sets ds ls v k held x
-
--- the values of a control variable have the width
-abbrev pub GiveWidth : ℕ → Contents → Type 0
-GiveWidth w (single x) = HasWidth w x
-GiveWidth w (members ks) = Unit {0}
-GiveWidth w (pairs es) = All (λ (e : List Word × Word). HasWidth w e.1) es
 
 module _ (g : Given) where
   abbrev pub decls : List Decl
