@@ -5,4 +5,5 @@ pub mod TelemetryWords
 pub mod HeaderWords
 pub mod Declarations
 pub mod TelemetryBytes
-pub mod CodeTyping
+pub mod CodeWidths
+pub mod CodeSuits

@@ -2,7 +2,7 @@ use Rattle.std.proofs.Common.{refl}
 use Rattle.whole_properties.proofs.TelemetryFields.{words_from, words_to, words_long}
 use Rattle.whole_properties.proofs.TelemetryWords.{tele_for}
 use Rattle.whole_properties.proofs.HeaderWords.{view_is}
-use Rattle.whole_properties.proofs.CodeTyping.{block_good}
+use Rattle.whole_properties.proofs.CodeSuits.{block_suits}
 use Rattle.whole_properties.proofs.TelemetryBytes.{telemetry_is_linked}
 use Rattle.whole_properties.proofs.laws.stand_in.Goals as goal
 
