@@ -1,2 +1,3 @@
--- What callers rest on.
+-- What callers rest on. To be read in this order.
 pub mod Tables
+pub mod Finding

@@ -1,0 +1,4 @@
+pub mod Acting
+pub mod Named
+pub mod Finding
+pub mod Holding
