@@ -7,3 +7,4 @@ pub mod Declarations
 pub mod TelemetryBytes
 pub mod CodeWidths
 pub mod CodeSuits
+pub mod Numbering
