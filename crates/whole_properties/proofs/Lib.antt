@@ -8,3 +8,8 @@ pub mod TelemetryBytes
 pub mod CodeWidths
 pub mod CodeSuits
 pub mod Numbering
+pub mod TextReads
+pub mod ReadCounts
+pub mod BlockCounts
+pub mod PlainNames
+pub mod Few

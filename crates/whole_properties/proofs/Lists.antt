@@ -1,16 +1,8 @@
--- What holds of each of a list's items.
+-- What holds of each of a list's items. `Served` of `lowered_code` has what holds of two lists together.
 use Rattle.std.proofs.Common.{List, [], ◌∷◌, ◌++◌, map}
 use Rattle.std.specs.List.{AllByRecursion}
 
 module _ {A : Type 0} where
-  pub all_left : (P : A → Type 0) (xs ys : List A) → AllByRecursion P (xs ++ ys) → AllByRecursion P xs
-  all_left P [] ys h = tt
-  all_left P (x ∷ xs) ys h = (h.0, all_left P xs ys h.1)
-
-  pub all_right : (P : A → Type 0) (xs ys : List A) → AllByRecursion P (xs ++ ys) → AllByRecursion P ys
-  all_right P [] ys h = h
-  all_right P (x ∷ xs) ys h = all_right P xs ys h.1
-
   pub all_both : (P : A → Type 0) (xs ys : List A) → AllByRecursion P xs → AllByRecursion P ys → AllByRecursion P (xs ++ ys)
   all_both P [] ys h k = k
   all_both P (x ∷ xs) ys h k = (h.0, all_both P xs ys h.1 k)

@@ -1,9 +1,8 @@
--- How many tables there are. Read `Whole` before it.
-use Rattle.std.specs.Prelude.{◌≡◌, ℕ, ◌+◌, ◌≤◌, ◌^◌, List, [], ◌∷◌, true}
+-- How many tables and how many numbers there are. Read `Asked` before it.
+use Rattle.std.specs.Prelude.{◌≡◌, ℕ, ◌+◌, ◌≤◌, List, [], ◌∷◌, true}
 use Rattle.indus_types.specs.Sums.{is_v, lookups as text_lookups, property_weight}
 use Rattle.lower_lists.specs.Names.{is_plain}
-use Rattle.lower_lists.specs.FlatProperty.{greatest_weight}
-use Rattle.flat_laws.specs.Sizes.{block_lists}
+use Rattle.flat_laws.specs.Meaning.{IsPlainProperty}
 use Rattle.lowered_code.specs.Statements.{block_end}
 use Rattle.lookup_tables.specs.Tables.{Lookup}
 use Rattle.whole_properties.specs.Whole.{Given, decls, check, check_first, lookups}
@@ -17,9 +16,6 @@ lookups_of v (l ∷ ls) = is_v v l.decl.name + lookups_of v ls
 abbrev pub TablesAreFew : Type 0
 TablesAreFew = (g : Given) (v : List ℕ) → is_plain v ≡ true → lookups_of v (lookups g) ≤ text_lookups g.property v
 
--- the numbers of what is read and written are no more than the nodes of the flat code, so they are few where the weight is one
--- that is made flat, and no loop walks very many lists
+-- no more numbers are spent than the property weighs
 abbrev pub NumbersAreFew : Type 0
-NumbersAreFew =
-    (g : Given) → property_weight g.property ≤ greatest_weight → block_lists g.property.init ≤ 2 ^ 32 → block_lists g.property.tele ≤ 2 ^ 32 → block_lists g.property.check ≤ 2 ^ 32 →
-    block_end (decls g) (check g) (check_first g) ≤ 2 ^ 64
+NumbersAreFew = (g : Given) → IsPlainProperty g.property → block_end (decls g) (check g) (check_first g) ≤ property_weight g.property

@@ -3,7 +3,8 @@ use Rattle.whole_properties.proofs.TelemetryFields.{words_from, words_to, words_
 use Rattle.whole_properties.proofs.TelemetryWords.{tele_for}
 use Rattle.whole_properties.proofs.HeaderWords.{view_is}
 use Rattle.whole_properties.proofs.CodeSuits.{block_suits}
-use Rattle.whole_properties.proofs.Numbering.{vars_differ}
+use Rattle.whole_properties.proofs.Numbering.{numbered_behind}
+use Rattle.whole_properties.proofs.Few.{tables_are_few, numbers_are_few}
 use Rattle.whole_properties.proofs.TelemetryBytes.{telemetry_is_linked}
 use Rattle.whole_properties.proofs.laws.stand_in.Goals as goal
 
