@@ -16,13 +16,13 @@ use Rattle.indus_tree.specs.Reads.{single_word}
 use Rattle.indus_tree.specs.Keys.{same_words, held_in, found, found_in}
 use Rattle.indus_tree.specs.Shapes.{HasWidth}
 use Rattle.indus_tree.specs.declared.tree.Ty.{Ty}
+use Rattle.indus_types.specs.StaticWidths.{GiveWidth}
 use Rattle.control_tables.specs.Laws.{chosen_in, first_or, given_in, OfChosen}
 use Rattle.control_tables.proofs.Lookups.{choice_is_lookup}
 use Rattle.lookup_names.specs.Names.{found_name}
 use Rattle.lookup_names.specs.Keys.{key_types}
 use Rattle.lowered_code.specs.Names.{table_name, action_name}
 use Rattle.lowered_code.specs.Statements.{Var}
-use Rattle.lowered_code.specs.Standing.{GiveWidth}
 use Rattle.lowered_code.specs.Lookups.{IsLookup, looked_up, AreKeys, Scratch, Applied}
 use Rattle.lowered_code.proofs.Widths.{nothing_has}
 use Rattle.lowered_code.proofs.Scratch.{scratch_same}

@@ -7,11 +7,11 @@ use Rattle.lex_text.specs.Names.{same_text}
 use Rattle.indus_tree.specs.Tree.{Shape, one, set, dict, Decl}
 use Rattle.indus_tree.specs.State.{Contents, single, members, pairs, shape_width}
 use Rattle.p4_meaning.specs.Tables.{Chosen, Tables, calls_in}
+use Rattle.indus_types.specs.StaticWidths.{GiveWidth}
 use Rattle.table_entries.specs.Entries.{named, Act}
 use Rattle.control_tables.specs.Contents as contents
 use Rattle.lowered_code.specs.Names.{table_name, action_name, argument_name}
 use Rattle.lowered_code.specs.Statements.{Var}
-use Rattle.lowered_code.specs.Standing.{GiveWidth}
 use Rattle.lowered_code.specs.Lookups.{IsLookup, Applies}
 use Rattle.lookup_tables.specs.Tables.{Lookup, no_action, table_for, action_for, entries_for}
 

@@ -10,7 +10,8 @@ use Rattle.indus_tree.specs.Meaning.{seen_by}
 use Rattle.indus_tree.specs.Value.{value_of}
 use Rattle.indus_tree.specs.Words.{GiveWords, SeesWords}
 use Rattle.indus_tree.proofs.WordsLemmas.{value_word}
-use Rattle.lowered_code.specs.Standing.{GiveWidth, HopFits}
+use Rattle.indus_types.specs.StaticWidths.{GiveWidth}
+use Rattle.lowered_code.specs.Standing.{HopFits}
 use Rattle.lowered_code.proofs.Widths.{width_is_word}
 
 give_words : (w : ℕ) (c : Contents) → GiveWidth w c → GiveWords c

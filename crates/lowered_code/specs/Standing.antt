@@ -1,16 +1,17 @@
 -- What holds between two statements of lowered code: a run stands for a state of the property's. Read `Statements` and
 -- `Suiting` before it.
-use Rattle.std.specs.Prelude.{◌≡◌, codes, ℕ, List, [], ◌∷◌, ◌++◌, map, Bool, true, Some, None, All}
+use Rattle.std.specs.Prelude.{◌≡◌, codes, ℕ, List, [], ◌∷◌, ◌++◌, map, Bool, true, Some, None}
 use Rattle.std.specs.List.{AllByRecursion, filter}
 use Rattle.bit_values.specs.Bits.{Word}
 use Rattle.bit_values.specs.Widths.{bit, sound_width}
 use Rattle.network_run.specs.PathMeaning.{Doing}
 use Rattle.indus_tree.specs.Tree.{Decl}
-use Rattle.indus_tree.specs.State.{Contents, single, members, pairs, Hop, Held, lookup, shape_width}
+use Rattle.indus_tree.specs.State.{Hop, Held, lookup, shape_width}
 use Rattle.indus_tree.specs.Start.{start_word}
 use Rattle.indus_tree.specs.Reads.{scalar}
 use Rattle.indus_tree.specs.Shapes.{HasWidth, AreShaped}
 use Rattle.indus_tree.specs.declared.tree.DeclKind.TheVariants.{Tele, Sensor, Header, Control}
+use Rattle.indus_types.specs.StaticWidths.{GiveWidth}
 use Rattle.p4_meaning.specs.Standard.{headers_root}
 use Rattle.p4_meaning.specs.Store.{Store}
 use Rattle.p4_meaning.specs.Value as p4v
@@ -49,12 +50,6 @@ fill_path = headers_root ∷ codes "hydra_tele" ∷ codes "hydra_fill" ∷ []
 
 abbrev pub HasWidths : List Var → Store → Type 0
 HasWidths vars s = AllByRecursion (λ l. (s.values (l.1 ∷ [])).width ≡ sound_width (p4v.width_of l.0)) vars
-
--- the values of a control variable have the width
-abbrev pub GiveWidth : ℕ → Contents → Type 0
-GiveWidth w (single x) = HasWidth w x
-GiveWidth w (members ks) = Unit {0}
-GiveWidth w (pairs es) = All (λ (e : List Word × Word). HasWidth w e.1) es
 
 -- what a hop shows has the declared widths
 pub record HopFits (h : Hop) : Type 0 where

@@ -27,10 +27,12 @@ use Rattle.monitor_laws.specs.Telemetry.{mark_field, AreApart}
 use Rattle.lookup_names.specs.Keys.{key_types}
 use Rattle.lowered_code.specs.Names.{tele_name}
 use Rattle.lowered_code.specs.Statements.{kept_types}
+use Rattle.lowered_code.specs.Suiting.{IsScalar}
+use Rattle.lowered_code.specs.Lookups.{IsLookup}
 use Rattle.whole_properties.specs.Whole.{tele_field, tele_fields, fill_field}
-use Rattle.whole_properties.specs.Asked.{IsScalar, IsLookup, AreOnce, IsShort, AreTele}
 use Rattle.whole_properties.proofs.Lists.{all_both, all_weaker, all_given}
-use Rattle.whole_properties.proofs.Once.{found_all, name_found, each_found}
+use Rattle.whole_properties.proofs.Once.{AreOnce, found_all, name_found, each_found}
+use Rattle.whole_properties.proofs.TelemetryWords.{IsShort, AreTele}
 
 pub clash : {A : Type 0} → true ≡ false → A
 clash e = absurd (cc e)

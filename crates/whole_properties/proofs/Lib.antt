@@ -13,3 +13,5 @@ pub mod ReadCounts
 pub mod BlockCounts
 pub mod PlainNames
 pub mod Few
+pub mod FlatForms
+pub mod Kept

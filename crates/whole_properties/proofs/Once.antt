@@ -6,8 +6,12 @@ use Rattle.indus_tree.specs.Tree.{Decl}
 use Rattle.indus_tree.specs.State.{lookup}
 use Rattle.own_code.proofs.Apart.{text_decides}
 use Rattle.flat_laws.proofs.NameLemmas.{same_self, apart}
-use Rattle.whole_properties.specs.Asked.{AreOnce}
 use Rattle.whole_properties.proofs.Lists.{all_weaker}
+
+-- each name is declared once
+abbrev pub AreOnce : List Decl → Type 0
+AreOnce [] = Unit {0}
+AreOnce (d ∷ ds) = (lookup ds d.name ≡ None) × AreOnce ds
 
 -- what holds of all declarations holds of one that is found
 pub found_all : (P : Decl → Type 0) (ds : List Decl) → AllByRecursion P ds → (x : List ℕ) (c : Decl) → lookup ds x ≡ Some c → P c

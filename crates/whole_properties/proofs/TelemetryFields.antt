@@ -19,8 +19,7 @@ use Rattle.monitor_laws.specs.Names.{tele_header}
 use Rattle.monitor_laws.specs.Telemetry.{HasWords}
 use Rattle.lowered_code.specs.Names.{tele_name}
 use Rattle.whole_properties.specs.Whole.{tele_field, tele_fields, item_words, shape_words, kind_words, tele_words}
-use Rattle.whole_properties.specs.Asked.{AreOnce}
-use Rattle.whole_properties.proofs.Once.{first_found, other_name, behind_found}
+use Rattle.whole_properties.proofs.Once.{AreOnce, first_found, other_name, behind_found}
 
 -- the field of a numbered scalar
 abbrev pub scalar_path : List ℕ → List (List ℕ)

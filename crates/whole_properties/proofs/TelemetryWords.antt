@@ -3,6 +3,7 @@ use Rattle.std.proofs.Common.{◌≡◌, ℕ, zero, suc, ◌+◌, ◌≤◌, ◌
 use Rattle.std.specs.Prelude.{slice_get}
 use Rattle.std.proofs.lemmas.List.Elements.{All-head, All-get_or}
 use Rattle.std.proofs.lemmas.Option.{slice_get_within, get_or_from_slice_get}
+use Rattle.std.specs.List.{AllByRecursion}
 use Rattle.bit_values.specs.Bits.{Word, word}
 use Rattle.bit_values.specs.Widths.{sound_width}
 use Rattle.p4_meaning.specs.Parsing.{Field}
@@ -18,9 +19,19 @@ use Rattle.indus_tree.specs.declared.tree.Ty.{Ty}
 use Rattle.flat_laws.specs.Numbered.{scalar_decl, item_decls, numbered_shape, numbered_kind, numbered_from}
 use Rattle.monitor_laws.specs.Telemetry.{AreFor, zeros}
 use Rattle.whole_properties.specs.Whole.{tele_fields, item_words, shape_words, kind_words, tele_words, fill_field}
-use Rattle.whole_properties.specs.Asked.{AreOnce, IsShort, AreTele}
-use Rattle.whole_properties.proofs.Once.{first_found, behind_found}
+use Rattle.whole_properties.proofs.Once.{AreOnce, first_found, behind_found}
 use Rattle.whole_properties.proofs.TelemetryFields.{fields_of_both, no_field}
+
+-- a list holds at most 255
+abbrev pub IsShort : Shape → Type 0
+IsShort (one t) = Unit {0}
+IsShort (list t n) = n < 256
+IsShort (set ks) = Unit {0}
+IsShort (dict ks t) = Unit {0}
+
+-- of the packet's variables widths are sound, and lists short
+abbrev pub AreTele : List Decl → Type 0
+AreTele = AllByRecursion (λ d. d.kind ≡ Tele → (sound_width (shape_width d.shape) ≡ shape_width d.shape) × IsShort d.shape)
 
 -- ---- words fit
 
