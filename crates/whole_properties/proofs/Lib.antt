@@ -15,3 +15,4 @@ pub mod PlainNames
 pub mod Few
 pub mod FlatForms
 pub mod Kept
+pub mod Facts

@@ -15,6 +15,6 @@ module _ {A : Type 0} where
   all_given P f [] = tt
   all_given P f (x ∷ xs) = (f x, all_given P f xs)
 
-pub all_mapped : {A B : Type 0} (f : A → B) (P : B → Type 0) (xs : List A) → AllByRecursion (λ x. P (f x)) xs → AllByRecursion P (map f xs)
-all_mapped f P [] h = tt
-all_mapped f P (x ∷ xs) h = (h.0, all_mapped f P xs h.1)
+pub all_unmapped : {A B : Type 0} (f : A → B) (P : B → Type 0) (xs : List A) → AllByRecursion P (map f xs) → AllByRecursion (λ x. P (f x)) xs
+all_unmapped f P [] h = tt
+all_unmapped f P (x ∷ xs) h = (h.0, all_unmapped f P xs h.1)
