@@ -16,3 +16,6 @@ pub mod Few
 pub mod FlatForms
 pub mod Kept
 pub mod Facts
+pub mod Parts
+pub mod Entry
+pub mod Exit
