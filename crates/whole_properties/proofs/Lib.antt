@@ -19,3 +19,4 @@ pub mod Facts
 pub mod Parts
 pub mod Entry
 pub mod Exit
+pub mod MonitorLaws

@@ -1,4 +1,4 @@
--- The telemetry of the monitor is that of the layout. Read `Whole` before it.
+-- The telemetry of the monitor is that of the layout. Read `Asked` before it.
 use Rattle.std.specs.Prelude.{◌≡◌}
 use Rattle.indus_tree.specs.State.{Held}
 use Rattle.monitor_laws.specs.Telemetry.{tele_bytes as linked_bytes}
