@@ -1,0 +1,3 @@
+-- What callers rest on.
+pub mod WholeLaws
+pub mod Views
