@@ -1,5 +1,5 @@
 -- How often a block of flat code reads: no more often than its text, each of its loops' turns counted.
-use Rattle.std.proofs.Common.{◌≡◌, ℕ, zero, suc, ◌+◌, ◌*◌, ◌≤◌, List, [], ◌∷◌, ◌++◌, map, length, true, Option, Some, None, refl, arith}
+use Rattle.std.proofs.Common.{◌≡◌, ℕ, zero, suc, ◌+◌, ◌*◌, ◌≤◌, List, [], ◌∷◌, ◌++◌, map, length, true, Option, Some, None, arith}
 use Rattle.std.specs.Prelude.{slice_index}
 use Rattle.indus_tree.specs.Tree as indus
 use Rattle.indus_tree.specs.Tree.{Expr, Exprs, flag, read, binary, Decl, block_from}

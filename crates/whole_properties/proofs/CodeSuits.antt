@@ -16,14 +16,14 @@ use Rattle.indus_tree.specs.declared.tree.DeclKind.{DeclKind}
 use Rattle.indus_tree.specs.declared.tree.DeclKind.TheVariants.{Tele, Sensor, Header, Control}
 use Rattle.indus_tree.specs.declared.tree.Ty.{Ty}
 use Rattle.indus_tree.specs.declared.tree.Ty.TheVariants as ty
-use Rattle.indus_scopes.specs.Kinds.{kind_of, join, as_number, kinds_differ, left_want, right_want}
-use Rattle.indus_scopes.specs.Scopes.{Sight, Stands, builtin, builtin_of, role_from, scalar_kind, element_kind, read_kind, index_kind, own}
+use Rattle.indus_scopes.specs.Kinds.{kind_of}
+use Rattle.indus_scopes.specs.Scopes.{Sight, Stands, builtin, builtin_of, role_from, scalar_kind, element_kind, read_kind, index_kind}
 use Rattle.indus_scopes.specs.Uses.{is_missing, is_hop, is_scalar, is_array, is_dict, is_one, as_many, reads, indexed, shape_indexed, may_hold, shape_holds, may_index, kind_writable, writable}
 use Rattle.indus_scopes.specs.declared.kind.Kind.{Kind}
 use Rattle.indus_scopes.specs.declared.kind.Kind.TheVariants.{Number, Truth}
 use Rattle.indus_scopes.specs.declared.scope.Block.{Block}
-use Rattle.indus_rules.specs.Sites.{Wants, keys, free, head_want, tail_wants, shape_index_wants, shape_member_wants, index_wants, member_wants, expr_sites, all_sites, stmt_sites, block_sites}
-use Rattle.indus_rules.specs.Rules.{Fine, bad_width, bad_widths, bad_shape, misshapen, ill_used, is_init, is_check}
+use Rattle.indus_rules.specs.Sites.{Wants, keys, free, shape_index_wants, shape_member_wants, index_wants, member_wants, expr_sites, all_sites, stmt_sites, block_sites}
+use Rattle.indus_rules.specs.Rules.{Fine, bad_width, bad_widths, bad_shape, misshapen, is_init, is_check}
 use Rattle.indus_rules.specs.declared.rule.Rule.TheVariants.{NoSuchName, KindDiffers, NotWritable, WrongBlock, BadSize}
 use Rattle.indus_types.specs.Sums.{shape_is_list, found_list}
 use Rattle.indus_types.specs.StaticWidths.{IsSound, ShowsDeclared, SeesDeclared}

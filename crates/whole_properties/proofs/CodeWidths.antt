@@ -8,7 +8,7 @@ use Rattle.bit_values.specs.Operators.{Class, like, shift, joined, compare, logi
 use Rattle.bit_values.specs.Widths.{either_width, sound_width, cast_word}
 use Rattle.indus_tree.specs.Tree.{Expr, Exprs, num, flag, read, count, index, member, negation, inversion, binary, cast, Decl}
 use Rattle.indus_tree.specs.State.{lookup, held_width}
-use Rattle.indus_tree.specs.Reads.{Seen, name_word}
+use Rattle.indus_tree.specs.Reads.{Seen}
 use Rattle.indus_tree.specs.Keys.{at_key, widths_for, index_widths}
 use Rattle.indus_tree.specs.Operators.{class_of, operate}
 use Rattle.indus_tree.specs.Value.{own_width, value_of, key_of}
@@ -17,8 +17,8 @@ use Rattle.indus_tree.specs.declared.tree.Op.TheVariants as op
 use Rattle.indus_tree.specs.declared.tree.Ty.{Ty}
 use Rattle.indus_tree.specs.declared.tree.Ty.TheVariants as ty
 use Rattle.indus_scopes.specs.Kinds.{kind_of, join, as_number, kinds_differ, widths_differ, class_kind}
-use Rattle.indus_scopes.specs.Scopes.{Sight, role_from, item_of, builtin_of, role_of, read_kind, index_kind, own}
-use Rattle.indus_scopes.specs.Uses.{is_missing, reads, indexed}
+use Rattle.indus_scopes.specs.Scopes.{Sight, role_from, item_of, builtin_of, own}
+use Rattle.indus_scopes.specs.Uses.{is_missing, indexed}
 use Rattle.indus_scopes.specs.declared.kind.Kind.{Kind}
 use Rattle.indus_scopes.specs.declared.kind.Kind.TheVariants.{Number, Truth, Unknown}
 use Rattle.indus_rules.specs.Sites.{expr_sites}

@@ -1,5 +1,5 @@
 -- The entry part of a whole property.
-use Rattle.std.proofs.Common.{◌≡◌, List, [], Bool, true, false, refl}
+use Rattle.std.proofs.Common.{◌≡◌, List, [], true, false, refl}
 use Rattle.std.specs.List.{AllByRecursion}
 use Rattle.p4_meaning.specs.Statements.{Run, Calls, meaning_of}
 use Rattle.p4_meaning.specs.Tables.{Tables}
@@ -13,12 +13,12 @@ use Rattle.flat_laws.proofs.Whole.{flat_does_the_same}
 use Rattle.monitor_laws.specs.Monitor.{fields_of}
 use Rattle.monitor_laws.specs.MonitorLaws.{MeansTops, StandsFor, Does, Flags}
 use Rattle.lowered_code.specs.Environment.{on_switch}
-use Rattle.lowered_code.specs.Statements.{Var, block_code, block_vars}
+use Rattle.lowered_code.specs.Statements.{Var, block_code}
 use Rattle.lowered_code.proofs.Served.{all_left}
 use Rattle.lowered_code.proofs.Statements.{block_runs}
 use Rattle.lookup_tables.specs.Tables.{Lookup}
 use Rattle.lookup_tables.specs.Finding.{IsSpare}
-use Rattle.whole_properties.specs.Whole.{Given, decls, init, tele, check, tele_first, check_first, lookups_of, lookups, lower_monitor, IsFitTele, Keeps}
+use Rattle.whole_properties.specs.Whole.{Given, decls, init, lookups_of, lookups, lower_monitor, IsFitTele, Keeps}
 use Rattle.whole_properties.specs.Asked.{IsGiven, FitsView}
 use Rattle.whole_properties.proofs.Facts.{few_tele, init_suits}
 use Rattle.whole_properties.proofs.Parts as parts

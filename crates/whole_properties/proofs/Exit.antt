@@ -1,29 +1,29 @@
 -- The exit part of a whole property.
-use Rattle.std.proofs.Common.{◌≡◌, List, [], ◌∷◌, ◌++◌, Bool, true, false, cond, refl, sym, ap, ap₂, ◌∙◌, subst}
+use Rattle.std.proofs.Common.{◌≡◌, List, [], ◌∷◌, Bool, true, false, cond, refl, sym, ap, ap₂, ◌∙◌, subst}
 use Rattle.std.specs.List.{AllByRecursion}
 use Rattle.bit_values.specs.Bits.{Word}
 use Rattle.bit_values.specs.Widths.{bit, sound_width, cast_word}
 use Rattle.p4_tree.specs.Tree as p4
 use Rattle.p4_tree.specs.Tree.{Stmts, done, next, and_then}
-use Rattle.p4_meaning.specs.Store.{Store, read, shown, set_value}
+use Rattle.p4_meaning.specs.Store.{read, shown, set_value}
 use Rattle.p4_meaning.specs.Statements.{Run, in_store, Calls, meaning_of_stmt, meaning_of}
 use Rattle.p4_meaning.specs.Tables.{Tables}
 use Rattle.network_run.specs.PathMeaning.{Reads, Doing, nothing_yet, exit_part}
 use Rattle.indus_tree.specs.Tree.{Property}
-use Rattle.indus_tree.specs.State.{Contents, Hop, Held}
+use Rattle.indus_tree.specs.State.{Contents, Held}
 use Rattle.indus_tree.specs.Shapes.{AreShaped}
 use Rattle.indus_tree.specs.Meaning.{block_run, run_of}
 use Rattle.indus_tree.specs.Law.{hop_for, law_of}
 use Rattle.indus_tree.proofs.ShapesLemmas.{block_keeps}
-use Rattle.flat_laws.specs.Numbered.{numbered_hop, Numbers}
+use Rattle.flat_laws.specs.Numbered.{Numbers}
 use Rattle.flat_laws.proofs.Whole.{flat_does_the_same}
 use Rattle.monitor_laws.specs.Names.{last_name, rejected_name}
 use Rattle.monitor_laws.specs.Monitor.{fields_of}
 use Rattle.monitor_laws.specs.MonitorLaws.{MeansTops, StandsFor, Does, Flags}
 use Rattle.lookup_names.specs.Keys.{variable}
 use Rattle.lowered_code.specs.Environment.{on_switch}
-use Rattle.lowered_code.specs.Statements.{Var, block_code, block_vars, block_numbers, vars_in}
-use Rattle.lowered_code.specs.Standing.{Setting, HasWidths, Begins, Stands, Ends}
+use Rattle.lowered_code.specs.Statements.{Var, block_code, block_vars}
+use Rattle.lowered_code.specs.Standing.{Setting, Begins, Stands, Ends}
 use Rattle.lowered_code.proofs.Steps.{step, steps, alone, sets, chosen}
 use Rattle.lowered_code.proofs.Served.{all_left, all_right}
 use Rattle.lowered_code.proofs.Statements.{block_runs}

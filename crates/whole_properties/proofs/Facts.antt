@@ -1,19 +1,17 @@
 -- What holds of a property that is given, all by the rules of types and its weight.
-use Rattle.std.proofs.Common.{◌≡◌, ℕ, ◌+◌, ◌-◌, ◌*◌, ◌≤◌, ◌^◌, List, [], ◌∷◌, ◌++◌, map, length, Bool, true, false, Option, Some, None, refl, sym, ap, ◌∙◌, subst, arith, append-nil}
+use Rattle.std.proofs.Common.{◌≡◌, ℕ, ◌+◌, ◌-◌, ◌*◌, ◌≤◌, ◌^◌, List, [], ◌∷◌, ◌++◌, length, true, false, Some, refl, sym, ◌∙◌, subst, arith, append-nil}
 use Rattle.std.specs.List.{AllByRecursion}
-use Rattle.bit_values.specs.Bits.{Word}
 use Rattle.bit_values.specs.Widths.{sound_width}
 use Rattle.p4_meaning.specs.Parsing.{width_sum}
 use Rattle.network_run.specs.PathMeaning.{Reads}
 use Rattle.indus_tree.specs.Tree as indus
 use Rattle.indus_tree.specs.Tree.{Decl, Property}
-use Rattle.indus_tree.specs.State.{Contents, single, members, pairs, Held, Hop, lookup, shape_width}
+use Rattle.indus_tree.specs.State.{Contents, members, Held, Hop, lookup, shape_width}
 use Rattle.indus_tree.specs.Law.{hop_for}
 use Rattle.indus_tree.specs.declared.tree.DeclKind.{DeclKind}
 use Rattle.indus_tree.specs.declared.tree.DeclKind.TheVariants.{Tele, Sensor, Header, Control}
-use Rattle.indus_scopes.specs.declared.scope.Block.{Block}
 use Rattle.indus_scopes.specs.declared.scope.Block.TheVariants as block
-use Rattle.indus_rules.specs.Rules.{IsWellTyped, is_init}
+use Rattle.indus_rules.specs.Rules.{IsWellTyped}
 use Rattle.indus_types.specs.StaticWidths.{ShowsDeclared}
 use Rattle.indus_types.specs.Views.{GiveDeclared, HoldDeclared}
 use Rattle.indus_types.proofs.Checked.{each_fine}
@@ -26,11 +24,11 @@ use Rattle.flat_laws.proofs.FineProperty.{flat_code_is_well_typed}
 use Rattle.monitor_laws.specs.Telemetry.{AreFor, AreApart, mark_field, zeros}
 use Rattle.monitor_laws.specs.MonitorLaws.{IsView}
 use Rattle.lowered_code.specs.Environment.{view_of}
-use Rattle.lowered_code.specs.Statements.{kept_types, block_end, block_numbers, lookups_in, block_lookups}
+use Rattle.lowered_code.specs.Statements.{kept_types, block_end, block_numbers, block_lookups}
 use Rattle.lowered_code.specs.Suiting.{IsScalar, BlockSuits}
 use Rattle.lowered_code.specs.Standing.{HopFits}
 use Rattle.lowered_code.specs.Lookups.{IsLookup}
-use Rattle.lowered_code.proofs.Rising.{block_rises, AreReads, lookups_rising, block_read}
+use Rattle.lowered_code.proofs.Rising.{block_rises, lookups_rising, block_read}
 use Rattle.lookup_tables.specs.Tables.{Lookup}
 use Rattle.lookup_tables.specs.Finding.{AreNumbered}
 use Rattle.whole_properties.specs.Whole.{Given, view_in, views_in, tele_fields, tele_words, tele_room, fill_fields, decls, init, tele, check, tele_first, check_first, lookups_of, lookups, fields, words, IsFitTele, FitContents}

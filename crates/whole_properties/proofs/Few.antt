@@ -1,8 +1,6 @@
 -- Tables and numbers are few.
 use Rattle.std.proofs.Common.{◌≡◌, ℕ, zero, suc, ◌+◌, ◌≤◌, List, [], ◌∷◌, ◌++◌, map, length, Bool, true, false, if◌then◌else◌, ◌||◌, Option, Some, None, refl, sym, ap, ◌∙◌, subst, arith, nat_eq, nat_lt}
 use Rattle.std.specs.List.{AllByRecursion}
-use Rattle.std.proofs.lemmas.List.{length-append}
-use Rattle.lex_text.specs.Names.{same_text}
 use Rattle.indus_tree.specs.Tree as indus
 use Rattle.indus_tree.specs.Tree.{Expr, Exprs, num, flag, read, count, index, member, negation, inversion, binary, cast, Shape, one, list, set, dict, Decl, Property, block_from}
 use Rattle.indus_tree.specs.State.{lookup, shape_size}
@@ -13,14 +11,14 @@ use Rattle.indus_types.specs.Sums.{is_v, size_in, size_of, found_list, shape_is_
 use Rattle.indus_types.proofs.Widths.{neither}
 use Rattle.lower_lists.specs.Names.{item_name, count_name, is_plain}
 use Rattle.lower_lists.specs.Flat.{flat_of}
-use Rattle.flat_laws.specs.Numbered.{ArePlain, scalar_decl, numbered}
+use Rattle.flat_laws.specs.Numbered.{ArePlain, numbered}
 use Rattle.lowered_code.specs.Expressions.{read_decl}
-use Rattle.lowered_code.specs.Reads.{reads_by_kind, name_reads, reads}
+use Rattle.lowered_code.specs.Reads.{reads_by_kind, name_reads}
 use Rattle.lowered_code.specs.Statements.{stmt_reads, behind, stmt_end, block_end, control_kind, read_lookups, numbered_reads, stmt_numbers, block_numbers, lookups_in, block_lookups}
 use Rattle.lowered_code.proofs.LookupReads.{lookup_name}
 use Rattle.lowered_code.proofs.Served.{lookups_both}
 use Rattle.lookup_tables.specs.Tables.{Lookup}
-use Rattle.whole_properties.specs.Whole.{Given, decls, init, tele, check, tele_first, check_first}
+use Rattle.whole_properties.specs.Whole.{decls, init, tele, check, tele_first, check_first}
 use Rattle.whole_properties.specs.Few.{lookups_of, TablesAreFew, NumbersAreFew}
 use Rattle.whole_properties.proofs.Once.{found_all, name_found}
 use Rattle.whole_properties.proofs.Declarations.{shapely, numbered_all}

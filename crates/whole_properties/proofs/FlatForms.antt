@@ -1,14 +1,13 @@
 -- Flat code is flat over what flat code declares, and its reports are those of the text.
-use Rattle.std.proofs.Common.{◌≡◌, ℕ, zero, suc, ◌<◌, List, [], ◌∷◌, ◌++◌, map, Bool, true, false, Option, Some, None, refl, sym, ap, ◌∙◌}
+use Rattle.std.proofs.Common.{◌≡◌, ℕ, zero, suc, List, [], ◌∷◌, ◌++◌, map, false, Option, Some, None, refl, sym, ap, ◌∙◌}
 use Rattle.indus_tree.specs.Tree.{Shape, one, list, set, dict, Expr, Exprs, none, more, num, flag, read, count, index, member, negation, inversion, binary, cast, Stmt, Stmts, assign, cell, push, choice, loop, reject, report, done, next, block_from, Decl}
 use Rattle.indus_tree.specs.State.{lookup}
 use Rattle.indus_tree.specs.Reports.{BlockReportsBelow, ReportsBelow}
 use Rattle.indus_tree.specs.declared.tree.DeclKind.{DeclKind}
 use Rattle.indus_tree.specs.declared.tree.DeclKind.TheVariants.{Tele, Sensor, Header, Control}
-use Rattle.indus_tree.specs.declared.tree.Ty.{Ty}
 use Rattle.indus_types.specs.Sums.{shape_is_list, found_list, is_list, smallest}
 use Rattle.lower_lists.specs.Names.{item_name}
-use Rattle.lower_lists.specs.Flat.{list_of, list_number, moves, move, clear, count_more, pushed, push_to, flat_push, bound_to, all_have, distinct, turns, flat_stmt, flat_block, flat_expr}
+use Rattle.lower_lists.specs.Flat.{list_of, list_number, moves, move, clear, count_more, push_to, flat_push, bound_to, all_have, distinct, turns, flat_stmt, flat_block, flat_expr}
 use Rattle.lower_lists.specs.declared.place.ListPlace.{ListPlace}
 use Rattle.lower_lists.specs.declared.place.Bound.{Bound}
 use Rattle.flat_laws.specs.Form.{IsFlatExpr, AreFlatExprs, IsFlatStmt, IsFlatBlock}

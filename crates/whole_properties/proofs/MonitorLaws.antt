@@ -4,7 +4,6 @@ use Rattle.std.specs.List.{AllByRecursion}
 use Rattle.lex_text.specs.Names.{same_text}
 use Rattle.p4_tree.specs.Tree.{next, done}
 use Rattle.p4_meaning.specs.Parsing.{Field, width_sum}
-use Rattle.indus_tree.specs.Tree as indus
 use Rattle.indus_tree.specs.Tree.{Decl, Property}
 use Rattle.indus_tree.specs.Start.{tele_start, start_of_decl}
 use Rattle.indus_tree.specs.declared.tree.DeclKind.{DeclKind}
@@ -19,7 +18,7 @@ use Rattle.monitor_laws.specs.MonitorLaws.{MonitorLaws}
 use Rattle.lookup_names.specs.Names.{found_name, key_name}
 use Rattle.lowered_code.specs.Names.{argument_name}
 use Rattle.lowered_code.specs.Environment.{on_switch}
-use Rattle.lowered_code.specs.Statements.{Var, block_code, block_end, block_numbers, block_vars, vars_in}
+use Rattle.lowered_code.specs.Statements.{Var, block_code, block_end, block_numbers, vars_in}
 use Rattle.lowered_code.proofs.Rising.{block_read, reads_both}
 use Rattle.lowered_code.proofs.Served.{vars_both}
 use Rattle.lowered_code.proofs.Variables.{each_name, vars_apart}
@@ -29,7 +28,7 @@ use Rattle.lookup_tables.specs.Finding.{IsSpare}
 use Rattle.whole_properties.specs.Whole.{Given, tele_fields, tele_room, fill_field, fill_fields, register_in, registers_in, decls, init, tele, check, tele_first, check_first, lookups, checks, lower_monitor, IsFitTele, Keeps, IsVariable, IsFitContents}
 use Rattle.whole_properties.specs.Asked.{IsGiven, FitsView}
 use Rattle.whole_properties.proofs.TelemetryWords.{tele_zero, zeros_both}
-use Rattle.whole_properties.proofs.Facts.{once, few_parts, fitting, apart, few, few_check, few_tele, lookups_numbered}
+use Rattle.whole_properties.proofs.Facts.{once, few_parts, fitting, apart, few, few_tele, lookups_numbered}
 use Rattle.whole_properties.proofs.Kept.{loads_others, sets_others, keeps_same, keeps_named, keeps_set, keeps_start, shown}
 use Rattle.whole_properties.proofs.Entry.{entry_does}
 use Rattle.whole_properties.proofs.Exit.{exit_does, exit_verdict}

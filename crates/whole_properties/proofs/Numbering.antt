@@ -1,5 +1,5 @@
 -- The lookups of blocks have numbers one behind the other, whatever controls they are in.
-use Rattle.std.proofs.Common.{◌≡◌, ℕ, suc, ◌+◌, ◌≤◌, List, [], ◌∷◌, ◌++◌, map, arith}
+use Rattle.std.proofs.Common.{ℕ, suc, ◌≤◌, List, [], ◌∷◌, ◌++◌, map, arith}
 use Rattle.indus_tree.specs.Tree.{Decl}
 use Rattle.lowered_code.proofs.Rising.{AreRising}
 use Rattle.lookup_tables.specs.Tables.{Lookup}

@@ -1,5 +1,5 @@
 -- A part of a property: with which state it begins, what serves its reads, and what its end says of the monitor.
-use Rattle.std.proofs.Common.{◌≡◌, codes, ℕ, zero, suc, ◌<◌, ◌≤◌, ◌^◌, List, [], ◌∷◌, ◌++◌, map, length, Bool, true, false, Option, Some, None, refl, sym, ap, ap₂, ◌∙◌, subst, arith, append-nil}
+use Rattle.std.proofs.Common.{◌≡◌, ℕ, zero, suc, ◌<◌, ◌^◌, List, [], ◌∷◌, ◌++◌, map, Bool, true, false, Option, Some, None, refl, sym, ap, ◌∙◌, subst, arith, append-nil}
 use Rattle.std.specs.List.{filter, AllByRecursion}
 use Rattle.std.proofs.lemmas.List.Elements.{All-nil, All-cons}
 use Rattle.bit_values.specs.Bits.{Word}
@@ -8,7 +8,7 @@ use Rattle.p4_meaning.specs.Store.{Store}
 use Rattle.p4_meaning.specs.Value as p4v
 use Rattle.p4_meaning.specs.Statements.{Run, Ended, Calls}
 use Rattle.p4_meaning.specs.Parsing.{Field}
-use Rattle.p4_meaning.specs.Tables.{Tables, calls_in}
+use Rattle.p4_meaning.specs.Tables.{Tables}
 use Rattle.p4_meaning.proofs.Words.{sound, sound_wide, sound_narrow}
 use Rattle.network_run.specs.PathMeaning.{Reads, Doing, nothing_yet}
 use Rattle.indus_tree.specs.Tree as indus
@@ -42,10 +42,10 @@ use Rattle.lowered_code.specs.Suiting.{IsScalar}
 use Rattle.lowered_code.specs.Standing.{Setting, HasWidths, fill_path, Begins, Stands, Ends}
 use Rattle.lowered_code.specs.Lookups.{Applied, Finds, AreServed}
 use Rattle.lowered_code.proofs.Served.{all_left, all_right}
-use Rattle.lookup_tables.specs.Tables.{Lookup, table_for, action_for, entries_for}
+use Rattle.lookup_tables.specs.Tables.{Lookup, entries_for}
 use Rattle.lookup_tables.specs.Finding.{IsSpare, CanBeFound, TableFinds}
 use Rattle.lookup_tables.proofs.Finding.{tables_find}
-use Rattle.whole_properties.specs.Whole.{Given, tele_field, tele_fields, fill_field, fill_fields, tele_words, decls, init, tele, check, lookups_of, lookups, fields, words, lower_monitor, IsFitTele, Keeps}
+use Rattle.whole_properties.specs.Whole.{Given, tele_field, tele_fields, fill_field, fill_fields, tele_words, decls, lookups_of, lookups, fields, words, lower_monitor, IsFitTele, Keeps}
 use Rattle.whole_properties.specs.Asked.{IsGiven, FitsView}
 use Rattle.whole_properties.proofs.Lists.{all_unmapped}
 use Rattle.whole_properties.proofs.Once.{found_all, name_found}

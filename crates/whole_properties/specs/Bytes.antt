@@ -8,4 +8,6 @@ use Rattle.whole_properties.specs.Asked.{IsGiven}
 
 -- the bytes in front of a frame are the property's
 abbrev pub TelemetryIsLinked : Type 0
-TelemetryIsLinked = (g : Given) → IsGiven g → (t : Held) → IsFitTele g t → tele_bytes g.property t ≡ linked_bytes (first_byte g.property.edition) (words g t)
+TelemetryIsLinked =
+    (g : Given) → IsGiven g → (t : Held) → IsFitTele g t
+    → tele_bytes g.property t ≡ linked_bytes (first_byte g.property.edition) (words g t)

@@ -1,4 +1,4 @@
--- How many tables and how many numbers there are. Read `Asked` before it.
+-- How many tables and how many numbers there are. Read `Whole` before it.
 use Rattle.std.specs.Prelude.{◌≡◌, ℕ, ◌+◌, ◌≤◌, List, [], ◌∷◌, true}
 use Rattle.indus_types.specs.Sums.{is_v, lookups as text_lookups, property_weight}
 use Rattle.lower_lists.specs.Names.{is_plain}
@@ -18,4 +18,5 @@ TablesAreFew = (g : Given) (v : List ℕ) → is_plain v ≡ true → lookups_of
 
 -- no more numbers are spent than the property weighs
 abbrev pub NumbersAreFew : Type 0
-NumbersAreFew = (g : Given) → IsPlainProperty g.property → block_end (decls g) (check g) (check_first g) ≤ property_weight g.property
+NumbersAreFew =
+    (g : Given) → IsPlainProperty g.property → block_end (decls g) (check g) (check_first g) ≤ property_weight g.property

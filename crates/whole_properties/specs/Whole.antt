@@ -1,7 +1,6 @@
--- The monitor of a whole property: its flat code over numbered scalars in P4. Read
--- `Statements` of `lowered_code`, `Tables` of `lookup_tables`, `Numbered` of `flat_laws` and `Monitor` of `monitor_laws`
--- before it.
-use Rattle.std.specs.Prelude.{◌≡◌, codes, ℕ, zero, suc, ◌+◌, ◌-◌, ◌*◌, ◌/◌, List, [], ◌∷◌, ◌++◌, map, length, slice_get, Bool, false, Option, Some, None, if◌then◌else◌, nat_eq, All}
+-- The monitor of a whole property: its flat code over numbered scalars in P4. Read `Statements` of `lowered_code`, `Tables` of
+-- `lookup_tables`, `Numbered` of `flat_laws` and `Monitor` of `monitor_laws` before it.
+use Rattle.std.specs.Prelude.{◌≡◌, codes, ℕ, zero, suc, ◌+◌, ◌-◌, ◌*◌, ◌/◌, List, [], ◌∷◌, ◌++◌, map, length, slice_get, Bool, false, Option, Some, None, if◌then◌else◌, nat_eq}
 use Rattle.std.specs.List.{AllByRecursion}
 use Rattle.bit_values.specs.Bits.{Word, word}
 use Rattle.lex_text.specs.Names.{same_text}
@@ -34,7 +33,7 @@ use Rattle.monitor_laws.specs.Telemetry.{zeros}
 use Rattle.monitor_laws.specs.Monitor.{Monitor}
 use Rattle.lookup_names.specs.Keys.{variable}
 use Rattle.lowered_code.specs.Names.{tele_name, sensor_name, table_name}
-use Rattle.lowered_code.specs.Environment.{Environment, view_of, on_switch}
+use Rattle.lowered_code.specs.Environment.{view_of, on_switch}
 use Rattle.lowered_code.specs.Reads.{start_of}
 use Rattle.lowered_code.specs.Statements.{block_end, block_code, block_vars, block_lookups}
 use Rattle.lookup_tables.specs.Tables.{Lookup, table_for, action_for, entries_for}
@@ -95,7 +94,8 @@ fill_fields fs = fill_field (tele_room fs * 8 - (8 + width_sum fs))
 
 abbrev pub register_in : DeclKind → Decl → List Cells
 register_in Tele d = []
-register_in Sensor d = record { name = sensor_name d.name; width = shape_width d.shape; count = cell_count d.shape } ∷ []
+register_in Sensor d =
+    record { name = sensor_name d.name; width = shape_width d.shape; count = cell_count d.shape } ∷ []
 register_in Header d = []
 register_in Control d = []
 
@@ -105,7 +105,8 @@ registers_in (d ∷ ds) = register_in d.kind d ++ registers_in ds
 
 abbrev pub sensor_in : DeclKind → Decl → List (SensorRegister Held (List ℕ))
 sensor_in Tele d = []
-sensor_in Sensor d = record { name = sensor_name d.name; cells = λ z. map (λ (w : Word). w.value) (z d.name); initial = start_of d } ∷ []
+sensor_in Sensor d =
+    record { name = sensor_name d.name; cells = λ z. map (λ (w : Word). w.value) (z d.name); initial = start_of d } ∷ []
 sensor_in Header d = []
 sensor_in Control d = []
 
@@ -130,7 +131,8 @@ views_in (d ∷ ds) = view_in d.kind d ++ views_in ds
 -- the tables hold these contents of the variables, by their numbers
 abbrev pub loads : List Decl → List Lookup → (ℕ → Contents) → Tables → Tables
 loads ds [] c held x = held x
-loads ds (l ∷ ls) c held x = if same_text (table_name l.control l.number) x then entries_for l (contents_in ds c l.decl.name) else loads ds ls c held x
+loads ds (l ∷ ls) c held x =
+    if same_text (table_name l.control l.number) x then entries_for l (contents_in ds c l.decl.name) else loads ds ls c held x
 
 abbrev pub is_number : Option ℕ → ℕ → Bool
 is_number None v = false
@@ -169,7 +171,9 @@ module _ (g : Given) where
   lookups_of c ss n = map (λ l. record { control = c; number = l.0; decl = l.1 }) (block_lookups decls ss n)
 
   abbrev pub lookups : List Lookup
-  lookups = lookups_of g.ingress init 0 ++ (lookups_of g.egress tele tele_first ++ lookups_of g.egress check check_first)
+  lookups =
+      lookups_of g.ingress init 0
+      ++ (lookups_of g.egress tele tele_first ++ lookups_of g.egress check check_first)
 
   abbrev pub fields : List Field
   fields = tele_fields decls ++ fill_fields (tele_fields decls)
@@ -179,7 +183,9 @@ module _ (g : Given) where
 
   -- the checker at the last hop, which begins with nothing rejected
   abbrev pub checks : (switch : ℕ) → p4.Stmt
-  checks s = only_if (variable last_name) (next (p4.assign 0 (rejected_name ∷ []) (p4.flag 0 false)) (block_code (on_switch s g.egress) decls check check_first))
+  checks s =
+      only_if (variable last_name)
+      (next (p4.assign 0 (rejected_name ∷ []) (p4.flag 0 false)) (block_code (on_switch s g.egress) decls check check_first))
 
   abbrev pub lower_monitor : Monitor Held Held Contents
   lower_monitor =
@@ -205,22 +211,33 @@ module _ (g : Given) where
 
   -- the tele values can come back from their bytes
   abbrev pub IsFitTele : Held → Type 0
-  IsFitTele t = (x : List ℕ) (d : Decl) → lookup g.property.decls x ≡ Some d → d.kind ≡ Tele → IsHeld IsTeleCount d.shape (t x)
+  IsFitTele t =
+      (x : List ℕ) (d : Decl) → lookup g.property.decls x ≡ Some d → d.kind ≡ Tele → IsHeld IsTeleCount d.shape (t x)
 
   -- the contents give words of the declared width
   abbrev pub FitContents : (ℕ → Contents) → Type 0
-  FitContents c = (x : List ℕ) (d : Decl) → lookup g.property.decls x ≡ Some d → d.kind ≡ Control → GiveWidth (shape_width d.shape) (contents_in g.property.decls c x)
+  FitContents c =
+      (x : List ℕ) (d : Decl) → lookup g.property.decls x ≡ Some d → d.kind ≡ Control
+      → GiveWidth (shape_width d.shape) (contents_in g.property.decls c x)
 
   pub record Keeps (z : Held) (c : ℕ → Contents) (b : Kept) : Type 0 where
-    pub cells : (x : List ℕ) (d : Decl) → lookup g.property.decls x ≡ Some d → d.kind ≡ Sensor → b.registers (sensor_name x) ≡ map (cell_value (start_word d.start (shape_width d.shape))) (z x)
-    pub shaped : (x : List ℕ) (d : Decl) → lookup g.property.decls x ≡ Some d → d.kind ≡ Sensor → IsHeld IsSensorCount d.shape (z x)
+    pub cells :
+        (x : List ℕ) (d : Decl) → lookup g.property.decls x ≡ Some d → d.kind ≡ Sensor
+        → b.registers (sensor_name x) ≡ map (cell_value (start_word d.start (shape_width d.shape))) (z x)
+    pub shaped :
+        (x : List ℕ) (d : Decl) → lookup g.property.decls x ≡ Some d → d.kind ≡ Sensor → IsHeld IsSensorCount d.shape (z x)
     pub contents : FitContents c
-    pub tables : AllByRecursion (λ l. b.tables (table_name l.control l.number) ≡ entries_for l (contents_in g.property.decls c l.decl.name)) lookups
+    pub tables :
+        AllByRecursion (λ l. b.tables (table_name l.control l.number) ≡ entries_for l (contents_in g.property.decls c l.decl.name)) lookups
 
   -- the numbers that name a control variable
   abbrev pub IsVariable : ℕ → Type 0
-  IsVariable v = (x : List ℕ) × (d : Decl) × (lookup g.property.decls x ≡ Some d) × (d.kind ≡ Control) × (variable_number g.property.decls x ≡ Some v)
+  IsVariable v =
+      (x : List ℕ) × (d : Decl) × (lookup g.property.decls x ≡ Some d) × (d.kind ≡ Control)
+      × (variable_number g.property.decls x ≡ Some v)
 
   -- the contents that it may have
   abbrev pub IsFitContents : (variable : ℕ) → Contents → Type 0
-  IsFitContents v k = (x : List ℕ) (d : Decl) → lookup g.property.decls x ≡ Some d → d.kind ≡ Control → variable_number g.property.decls x ≡ Some v → GiveWidth (shape_width d.shape) k
+  IsFitContents v k =
+      (x : List ℕ) (d : Decl) → lookup g.property.decls x ≡ Some d → d.kind ≡ Control → variable_number g.property.decls x ≡ Some v
+      → GiveWidth (shape_width d.shape) k

@@ -11,5 +11,7 @@
 mod laws;
 mod rows;
 
-pub use laws::{numbers_are_few, tables_are_few, telemetry_is_linked, whole_properties_keep_the_laws};
+pub use laws::{
+    numbers_are_few, tables_are_few, telemetry_is_linked, whole_properties_keep_the_laws,
+};
 pub use rows::a_property_is_lowered;
