@@ -32,7 +32,9 @@ pub record Gave (vars : List Var) (n : ℕ) (w : Word) (q : Run) (e : Ended) : T
 
 module _ (vars : List Var) (c : List ℕ) (n : ℕ) (spare : AllByRecursion (λ v. same_text (argument_name c n) v.1 ≡ false) vars) where
   -- the parameter is none of the variables
-  widths_past : (vs : List Var) (s : Store) (w : Word) → AllByRecursion (λ v. same_text (argument_name c n) v.1 ≡ false) vs → HasWidths vs s → HasWidths vs (set_value s (argument_name c n ∷ []) w)
+  widths_past :
+      (vs : List Var) (s : Store) (w : Word) → AllByRecursion (λ v. same_text (argument_name c n) v.1 ≡ false) vs →
+      HasWidths vs s → HasWidths vs (set_value s (argument_name c n ∷ []) w)
   widths_past [] s w o h = tt
   widths_past (v ∷ vs) s w o h = (ap (λ b. (cond (b && true) w (s.values (v.1 ∷ []))).width) o.0 ∙ h.0, widths_past vs s w o.1 h.1)
 
@@ -50,7 +52,10 @@ module _ (vars : List Var) (c : List ℕ) (n : ℕ) (spare : AllByRecursion (λ 
       }
 
   -- the variable of what is found takes a value that has its width
-  takes : (e : Expr) (u : Word) (w : ℕ) (q : Run) → q.store.headers [] ≡ None → (q.store.values (found_name n ∷ [])).width ≡ w → value_of e w q.store ≡ u → HasWidth w u → Gave vars n u q (meaning_of no_calls (next (assign 0 (found_name n ∷ []) e) done) q)
+  takes :
+      (e : Expr) (u : Word) (w : ℕ) (q : Run) → q.store.headers [] ≡ None →
+      (q.store.values (found_name n ∷ [])).width ≡ w → value_of e w q.store ≡ u → HasWidth w u →
+      Gave vars n u q (meaning_of no_calls (next (assign 0 (found_name n ∷ []) e) done) q)
   takes e u w q plain wide value fits =
       let old = q.store.values (found_name n ∷ []) in
       let val = value_of e old.width q.store in
@@ -64,7 +69,9 @@ module _ (vars : List Var) (c : List ℕ) (n : ℕ) (spare : AllByRecursion (λ 
   goes_on w q e g = record { scratch = g.scratch; goes = ap flow_behind g.goes; found = g.found }
 
   -- the word of the parameter
-  from_param : (u : Word) (w : ℕ) (q : Run) → q.store.headers [] ≡ None → (q.store.values (found_name n ∷ [])).width ≡ w → HasWidth w u
+  from_param :
+      (u : Word) (w : ℕ) (q : Run) → q.store.headers [] ≡ None → (q.store.values (found_name n ∷ [])).width ≡ w →
+      HasWidth w u
       → Gave vars n u q (meaning_of no_calls (next (assign 0 (found_name n ∷ []) (variable (argument_name c n))) done) (in_store q (set_value q.store (argument_name c n ∷ []) u)))
   from_param u w q plain wide fits =
       let r = in_store q (set_value q.store (argument_name c n ∷ []) u) in
@@ -72,7 +79,9 @@ module _ (vars : List Var) (c : List ℕ) (n : ℕ) (spare : AllByRecursion (λ 
       record { scratch = scratch_then vars n q r _ (scratch_param q u) g.scratch; goes = g.goes; found = g.found }
 
   -- the first argument
-  pub gives_value : (w : ℕ) (args : List Word) (q : Run) → q.store.headers [] ≡ None → (q.store.values (found_name n ∷ [])).width ≡ w → HasWidth w (first_or (nothing_of w) args)
+  pub gives_value :
+      (w : ℕ) (args : List Word) (q : Run) → q.store.headers [] ≡ None →
+      (q.store.values (found_name n ∷ [])).width ≡ w → HasWidth w (first_or (nothing_of w) args)
       → Gave vars n (first_or (nothing_of w) args) q
       (act (record { name = action_name c n; params = record { name = argument_name c n; width = w } ∷ []; body = next (assign 0 (found_name n ∷ []) (variable (argument_name c n))) done }) args q)
   gives_value w [] q plain wide fits = goes_on (nothing_of w) q _ (from_param (nothing_of w) w q plain wide fits)
@@ -82,6 +91,7 @@ module _ (vars : List Var) (c : List ℕ) (n : ℕ) (spare : AllByRecursion (λ 
       (from_param u w q plain wide fits))
 
   -- that a key is there
-  pub gives_member : (args : List Word) (q : Run) → q.store.headers [] ≡ None → (q.store.values (found_name n ∷ [])).width ≡ 1
+  pub gives_member :
+      (args : List Word) (q : Run) → q.store.headers [] ≡ None → (q.store.values (found_name n ∷ [])).width ≡ 1
       → Gave vars n (word 1 1) q (act (record { name = action_name c n; params = []; body = next (assign 0 (found_name n ∷ []) (number 1 1)) done }) args q)
   gives_member args q plain wide = goes_on (word 1 1) q _ (takes (number 1 1) (word 1 1) 1 q plain wide refl (record { width = refl; in_range = omega arith }))

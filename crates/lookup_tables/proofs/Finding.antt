@@ -33,7 +33,9 @@ use Rattle.lookup_tables.proofs.Named.{table_there, action_there, no_action_ther
 
 -- ---- contents
 
-found_fits : (es : List (List Word × Word)) (key : List Word) (w : ℕ) → All (λ (e : List Word × Word). HasWidth w e.1) es → HasWidth w (found es key w)
+found_fits :
+    (es : List (List Word × Word)) (key : List Word) (w : ℕ) → All (λ (e : List Word × Word). HasWidth w e.1) es →
+    HasWidth w (found es key w)
 found_fits [] key w g = nothing_has w
 found_fits (e ∷ es) key w g = go (same_words e.0 key) (found_fits es key w (All-tail (λ (e : List Word × Word). HasWidth w e.1) e es g))
   where
@@ -67,7 +69,9 @@ no_ternary : (n i : ℕ) (ts : List Ty) → has_ternary (keys_for n i ts) ≡ fa
 no_ternary n i [] = refl
 no_ternary n i (t ∷ ts) = no_ternary n (suc i) ts
 
-keys_read : (n i : ℕ) (ts : List Ty) (ws : List Word) (s : Store) → s.headers [] ≡ None → length ws ≡ length ts → AreKeys n i ws s → key_words (keys_for n i ts) s ≡ ws
+keys_read :
+    (n i : ℕ) (ts : List Ty) (ws : List Word) (s : Store) → s.headers [] ≡ None → length ws ≡ length ts →
+    AreKeys n i ws s → key_words (keys_for n i ts) s ≡ ws
 keys_read n i [] [] s plain e k = refl
 keys_read n i [] (w ∷ ws) s plain e k = absurd (omega (arith, e))
 keys_read n i (t ∷ ts) [] s plain e k = absurd (omega (arith, e))
@@ -85,29 +89,40 @@ module _
   acted : (w : Word) (e : Ended) (hit : Bool) → Gave vars l.number w q e → Leaves w (test_behind e hit)
   acted w e hit g = (g.scratch, g.goes, g.found)
 
-  missed : (hit : Bool) → Leaves (word (shape_width l.decl.shape) 0) (test_behind (act_if (action_named acts (codes "NoAction")) [] q) hit)
+  missed :
+      (hit : Bool) →
+      Leaves (word (shape_width l.decl.shape) 0) (test_behind (act_if (action_named acts (codes "NoAction")) [] q) hit)
   missed hit = subst (λ o. Leaves (word (shape_width l.decl.shape) 0) (test_behind (act_if o [] q) hit)) (sym none) (scratch_same vars l.number q, refl, old)
 
   -- the action, by the shape of the variable
   abbrev action_in : Shape → Action
   action_in s = record { name = action_name l.control l.number; params = params_for l s; body = next (assign 0 (found_name l.number ∷ []) (given_for l s)) done }
 
-  first_acts : (s : Shape) → l.decl.shape ≡ s → (args : List Word) (P : Ended → Type 0) → P (act (action_in s) args q) → P (act_if (action_named acts (action_name l.control l.number)) args q)
+  first_acts :
+      (s : Shape) → l.decl.shape ≡ s → (args : List Word) (P : Ended → Type 0) → P (act (action_in s) args q) →
+      P (act_if (action_named acts (action_name l.control l.number)) args q)
   first_acts s sh args P p = subst (λ o. P (act_if o args q)) (sym action) (subst (λ s. P (act (action_in s) args q)) (sym sh) p)
 
-  chosen_acts : (s : Shape) → l.decl.shape ≡ s → (e : Entry) → e.action ≡ action_name l.control l.number → (P : Ended → Type 0) → P (act (action_in s) e.args q) → P (act_if (action_named acts e.action) e.args q)
+  chosen_acts :
+      (s : Shape) → l.decl.shape ≡ s → (e : Entry) → e.action ≡ action_name l.control l.number → (P : Ended → Type 0) →
+      P (act (action_in s) e.args q) → P (act_if (action_named acts e.action) e.args q)
   chosen_acts s sh e is P p = subst (λ x. P (act_if (action_named acts x) e.args q)) (sym is) (first_acts s sh e.args P p)
 
   wide : (s : Shape) → l.decl.shape ≡ s → (q.store.values (found_name l.number ∷ [])).width ≡ shape_width s
   wide s sh = ap (λ (w : Word). w.width) old ∙ ap shape_width sh
 
   -- a set
-  set_runs : (ts : List Ty) → l.decl.shape ≡ set ts → (o : Option Entry) → OfChosen (λ e. e.action ≡ action_name l.control l.number) o → Leaves (bit (is_some o)) (chosen_runs acts no_action o q)
+  set_runs :
+      (ts : List Ty) → l.decl.shape ≡ set ts → (o : Option Entry) →
+      OfChosen (λ e. e.action ≡ action_name l.control l.number) o →
+      Leaves (bit (is_some o)) (chosen_runs acts no_action o q)
   set_runs ts sh None i = subst (λ m. Leaves (word m 0) (chosen_runs acts no_action None q)) (ap shape_width sh) (missed false)
   set_runs ts sh (Some e) i = chosen_acts (set ts) sh e i (λ e. Leaves (bit true) (test_behind e true)) (acted (bit true) _ true (gives_member vars l.control l.number spare e.args q plain (wide (set ts) sh)))
 
   -- a dict
-  dict_runs : (ts : List Ty) (t : Ty) → l.decl.shape ≡ dict ts t → sound_width (width_of t) ≡ width_of t → (o : Option Entry) → OfChosen (λ e. e.action ≡ action_name l.control l.number) o → HasWidth (width_of t) (given_in (width_of t) o)
+  dict_runs :
+      (ts : List Ty) (t : Ty) → l.decl.shape ≡ dict ts t → sound_width (width_of t) ≡ width_of t → (o : Option Entry) →
+      OfChosen (λ e. e.action ≡ action_name l.control l.number) o → HasWidth (width_of t) (given_in (width_of t) o)
       → Leaves (given_in (width_of t) o) (chosen_runs acts no_action o q)
   dict_runs ts t sh sound None i f = subst (λ m. Leaves (word m 0) (chosen_runs acts no_action None q)) (ap shape_width sh ∙ sym sound) (missed false)
   dict_runs ts t sh sound (Some e) i f =
@@ -115,7 +130,9 @@ module _
       (acted (first_or (nothing_of (width_of t)) e.args) _ true (gives_value vars l.control l.number spare (width_of t) e.args q plain (wide (dict ts t) sh) f))
 
   -- a scalar
-  single_runs : (t : Ty) → l.decl.shape ≡ one t → (u : Word) → HasWidth (width_of t) u → Leaves u (test_behind (act_if (action_named acts (action_name l.control l.number)) (u ∷ []) q) false)
+  single_runs :
+      (t : Ty) → l.decl.shape ≡ one t → (u : Word) → HasWidth (width_of t) u →
+      Leaves u (test_behind (act_if (action_named acts (action_name l.control l.number)) (u ∷ []) q) false)
   single_runs t sh u f =
       first_acts (one t) sh (u ∷ []) (λ r. Leaves u (test_behind r false)) (acted u _ false (gives_value vars l.control l.number spare (width_of t) (u ∷ []) q plain (wide (one t) sh) f))
 
@@ -123,7 +140,9 @@ module _
   abbrev does_in : Shape → List Word → Tested
   does_in s us = chosen_runs acts (entries_in l s k).default (choice_of false (entries_in l s k).listed us) q
 
-  shape_runs : (s : Shape) → l.decl.shape ≡ s → IsLookup s → sound_width (shape_width s) ≡ shape_width s → GiveWidth (shape_width s) k → Leaves (looked_up s k key) (does_in s key)
+  shape_runs :
+      (s : Shape) → l.decl.shape ≡ s → IsLookup s → sound_width (shape_width s) ≡ shape_width s →
+      GiveWidth (shape_width s) k → Leaves (looked_up s k key) (does_in s key)
   shape_runs (one t) sh i sound g = single_runs t sh (single_word k (width_of t)) (single_fits k (width_of t) g)
   shape_runs (list t m) sh i sound g = absurd i
   shape_runs (set ts) sh i sound g =
@@ -136,14 +155,18 @@ module _
       (dict_runs ts t sh sound (chosen_in (first_action l) 0 (pairs (pairs_of k)) key) (choice_is_lookup.runs (first_action l) 0 (pairs (pairs_of k)) key)
       (subst (HasWidth (width_of t)) (sym same) (found_in_fits k key (width_of t) g)))
 
-  leaves : AreKeys l.number 0 key q.store → length key ≡ length (key_types l.decl.shape) → Leaves (looked_up l.decl.shape k key) (apply_if acts (Some (table_for l)) (entries_for l k) q)
+  leaves :
+      AreKeys l.number 0 key q.store → length key ≡ length (key_types l.decl.shape) →
+      Leaves (looked_up l.decl.shape k key) (apply_if acts (Some (table_for l)) (entries_for l k) q)
   leaves keys long =
       subst (λ b. Leaves (looked_up l.decl.shape k key) (chosen_runs acts (entries_for l k).default (choice_of b (entries_for l k).listed (key_words (keys_for l.number 0 (key_types l.decl.shape)) q.store)) q))
       (sym (no_ternary l.number 0 (key_types l.decl.shape)))
       (subst (λ us. Leaves (looked_up l.decl.shape k key) (does_in l.decl.shape us)) (sym (keys_read l.number 0 (key_types l.decl.shape) key q.store plain long keys))
       (shape_runs l.decl.shape refl can.shape can.sound can.gives))
 
-  pub applied : AreKeys l.number 0 key q.store → length key ≡ length (key_types l.decl.shape) → Applied vars l.number l.decl k key q (apply_if acts (Some (table_for l)) (entries_for l k) q)
+  pub applied :
+      AreKeys l.number 0 key q.store → length key ≡ length (key_types l.decl.shape) →
+      Applied vars l.number l.decl k key q (apply_if acts (Some (table_for l)) (entries_for l k) q)
   applied keys long = (let r = leaves keys long in record { scratch = r.0; goes = r.1; found = r.2 })
 
 -- ---- all tables

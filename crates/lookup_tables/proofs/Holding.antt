@@ -12,11 +12,15 @@ use Rattle.lookup_tables.specs.Tables.{Lookup, no_action, first_action, entries_
 use Rattle.lookup_tables.specs.Finding.{AreOf, default_named, EntriesAreContents}
 
 module _ (l : Lookup) (name : ℕ → List ℕ) (a : ℕ) (is : name a ≡ action_name l.control l.number) where
-  keys_named : (ks : List (List Word)) → map (named (first_action l)) (contents.entries_for 0 (members ks)) ≡ map (named name) (contents.entries_for a (members ks))
+  keys_named :
+      (ks : List (List Word)) →
+      map (named (first_action l)) (contents.entries_for 0 (members ks)) ≡ map (named name) (contents.entries_for a (members ks))
   keys_named [] = refl
   keys_named (k ∷ ks) = ap₂ (λ x es. record { keys = map exact k; action = x; args = []; priority = 0 } ∷ es) (sym is) (keys_named ks)
 
-  pairs_named : (es : List (List Word × Word)) → map (named (first_action l)) (contents.entries_for 0 (pairs es)) ≡ map (named name) (contents.entries_for a (pairs es))
+  pairs_named :
+      (es : List (List Word × Word)) →
+      map (named (first_action l)) (contents.entries_for 0 (pairs es)) ≡ map (named name) (contents.entries_for a (pairs es))
   pairs_named [] = refl
   pairs_named (e ∷ es) = ap₂ (λ x fs. record { keys = map exact e.0; action = x; args = e.1 ∷ []; priority = 0 } ∷ fs) (sym is) (pairs_named es)
 

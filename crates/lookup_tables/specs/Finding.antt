@@ -39,7 +39,8 @@ TableFinds ls held vars l =
     Applies (calls_in (map action_for ls) (map table_for ls) held) vars l.control l.number l.decl k
 
 abbrev pub TablesFindWhatIsLookedUp : Type 0
-TablesFindWhatIsLookedUp = (ls : List Lookup) → AreNumbered 0 ls → (held : Tables) (vars : List Var) → AllByRecursion (TableFinds ls held vars) ls
+TablesFindWhatIsLookedUp =
+    (ls : List Lookup) → AreNumbered 0 ls → (held : Tables) (vars : List Var) → AllByRecursion (TableFinds ls held vars) ls
 
 -- ---- what they hold
 
@@ -58,5 +59,10 @@ default_named name (Some a) = record { action = name a.action; args = a.args }
 -- it is what `control_tables` puts into a table of which the action has the number a
 abbrev pub EntriesAreContents : Type 0
 EntriesAreContents =
-    (l : Lookup) (c : Contents) → AreOf l.decl.shape c → (name : ℕ → List ℕ) (a : ℕ) → name a ≡ action_name l.control l.number →
-    entries_for l c ≡ record { listed = map (named name) (contents.entries_for a c); default = default_named name (contents.default_for a c) }
+    (l : Lookup) (c : Contents) → AreOf l.decl.shape c →
+    (name : ℕ → List ℕ) (a : ℕ) → name a ≡ action_name l.control l.number →
+    entries_for l c ≡
+    record {
+      listed = map (named name) (contents.entries_for a c);
+      default = default_named name (contents.default_for a c);
+    }

@@ -13,7 +13,6 @@ ghost use Rattle.whole_properties.specs.Asked.{IsGiven, FitsView};
 ghost use Rattle.whole_monitor.specs.WholeLaws.{whole_laws};
 
 pub use laws::fields_give_views;
-
 use monitor_laws::{LinkedMonitor, LoweredMonitor};
 
 /// The lowering of whole properties. It has no code.

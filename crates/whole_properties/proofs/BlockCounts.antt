@@ -46,7 +46,9 @@ module _ (ds : List Decl) (m : Expr → ℕ) (c d : List ℕ → ℕ) (are : Are
   read_both : (j k : ℕ) (xs ys : List indus.Stmt) → AllRead j xs → AllRead k ys → AllRead (j + k) (xs ++ ys)
   read_both j k xs ys h i = let e = split xs in omega (arith, h, i, e)
     where
-      split : (xs : List indus.Stmt) → block_count ds m (block_from (xs ++ ys)) ≡ block_count ds m (block_from xs) + block_count ds m (block_from ys)
+      split :
+          (xs : List indus.Stmt) →
+          block_count ds m (block_from (xs ++ ys)) ≡ block_count ds m (block_from xs) + block_count ds m (block_from ys)
       split [] = omega arith
       split (x ∷ xs) = let r = split xs in omega (arith, r)
 
@@ -56,10 +58,13 @@ module _ (ds : List Decl) (m : Expr → ℕ) (c d : List ℕ → ℕ) (are : Are
   assign_few : (k p : ℕ) (x : List ℕ) (e : Expr) → IsFew k e → stmt_count ds m (indus.assign p x e) ≤ k
   assign_few k p x e h = let a = h [] in omega (arith, a)
 
-  cell_few : (j k p : ℕ) (x : List ℕ) (i e : Expr) → IsFew j i → IsFew k e → stmt_count ds m (indus.cell p x i e) ≤ j + k
+  cell_few :
+      (j k p : ℕ) (x : List ℕ) (i e : Expr) → IsFew j i → IsFew k e → stmt_count ds m (indus.cell p x i e) ≤ j + k
   cell_few j k p x i e f h = let a = f [] in let b = h (reads ds i []) in omega (arith, a, b)
 
-  choice_few : (i j k p : ℕ) (t : Expr) (a b : List indus.Stmt) → IsFew i t → AllRead j a → AllRead k b → stmt_count ds m (indus.choice p t (block_from a) (block_from b)) ≤ i + j + k
+  choice_few :
+      (i j k p : ℕ) (t : Expr) (a b : List indus.Stmt) → IsFew i t → AllRead j a → AllRead k b →
+      stmt_count ds m (indus.choice p t (block_from a) (block_from b)) ≤ i + j + k
   choice_few i j k p t a b f h g = let x = f [] in omega (arith, x, h, g)
 
   report_few : (k p n : ℕ) (es : Exprs) → AllFew ds m c d are k es → stmt_count ds m (indus.report p n es) ≤ k
@@ -114,7 +119,10 @@ module _ (ds : List Decl) (m : Expr → ℕ) (c d : List ℕ → ℕ) (are : Are
   have_few : (p : ℕ) (vs : List ℕ) (place : ℕ) → IsFew 0 (all_have p vs place)
   have_few p vs place = joined_few ds m c d are 0 (flag p true) p Both true (λ k. has_item p (slice_index vs k) place) (λ k. has_once ds m c d are p (slice_index vs k) place) (length vs)
 
-  turns_few : (k p : ℕ) (body : List Bound → List indus.Stmt) (names : List (List ℕ)) (vs : List ℕ) (outer : List Bound) → ((inner : List Bound) → AllRead k (body inner)) → (many : ℕ) → AllRead (many * k) (turns p body names vs outer many)
+  turns_few :
+      (k p : ℕ) (body : List Bound → List indus.Stmt) (names : List (List ℕ)) (vs : List ℕ) (outer : List Bound) →
+      ((inner : List Bound) → AllRead k (body inner)) → (many : ℕ) →
+      AllRead (many * k) (turns p body names vs outer many)
   turns_few k p body names vs outer h zero = omega arith
   turns_few k p body names vs outer h (suc n) =
       let inner = outer ++ bound_to names vs n in

@@ -76,13 +76,18 @@ module _ (edition : ℕ) (part : Block) (h : Hop) (exits : Bool) (hops : exits �
         go None e = inl refl
         go (Some d) e = inr (sound.apart x d e)
 
-    built_in : (x : List ℕ) (k : Kind) → builtin_of x ≡ Some k → (is_hop (builtin k) && is_init part) ≡ false → IsBuiltIn exits x
+    built_in :
+        (x : List ℕ) (k : Kind) → builtin_of x ≡ Some k → (is_hop (builtin k) && is_init part) ≡ false →
+        IsBuiltIn exits x
     built_in x k is hop = go (same_text x (codes "first_hop")) (same_text x (codes "last_hop")) (same_text x (codes "switch_id")) exits hops is
       where
         no_flag : {A : Type 0} → is_init part ≡ true → Truth ≡ k → A
         no_flag i same = clash (sym i ∙ ap (λ k. is_hop (builtin k) && is_init part) same ∙ hop)
 
-        go : (a b c e : Bool) → (e ≡ false → is_init part ≡ true) → cond (a || b) (Some Truth) (cond c (Some (Number 16)) None) ≡ Some k → MatchBool a (e ≡ true) (MatchBool b (e ≡ true) (c ≡ true))
+        go :
+            (a b c e : Bool) → (e ≡ false → is_init part ≡ true) →
+            cond (a || b) (Some Truth) (cond c (Some (Number 16)) None) ≡ Some k →
+            MatchBool a (e ≡ true) (MatchBool b (e ≡ true) (c ≡ true))
         go true b c true i is = refl
         go true b c false i is = no_flag (i refl) (cc)
         go false true c true i is = refl
@@ -110,7 +115,9 @@ module _ (edition : ℕ) (part : Block) (h : Hop) (exits : Bool) (hops : exits �
 
       -- ---- keys
 
-      parts : (ts : List Ty) (ks : Exprs) → as_many ks ts ≡ true → bad_widths ts ≡ false → Fine (all_sites g (keys ts) ks) → PartsFit exits v ts ks
+      parts :
+          (ts : List Ty) (ks : Exprs) → as_many ks ts ≡ true → bad_widths ts ≡ false → Fine (all_sites g (keys ts) ks) →
+          PartsFit exits v ts ks
       parts [] none m b f = tt
       parts [] (more e es) m b f = turned_clash m
       parts (t ∷ ts) none m b f = turned_clash m
@@ -121,7 +128,9 @@ module _ (edition : ℕ) (part : Block) (h : Hop) (exits : Bool) (hops : exits �
       one_index (more e none) ws i f = is_index g sound v sees e _ f.0
       one_index (more e (more a es)) ws i f = turned_clash i
 
-      shape_index : (k : DeclKind) (s : Shape) (ks : Exprs) → misshapen k s ≡ false → bad_shape s ≡ false → shape_indexed k s ks ≡ true → Fine (all_sites g (shape_index_wants s) ks) → ShapeIndexed exits v k s ks
+      shape_index :
+          (k : DeclKind) (s : Shape) (ks : Exprs) → misshapen k s ≡ false → bad_shape s ≡ false →
+          shape_indexed k s ks ≡ true → Fine (all_sites g (shape_index_wants s) ks) → ShapeIndexed exits v k s ks
       shape_index Sensor (list t n) ks m b r f = (one_index ks _ r f, (let le = ltb-false 255 n (neither (bad_width t || nat_eq n 0) (nat_lt 255 n) b).1 in omega (arith, le)))
       shape_index Control (dict ts t) ks m b r f =
           (let a = neither (bad_widths ts || nat_lt 4 (length ts)) (bad_width t) b in
@@ -207,13 +216,17 @@ module _ (edition : ℕ) (part : Block) (h : Hop) (exits : Bool) (hops : exits �
 
     -- ---- statements
 
-    value_typed : (s : Shape) → is_scalar s ≡ true → bad_shape s ≡ false → (e : Expr) → Fine (expr_sites g (scalar_kind s) e) → Always h exits (λ v. IsOfType v (value_type s) e)
+    value_typed :
+        (s : Shape) → is_scalar s ≡ true → bad_shape s ≡ false → (e : Expr) → Fine (expr_sites g (scalar_kind s) e) →
+        Always h exits (λ v. IsOfType v (value_type s) e)
     value_typed (one t) r b e f d shaped = typed d shaped t b e f
     value_typed (list t n) r b e f d shaped = turned_clash r
     value_typed (set ks) r b e f d shaped = turned_clash r
     value_typed (dict ks t) r b e f d shaped = turned_clash r
 
-    kind_target : (k : DeclKind) (c : Decl) (e : Expr) → kind_writable k ≡ true → is_scalar c.shape ≡ true → bad_shape c.shape ≡ false → Fine (expr_sites g (scalar_kind c.shape) e) → KindSuits h exits k c e
+    kind_target :
+        (k : DeclKind) (c : Decl) (e : Expr) → kind_writable k ≡ true → is_scalar c.shape ≡ true →
+        bad_shape c.shape ≡ false → Fine (expr_sites g (scalar_kind c.shape) e) → KindSuits h exits k c e
     kind_target Tele c e w r b f = (scalar_is c.shape r, value_typed c.shape r b e f)
     kind_target Sensor c e w r b f = (scalar_is c.shape r, value_typed c.shape r b e f)
     kind_target Header c e w r b f = turned_clash w
@@ -262,7 +275,9 @@ module _ (edition : ℕ) (part : Block) (h : Hop) (exits : Bool) (hops : exits �
     IsCheck = exits ≡ false → is_check part ≡ false
 
     mutual
-      stmt_suits : IsCheck → (s : indus.Stmt) → Fine (stmt_sites g s) → IsFlatStmt ds s → ReportsBelow (2 ^ 16) s → StmtSuits h exits s
+      stmt_suits :
+          IsCheck → (s : indus.Stmt) → Fine (stmt_sites g s) → IsFlatStmt ds s → ReportsBelow (2 ^ 16) s →
+          StmtSuits h exits s
       stmt_suits c (indus.assign p x e) f i n = (
         λ d shaped. expr_suits d shaped e _ f.1 i,
         target x (builtin_of x) (lookup ds x) refl (f.0 NoSuchName) (twice_not _ (f.0 KindDiffers)) (twice_not _ (f.0 NotWritable)) (either_way x) e f.1,
@@ -282,6 +297,8 @@ module _ (edition : ℕ) (part : Block) (h : Hop) (exits : Bool) (hops : exits �
           go false e = clash (sym (ap not (c e)) ∙ f WrongBlock)
       stmt_suits c (indus.report p m es) f i n = (λ d shaped. exprs_suit d shaped es free f.1 i, n, ltb-false 8 (exprs_count es) (f.0 BadSize))
 
-      pub block_suits : IsCheck → (ss : indus.Stmts) → Fine (block_sites g ss) → IsFlatBlock ds ss → BlockReportsBelow (2 ^ 16) ss → BlockSuits h exits ss
+      pub block_suits :
+          IsCheck → (ss : indus.Stmts) → Fine (block_sites g ss) → IsFlatBlock ds ss → BlockReportsBelow (2 ^ 16) ss →
+          BlockSuits h exits ss
       block_suits c indus.done f i n = tt
       block_suits c (indus.next s ss) f i n = (stmt_suits c s f.0 i.0 n.0, block_suits c ss f.1 i.1 n.1)

@@ -60,7 +60,9 @@ class_is compare a b = tt
 class_is logic a b = tt
 
 -- where a number of so many bits is wanted, there is one of these or of none
-number_own : (k : Kind) (w : ℕ) → 1 ≤ w → kinds_differ k (Number w) ≡ false → widths_differ k (Number w) ≡ false → either_width (kind_width k) w ≡ w
+number_own :
+    (k : Kind) (w : ℕ) → 1 ≤ w → kinds_differ k (Number w) ≡ false → widths_differ k (Number w) ≡ false →
+    either_width (kind_width k) w ≡ w
 number_own (Number zero) w some h d = refl
 number_own (Number (suc v)) zero some h d = absurd (omega (arith, some))
 number_own (Number (suc v)) (suc w) some h d = go (nat_eq (suc v) 0) (nat_eq (suc w) 0) (nonzero v _ refl) (nonzero w _ refl) d
@@ -110,7 +112,9 @@ some_number : (w : ℕ) → nat_eq w 0 ≡ false → 1 ≤ w
 some_number zero o = absurd (cc)
 some_number (suc w) o = omega arith
 
-indexed_some : (i b : Option Kind) (o : Option Decl) (ks : Exprs) → is_missing (role_from i b o) ≡ false → indexed (role_from i b o) ks ≡ true → is_some o ≡ true
+indexed_some :
+    (i b : Option Kind) (o : Option Decl) (ks : Exprs) → is_missing (role_from i b o) ≡ false →
+    indexed (role_from i b o) ks ≡ true → is_some o ≡ true
 indexed_some i b (Some d) ks m h = refl
 indexed_some (Some k) b None ks m h = absurd (cc)
 indexed_some None (Some k) None ks m h = absurd (cc)
@@ -141,13 +145,18 @@ module _ (g : Sight) (sound : IsSound g) where
     of_type ty.Bool b e f = own_static g s fits e Truth f ∙ truth_own (own g e) (own_kind e Truth f) (kind_fine g Truth e f)
 
     -- a width that an expression has of its own is one that a value can have
-    wide_read : (p : ℕ) (x : List ℕ) (want : Kind) → Fine (expr_sites g want (read p x)) → IsWidth (own_width s (read p x))
+    wide_read :
+        (p : ℕ) (x : List ℕ) (want : Kind) → Fine (expr_sites g want (read p x)) → IsWidth (own_width s (read p x))
     wide_read p x want f = subst IsWidth (sym (own_static g s fits (read p x) want f)) (read_wide g sound x (f NoSuchName) (twice_not _ (neither _ _ (f KindDiffers)).1))
 
-    wide_index : (p : ℕ) (x : List ℕ) (ks : Exprs) (want : Kind) → Fine (expr_sites g want (index p x ks)) → IsWidth (own_width s (index p x ks))
+    wide_index :
+        (p : ℕ) (x : List ℕ) (ks : Exprs) (want : Kind) → Fine (expr_sites g want (index p x ks)) →
+        IsWidth (own_width s (index p x ks))
     wide_index p x ks want f = subst IsWidth (sym (own_static g s fits (index p x ks) want f)) (index_wide g sound x ks (f.0 NoSuchName) (twice_not _ (neither _ _ (f.0 KindDiffers)).1))
 
-    key_width : (p : ℕ) (x : List ℕ) (ks : Exprs) (want : Kind) → Fine (expr_sites g want (index p x ks)) → (us : List Word) → (at_key s x (lookup s.hop.decls x) us).width ≡ sound_width (held_width (lookup s.hop.decls x))
+    key_width :
+        (p : ℕ) (x : List ℕ) (ks : Exprs) (want : Kind) → Fine (expr_sites g want (index p x ks)) → (us : List Word) →
+        (at_key s x (lookup s.hop.decls x) us).width ≡ sound_width (held_width (lookup s.hop.decls x))
     key_width p x ks want f us =
         subst (λ ds. (at_key s x (lookup ds x) us).width ≡ sound_width (held_width (lookup ds x))) (sym sees.decls)
         (at_key_has g s sees x us (lookup g.decls x) refl (indexed_some (item_of g.decls g.loops x) (builtin_of x) (lookup g.decls x) ks (f.0 NoSuchName) (twice_not _ (neither _ _ (f.0 KindDiffers)).1)))

@@ -57,7 +57,8 @@ module _ (p : Property) (typed : IsWellTyped p) where
         own = λ x d is. (block_sound p typed block.Init).apart x d is;
       }
 
-  pub sound_widths : (x : List ℕ) (c : Decl) → lookup p.decls x ≡ Some c → sound_width (shape_width c.shape) ≡ shape_width c.shape
+  pub sound_widths :
+      (x : List ℕ) (c : Decl) → lookup p.decls x ≡ Some c → sound_width (shape_width c.shape) ≡ shape_width c.shape
   sound_widths x c is = let w = (block_sound p typed block.Init).decls x c is in sound (shape_width c.shape) w.least w.most
 
   pub lookups_shaped : (x : List ℕ) (c : Decl) → lookup p.decls x ≡ Some c → c.kind ≡ Control → IsLookup c.shape
@@ -94,7 +95,9 @@ or_none : {A : Type 0} (o : Option A) → is_some o ≡ false → o ≡ None
 or_none None h = refl
 or_none (Some a) h = clash h
 
-not_before : (before : List Decl) (d : Decl) (more : List Decl) (x : List ℕ) → lookup (before ++ d ∷ more) x ≡ None → same_text d.name x ≡ false
+not_before :
+    (before : List Decl) (d : Decl) (more : List Decl) (x : List ℕ) → lookup (before ++ d ∷ more) x ≡ None →
+    same_text d.name x ≡ false
 not_before [] d more x h = go (same_text d.name x) refl h
   where
     go : (b : Bool) → same_text d.name x ≡ b → cond b (Some d) (lookup more x) ≡ None → b ≡ false
@@ -102,7 +105,9 @@ not_before [] d more x h = go (same_text d.name x) refl h
     go false e h = refl
 not_before (e ∷ before) d more x h = go (same_text e.name x) h (not_before before d more x)
   where
-    go : (b : Bool) → cond b (Some e) (lookup (before ++ d ∷ more) x) ≡ None → (lookup (before ++ d ∷ more) x ≡ None → same_text d.name x ≡ false) → same_text d.name x ≡ false
+    go :
+        (b : Bool) → cond b (Some e) (lookup (before ++ d ∷ more) x) ≡ None →
+        (lookup (before ++ d ∷ more) x ≡ None → same_text d.name x ≡ false) → same_text d.name x ≡ false
     go true h j = absurd (cc)
     go false h j = j h
 
@@ -110,7 +115,9 @@ turned_text : (x y : List ℕ) → same_text x y ≡ false → same_text y x ≡
 turned_text x y h = apart y x (λ e. not_same x y h (sym e))
 
 -- a name that stands before is not declared behind
-not_behind : (before : List Decl) (d : Decl) (more ds : List Decl) → Fine (decl_sites (before ++ d ∷ more) ds) → lookup ds d.name ≡ None
+not_behind :
+    (before : List Decl) (d : Decl) (more ds : List Decl) → Fine (decl_sites (before ++ d ∷ more) ds) →
+    lookup ds d.name ≡ None
 not_behind before d more [] f = refl
 not_behind before d more (e ∷ ds) f =
     let free = neither (is_some (lookup (before ++ d ∷ more) e.name)) (is_some (builtin_of e.name)) (f.0.0 NameTwice) in
@@ -139,7 +146,9 @@ tele_of p typed =
 
 -- ---- numbered scalars
 
-items_all : (P : Decl → Type 0) (p v : ℕ) (t : Ty) (n : ℕ) → ((x : List ℕ) → P (scalar_decl p x t)) → AllByRecursion P (item_decls p v t n)
+items_all :
+    (P : Decl → Type 0) (p v : ℕ) (t : Ty) (n : ℕ) → ((x : List ℕ) → P (scalar_decl p x t)) →
+    AllByRecursion P (item_decls p v t n)
 items_all P p v t zero f = tt
 items_all P p v t (suc i) f = all_both P (item_decls p v t i) _ (items_all P p v t i f) (f _, tt)
 
@@ -157,18 +166,23 @@ module _ (P : Decl → Type 0) (scalar : (p : ℕ) (x : List ℕ) (t : Ty) → P
   kind_all Header v d f = (f (λ e. absurd (cc)), tt)
   kind_all Control v d f = (f (λ e. absurd (cc)), tt)
 
-  pub numbered_all : (ds : List Decl) (n : ℕ) → AllByRecursion (λ d. (d.kind ≡ Tele → ⊥) → P d) ds → AllByRecursion P (numbered_from n ds)
+  pub numbered_all :
+      (ds : List Decl) (n : ℕ) → AllByRecursion (λ d. (d.kind ≡ Tele → ⊥) → P d) ds →
+      AllByRecursion P (numbered_from n ds)
   numbered_all [] n h = tt
   numbered_all (d ∷ ds) n h = all_both P (numbered_kind d.kind n d) (numbered_from (n + 1) ds) (kind_all d.kind n d h.0) (numbered_all ds (n + 1) h.1)
 
 -- the packet's variables are scalars
-pub scalars : (ds : List Decl) (x : List ℕ) (c : Decl) → lookup (numbered ds) x ≡ Some c → c.kind ≡ Tele → IsScalar c.shape
+pub scalars :
+    (ds : List Decl) (x : List ℕ) (c : Decl) → lookup (numbered ds) x ≡ Some c → c.kind ≡ Tele → IsScalar c.shape
 scalars ds x c is =
     found_all (λ c. c.kind ≡ Tele → IsScalar c.shape) (numbered ds)
     (numbered_all (λ c. c.kind ≡ Tele → IsScalar c.shape) (λ p x t k. tt) ds 0 (all_given (λ d. (d.kind ≡ Tele → ⊥) → d.kind ≡ Tele → IsScalar d.shape) (λ d n k. absurd (n k)) ds)) x c is
 
 -- all else is declared as before
-pub kept : (ds : List Decl) → AreOnce ds → (x : List ℕ) (c : Decl) → lookup (numbered ds) x ≡ Some c → (c.kind ≡ Tele → ⊥) → lookup ds x ≡ Some c
+pub kept :
+    (ds : List Decl) → AreOnce ds → (x : List ℕ) (c : Decl) → lookup (numbered ds) x ≡ Some c → (c.kind ≡ Tele → ⊥) →
+    lookup ds x ≡ Some c
 kept ds o x c is n =
     subst (λ y. lookup ds y ≡ Some c) (name_found (numbered ds) x c is)
     (found_all (λ c. (c.kind ≡ Tele → ⊥) → lookup ds c.name ≡ Some c) (numbered ds)
@@ -177,7 +191,9 @@ kept ds o x c is n =
 
 -- ---- fields are apart
 
-field_from : (d : Decl) (ds : List Decl) → lookup ds d.name ≡ None → AllByRecursion (λ g. same_text (tele_name d.name) g.name ≡ false) (tele_fields ds)
+field_from :
+    (d : Decl) (ds : List Decl) → lookup ds d.name ≡ None →
+    AllByRecursion (λ g. same_text (tele_name d.name) g.name ≡ false) (tele_fields ds)
 field_from d [] h = tt
 field_from d (e ∷ ds) h = go e.kind (same_text e.name d.name) refl h (field_from d ds)
   where
@@ -191,7 +207,10 @@ field_from d (e ∷ ds) h = go e.kind (same_text e.name d.name) refl h (field_fr
     go Header false q h rest = rest h
     go Control false q h rest = rest h
 
-with_fill : (x : List ℕ) (fs : List Field) (w : ℕ) → same_text x (codes "hydra_fill") ≡ false → AllByRecursion (λ g. same_text x g.name ≡ false) fs → AllByRecursion (λ g. same_text x g.name ≡ false) (fs ++ fill_field w)
+with_fill :
+    (x : List ℕ) (fs : List Field) (w : ℕ) → same_text x (codes "hydra_fill") ≡ false →
+    AllByRecursion (λ g. same_text x g.name ≡ false) fs →
+    AllByRecursion (λ g. same_text x g.name ≡ false) (fs ++ fill_field w)
 with_fill x [] zero f h = tt
 with_fill x [] (suc w) f h = (f, tt)
 with_fill x (g ∷ fs) w f h = (h.0, with_fill x fs w f h.1)
@@ -201,7 +220,9 @@ fields_differ [] zero o = tt
 fields_differ [] (suc w) o = (tt, tt)
 fields_differ (d ∷ ds) w o = go d.kind (fields_differ ds w o.1)
   where
-    go : (k : DeclKind) → AreApart (tele_fields ds ++ fill_field w) → AreApart ((tele_field k d ++ tele_fields ds) ++ fill_field w)
+    go :
+        (k : DeclKind) → AreApart (tele_fields ds ++ fill_field w) →
+        AreApart ((tele_field k d ++ tele_fields ds) ++ fill_field w)
     go Tele r = (with_fill (tele_name d.name) (tele_fields ds) w refl (field_from d ds o.0), r)
     go Sensor r = r
     go Header r = r
@@ -211,7 +232,9 @@ mark_from : (ds : List Decl) → AllByRecursion (λ g. same_text (codes "hydra_m
 mark_from [] = tt
 mark_from (d ∷ ds) = go d.kind (mark_from ds)
   where
-    go : (k : DeclKind) → AllByRecursion (λ g. same_text (codes "hydra_mark") g.name ≡ false) (tele_fields ds) → AllByRecursion (λ g. same_text (codes "hydra_mark") g.name ≡ false) (tele_field k d ++ tele_fields ds)
+    go :
+        (k : DeclKind) → AllByRecursion (λ g. same_text (codes "hydra_mark") g.name ≡ false) (tele_fields ds) →
+        AllByRecursion (λ g. same_text (codes "hydra_mark") g.name ≡ false) (tele_field k d ++ tele_fields ds)
     go Tele h = (refl, h)
     go Sensor h = h
     go Header h = h

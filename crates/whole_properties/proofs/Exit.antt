@@ -68,18 +68,26 @@ module _
   abbrev check_code : Stmts
   check_code = block_code (on_switch h.switch g.egress) (decls g) (check g) (check_first g)
 
-  among_tele : (P : Lookup → Type 0) → AllByRecursion P (lookups g) → AllByRecursion P (lookups_of g g.egress (tele g) (tele_first g))
+  among_tele :
+      (P : Lookup → Type 0) → AllByRecursion P (lookups g) →
+      AllByRecursion P (lookups_of g g.egress (tele g) (tele_first g))
   among_tele P h = all_left P (lookups_of g g.egress (tele g) (tele_first g)) _ (all_right P (lookups_of g g.ingress (init g) 0) _ h)
 
-  among_check : (P : Lookup → Type 0) → AllByRecursion P (lookups g) → AllByRecursion P (lookups_of g g.egress (check g) (check_first g))
+  among_check :
+      (P : Lookup → Type 0) → AllByRecursion P (lookups g) →
+      AllByRecursion P (lookups_of g g.egress (check g) (check_first g))
   among_check P h = all_right P (lookups_of g g.egress (tele g) (tele_first g)) _ (all_right P (lookups_of g g.ingress (init g) 0) _ h)
 
-  tele_runs : (q : Run) (d : Doing Held Held) → Stands part q d → Ends (λ r. Stands part r (block_run part.hop [] (tele g) d)) (meaning_of calls tele_code q)
+  tele_runs :
+      (q : Run) (d : Doing Held Held) → Stands part q d →
+      Ends (λ r. Stands part r (block_run part.hop [] (tele g) d)) (meaning_of calls tele_code q)
   tele_runs =
       block_runs part begins (tele g) (tele_first g) (tele_suits g i h begins.hop)
       (parts.served g i calls held means true g.egress vars spare r h t z s fits given_flags (tele g) (tele_first g) among_tele (λ q w. all_left _ (block_vars (decls g) (tele g) (tele_first g)) (block_vars (decls g) (check g) (check_first g)) w)) (few_check g i)
 
-  check_runs : (q : Run) (d : Doing Held Held) → Stands part q d → Ends (λ r. Stands part r (block_run part.hop [] (check g) d)) (meaning_of calls check_code q)
+  check_runs :
+      (q : Run) (d : Doing Held Held) → Stands part q d →
+      Ends (λ r. Stands part r (block_run part.hop [] (check g) d)) (meaning_of calls check_code q)
   check_runs =
       block_runs part begins (check g) (check_first g) (check_suits g i h begins.hop)
       (parts.served g i calls held means true g.egress vars spare r h t z s fits given_flags (check g) (check_first g) among_check (λ q w. all_right _ (block_vars (decls g) (tele g) (tele_first g)) (block_vars (decls g) (check g) (check_first g)) w)) (few g i)
@@ -146,17 +154,22 @@ module _
       (subst (λ w. StandsAt clear_flat (in_store q (set_value q.store (rejected_name ∷ []) w))) (sym (ap (λ n. cast_word (sound_width n) (bit false)) one)) (rejected_stands part q told_flat e false one)))
       (λ q1 e1. check_runs q1 clear_flat e1)
 
-  by_last : (l : Bool) → h.last ≡ l → (q : Run) → Stands part q told_flat → Ends (StandsAt (ending l)) (meaning_of_stmt calls (checks g h.switch) q)
+  by_last :
+      (l : Bool) → h.last ≡ l → (q : Run) → Stands part q told_flat →
+      Ends (StandsAt (ending l)) (meaning_of_stmt calls (checks g h.switch) q)
   by_last true is q e = chosen calls (StandsAt checked_flat) (variable last_name) checking q true (last_read q e ∙ ap bit is) refl (λ l. checking_runs q e) (λ l. absurd (cc))
   by_last false is q e = chosen calls (StandsAt told_flat) (variable last_name) checking q false (last_read q e ∙ ap bit is) refl (λ l. absurd (cc)) (λ l. e)
 
-  exit_runs : (l : Bool) → h.last ≡ l → Ends (StandsAt (ending l)) (meaning_of calls ((lower_monitor g).exit h.switch) r)
+  exit_runs :
+      (l : Bool) → h.last ≡ l → Ends (StandsAt (ending l)) (meaning_of calls ((lower_monitor g).exit h.switch) r)
   exit_runs l is =
       steps calls (StandsAt told_flat) (StandsAt (ending l)) tele_code (next (checks g h.switch) done) r
       (tele_runs r f (parts.stands g i calls held means true g.egress vars spare r h t z s fits given_flags))
       (λ q e. alone calls (StandsAt (ending l)) (checks g h.switch) q (by_last l is q e))
 
-  does_by_last : (l : Bool) → h.last ≡ l → Does (lower_monitor g) (IsFitTele g) (Keeps g) held r (meaning_of calls ((lower_monitor g).exit h.switch) r) h.contents (cond l checked clear)
+  does_by_last :
+      (l : Bool) → h.last ≡ l →
+      Does (lower_monitor g) (IsFitTele g) (Keeps g) held r (meaning_of calls ((lower_monitor g).exit h.switch) r) h.contents (cond l checked clear)
   does_by_last true is =
       parts.does_of g i calls held means true g.egress vars spare r h t z s fits given_flags (meaning_of calls ((lower_monitor g).exit h.switch) r) checked_flat checked (exit_runs true is) checked_numbers checked_shaped
   does_by_last false is =
@@ -166,5 +179,7 @@ module _
   pub exit_does : Does (lower_monitor g) (IsFitTele g) (Keeps g) held r (meaning_of calls ((lower_monitor g).exit h.switch) r) h.contents (exit_part (law_of p) h t z)
   exit_does = does_by_last h.last refl
 
-  pub exit_verdict : h.last ≡ true → (meaning_of calls ((lower_monitor g).exit h.switch) r).0.store.values (rejected_name ∷ []) ≡ bit (exit_part (law_of p) h t z).rejected
+  pub exit_verdict :
+      h.last ≡ true →
+      (meaning_of calls ((lower_monitor g).exit h.switch) r).0.store.values (rejected_name ∷ []) ≡ bit (exit_part (law_of p) h t z).rejected
   exit_verdict is = (exit_runs true is).run.rejected refl ∙ ap bit checked_numbers.rejected ∙ ap (λ l. bit (cond l checked clear).rejected) (sym is)

@@ -43,7 +43,9 @@ use Rattle.whole_properties.proofs.FlatForms.{block_numbered, block_below}
 use Rattle.whole_properties.proofs.Few.{numbers_are_few}
 
 -- header variables read own paths
-views_own : (ds : List Decl) → AllByRecursion IsView (views_in ds) → AllByRecursion (λ d. d.kind ≡ Header → IsView (view_of d)) ds
+views_own :
+    (ds : List Decl) → AllByRecursion IsView (views_in ds) →
+    AllByRecursion (λ d. d.kind ≡ Header → IsView (view_of d)) ds
 views_own [] h = tt
 views_own (d ∷ ds) h = go d.kind refl h (views_own ds)
   where
@@ -85,7 +87,8 @@ module _ (g : Given) (i : IsGiven g) where
   pub scalars : (x : List ℕ) (c : Decl) → lookup (decls g) x ≡ Some c → c.kind ≡ Tele → IsScalar c.shape
   scalars x c is k = declared.scalars p.decls x c is k
 
-  pub sound : (x : List ℕ) (c : Decl) → lookup (decls g) x ≡ Some c → sound_width (shape_width c.shape) ≡ shape_width c.shape
+  pub sound :
+      (x : List ℕ) (c : Decl) → lookup (decls g) x ≡ Some c → sound_width (shape_width c.shape) ≡ shape_width c.shape
   sound x c is = sound_widths q typed x c is
 
   pub kept : (x : List ℕ) (c : Decl) → lookup (decls g) x ≡ Some c → (c.kind ≡ Tele → ⊥) → lookup p.decls x ≡ Some c
@@ -97,7 +100,8 @@ module _ (g : Given) (i : IsGiven g) where
   pub kept_sensor : (x : List ℕ) (c : Decl) → lookup (decls g) x ≡ Some c → c.kind ≡ Sensor → lookup p.decls x ≡ Some c
   kept_sensor x c is k = kept x c is (λ z. absurd (let e : Tele ≡ Sensor = sym z ∙ k in cc))
 
-  pub kept_control : (x : List ℕ) (c : Decl) → lookup (decls g) x ≡ Some c → c.kind ≡ Control → lookup p.decls x ≡ Some c
+  pub kept_control :
+      (x : List ℕ) (c : Decl) → lookup (decls g) x ≡ Some c → c.kind ≡ Control → lookup p.decls x ≡ Some c
   kept_control x c is k = kept x c is (λ z. absurd (let e : Tele ≡ Control = sym z ∙ k in cc))
 
   pub own : (x : List ℕ) (c : Decl) → lookup (decls g) x ≡ Some c → c.kind ≡ Header → IsView (view_of c)
@@ -133,7 +137,9 @@ module _ (g : Given) (i : IsGiven g) where
   pub few_tele : tele_first g ≤ 2 ^ 64
   few_tele = let up = block_rises (decls g) (tele g) (tele_first g) in omega (arith, up, few_check)
 
-  numbered_block : (c : List ℕ) (ss : indus.Stmts) (n : ℕ) (rest : List Lookup) → AreNumbered (block_end (decls g) ss n) rest → AreNumbered n (lookups_of g c ss n ++ rest)
+  numbered_block :
+      (c : List ℕ) (ss : indus.Stmts) (n : ℕ) (rest : List Lookup) → AreNumbered (block_end (decls g) ss n) rest →
+      AreNumbered n (lookups_of g c ss n ++ rest)
   numbered_block c ss n rest h =
       numbered_behind c n (block_end (decls g) ss n) (block_lookups (decls g) ss n) rest (lookups_rising (decls g) n (block_end (decls g) ss n) (block_numbers (decls g) ss n) (block_read (decls g) ss n).rising) h
 
@@ -146,7 +152,8 @@ module _ (g : Given) (i : IsGiven g) where
   -- ---- hops
 
   -- a hop shows what is declared
-  pub hop_fits : (h : Reads Contents) → FitsView g h.view → FitContents g h.contents → HopFits (numbered_hop (hop_for p.decls h))
+  pub hop_fits :
+      (h : Reads Contents) → FitsView g h.view → FitContents g h.contents → HopFits (numbered_hop (hop_for p.decls h))
   hop_fits h view contents =
       record {
         words = λ x c is k. (hops_show p.decls h.view (λ v. members []) view (no_contents 0 p.decls) h.switch h.first h.last).headers x c (kept_header x c is k) k;

@@ -85,7 +85,9 @@ module _ (v : List ℕ) where
         let c = looked_both (read_lookups n (read_decl ds e)) (lookups_in ds (numbered_reads ds (suc n) es)) in
         omega (arith, a, b, c)
 
-    all_looked : (xs ys : List (ℕ × Option Decl)) → looked (lookups_in ds (xs ++ ys)) ≡ looked (lookups_in ds xs) + looked (lookups_in ds ys)
+    all_looked :
+        (xs ys : List (ℕ × Option Decl)) →
+        looked (lookups_in ds (xs ++ ys)) ≡ looked (lookups_in ds xs) + looked (lookups_in ds ys)
     all_looked xs ys = ap looked (lookups_both ds xs ys) ∙ looked_both (lookups_in ds xs) (lookups_in ds ys)
 
     mutual
@@ -115,13 +117,17 @@ module _ (v : List ℕ) where
           let c = all_looked (stmt_numbers ds s n) (block_numbers ds ss (stmt_end ds s n)) in
           omega (arith, a, b, c)
 
-    kind_read : (k : DeclKind) (p : ℕ) (x : List ℕ) (l : List Expr) → counted is_read (reads_by_kind k (read p x) l) ≤ counted is_read l + is_v v x
+    kind_read :
+        (k : DeclKind) (p : ℕ) (x : List ℕ) (l : List Expr) →
+        counted is_read (reads_by_kind k (read p x) l) ≤ counted is_read l + is_v v x
     kind_read Tele p x l = omega arith
     kind_read Sensor p x l = with_few is_read (read p x) l
     kind_read Header p x l = omega arith
     kind_read Control p x l = with_few is_read (read p x) l
 
-    name_read : (o : Option Decl) (p : ℕ) (x : List ℕ) (l : List Expr) → counted is_read (name_reads o (read p x) l) ≤ counted is_read l + is_v v x
+    name_read :
+        (o : Option Decl) (p : ℕ) (x : List ℕ) (l : List Expr) →
+        counted is_read (name_reads o (read p x) l) ≤ counted is_read l + is_v v x
     name_read None p x l = omega arith
     name_read (Some d) p x l = kind_read d.kind p x l
 
@@ -217,18 +223,24 @@ module _ (os : List Decl) (plain : ArePlain os) where
   abbrev of_name : List ℕ → ℕ
   of_name x = decl_reads (lookup ds x)
 
-  kind_counted : (k : DeclKind) (p : ℕ) (x : List ℕ) (l : List Expr) → counted one_each (reads_by_kind k (read p x) l) ≤ counted one_each l + kind_reads k
+  kind_counted :
+      (k : DeclKind) (p : ℕ) (x : List ℕ) (l : List Expr) →
+      counted one_each (reads_by_kind k (read p x) l) ≤ counted one_each l + kind_reads k
   kind_counted Tele p x l = omega arith
   kind_counted Sensor p x l = with_few one_each (read p x) l
   kind_counted Header p x l = omega arith
   kind_counted Control p x l = with_few one_each (read p x) l
 
-  name_counted : (o : Option Decl) (p : ℕ) (x : List ℕ) (l : List Expr) → counted one_each (name_reads o (read p x) l) ≤ counted one_each l + decl_reads o
+  name_counted :
+      (o : Option Decl) (p : ℕ) (x : List ℕ) (l : List Expr) →
+      counted one_each (name_reads o (read p x) l) ≤ counted one_each l + decl_reads o
   name_counted None p x l = omega arith
   name_counted (Some d) p x l = kind_counted d.kind p x l
 
   -- names that are not plain are those of the packet's variables
-  plain_all : (es : List Decl) → ArePlain es → AllByRecursion (λ d. (d.kind ≡ Tele → ⊥) → is_plain d.name ≡ false → kind_reads d.kind ≡ 0) es
+  plain_all :
+      (es : List Decl) → ArePlain es →
+      AllByRecursion (λ d. (d.kind ≡ Tele → ⊥) → is_plain d.name ≡ false → kind_reads d.kind ≡ 0) es
   plain_all [] p = tt
   plain_all (d ∷ es) p = (λ n e. absurd (let two : true ≡ false = sym p.0 ∙ e in cc), plain_all es p.1)
 
@@ -253,7 +265,9 @@ module _ (os : List Decl) (plain : ArePlain os) where
       }
 
   -- a block spends no more numbers than its text weighs
-  block_spends : ((x : List ℕ) → is_list os x ≡ true → 1 ≤ size_of os x) → (ss : indus.Stmts) (n : ℕ) → block_end ds (block_from (flat_of os ss)) n ≤ n + block_weight os ss
+  block_spends :
+      ((x : List ℕ) → is_list os x ≡ true → 1 ≤ size_of os x) → (ss : indus.Stmts) (n : ℕ) →
+      block_end ds (block_from (flat_of os ss)) n ≤ n + block_weight os ss
   block_spends roomy ss n =
       let a = block_ends ds (block_from (flat_of os ss)) n in
       let b = block_few ds one_each of_name (λ x. 1) are_counted os ss [] in

@@ -31,7 +31,8 @@ module _ (ds : List Decl) (o : AreOnce ds) where
       as_before : (c : Decl) → lookup (numbered ds) x ≡ Some c → (c.kind ≡ Tele → ⊥) → shape_is_list c.shape ≡ false
       as_before c is n = sym (ap found_list (kept ds o x c is n)) ∙ h
 
-      by_kind : (c : Decl) → lookup (numbered ds) x ≡ Some c → (k : DeclKind) → c.kind ≡ k → shape_is_list c.shape ≡ false
+      by_kind :
+          (c : Decl) → lookup (numbered ds) x ≡ Some c → (k : DeclKind) → c.kind ≡ k → shape_is_list c.shape ≡ false
       by_kind c is Tele k = scalar_none c.shape (scalars ds x c is k)
       by_kind c is Sensor k = as_before c is (λ z. absurd (let e : Tele ≡ Sensor = sym z ∙ k in cc))
       by_kind c is Header k = as_before c is (λ z. absurd (let e : Tele ≡ Header = sym z ∙ k in cc))
@@ -95,7 +96,9 @@ module _ (b : ℕ) (ds : List Decl) where
       by_size (suc m) =
           ((below_both (assign p (item_name l.number m) e ∷ moves p l.number m m) (clear p l.number m l.item ∷ count_more p l.number ∷ []) (tt, moves_below p l.number m m) (((tt, tt), tt), (tt, tt)), tt), tt)
 
-  turns_below : (p : ℕ) (body : List Bound → List Stmt) → ((bs : List Bound) → Below (body bs)) → (xs : List (List ℕ)) (vs : List ℕ) (bs : List Bound) (n : ℕ) → Below (turns p body xs vs bs n)
+  turns_below :
+      (p : ℕ) (body : List Bound → List Stmt) → ((bs : List Bound) → Below (body bs)) →
+      (xs : List (List ℕ)) (vs : List ℕ) (bs : List Bound) (n : ℕ) → Below (turns p body xs vs bs n)
   turns_below p body h xs vs bs zero = tt
   turns_below p body h xs vs bs (suc k) =
       below_both (turns p body xs vs bs k) (choice p (all_have p (distinct vs) k) (block_from (body (bs ++ bound_to xs vs k))) done ∷ []) (turns_below p body h xs vs bs k) ((h (bs ++ bound_to xs vs k), tt), tt)

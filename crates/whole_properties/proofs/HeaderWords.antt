@@ -46,6 +46,8 @@ module _ (s : Store) (all : List Word) (x : List ℕ) (d : Decl) (header : d.kin
   seat_reads [] n h is = absurd (cc)
   seat_reads (e ∷ ds) n h is = step e ds n (seat_reads ds) e.kind refl h (same_text e.name x) is
 
-pub view_is : (ds : List Decl) (view : List Word) (s : Store) → view_now (views_in ds) s ≡ view → (x : List ℕ) (d : Decl) → lookup ds x ≡ Some d → d.kind ≡ Header → value_of (view_of d) 0 s ≡ headers_in ds view x
+pub view_is :
+    (ds : List Decl) (view : List Word) (s : Store) → view_now (views_in ds) s ≡ view → (x : List ℕ) (d : Decl) →
+    lookup ds x ≡ Some d → d.kind ≡ Header → value_of (view_of d) 0 s ≡ headers_in ds view x
 view_is ds view s e x d is k =
     sym (seat_reads s view x d k ds 0 (λ j. ap (slice_get view) (let z : 0 + j ≡ j = omega arith in z) ∙ ap (λ v. slice_get v j) (sym e)) is)

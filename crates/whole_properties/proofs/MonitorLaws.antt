@@ -35,7 +35,9 @@ use Rattle.whole_properties.proofs.Exit.{exit_does, exit_verdict}
 
 -- ---- names
 
-vars_as_fields : (P : List ℕ → Type 0) (vs : List Var) → AllByRecursion (λ l. P l.1) vs → AllByRecursion (λ f. P f.name) (fields_of vs)
+vars_as_fields :
+    (P : List ℕ → Type 0) (vs : List Var) → AllByRecursion (λ l. P l.1) vs →
+    AllByRecursion (λ f. P f.name) (fields_of vs)
 vars_as_fields P [] h = tt
 vars_as_fields P (v ∷ vs) h = (h.0, vars_as_fields P vs h.1)
 
@@ -51,7 +53,9 @@ registers_named : (ds : List Decl) → AllByRecursion (λ c. is_sensor c.name �
 registers_named [] = tt
 registers_named (d ∷ ds) = go d.kind (registers_named ds)
   where
-    go : (k : DeclKind) → AllByRecursion (λ c. is_sensor c.name ≡ true) (registers_in ds) → AllByRecursion (λ c. is_sensor c.name ≡ true) (register_in k d ++ registers_in ds)
+    go :
+        (k : DeclKind) → AllByRecursion (λ c. is_sensor c.name ≡ true) (registers_in ds) →
+        AllByRecursion (λ c. is_sensor c.name ≡ true) (register_in k d ++ registers_in ds)
     go Tele h = h
     go Sensor h = (refl, h)
     go Header h = h
@@ -91,7 +95,9 @@ module _ (g : Given) (i : IsGiven g) where
   -- ---- variables
 
   -- what holds of all names of variables of reads holds of those of the two parts
-  entry_each : (P : List ℕ → Type 0) → ((n : ℕ) → P (found_name n)) → ((n j : ℕ) → P (key_name n j)) → AllByRecursion (λ l. P l.1) (lower_monitor g).entry_locals
+  entry_each :
+      (P : List ℕ → Type 0) → ((n : ℕ) → P (found_name n)) → ((n j : ℕ) → P (key_name n j)) →
+      AllByRecursion (λ l. P l.1) (lower_monitor g).entry_locals
   entry_each P found key = each_name P found key ds (block_numbers ds (init g) 0)
 
   abbrev exit_numbers : List (ℕ × Option Decl)
@@ -100,11 +106,15 @@ module _ (g : Given) (i : IsGiven g) where
   exit_are : vars_in ds exit_numbers ≡ (lower_monitor g).exit_locals
   exit_are = vars_both ds (block_numbers ds (tele g) (tele_first g)) (block_numbers ds (check g) (check_first g))
 
-  exit_each : (P : List ℕ → Type 0) → ((n : ℕ) → P (found_name n)) → ((n j : ℕ) → P (key_name n j)) → AllByRecursion (λ l. P l.1) (lower_monitor g).exit_locals
+  exit_each :
+      (P : List ℕ → Type 0) → ((n : ℕ) → P (found_name n)) → ((n j : ℕ) → P (key_name n j)) →
+      AllByRecursion (λ l. P l.1) (lower_monitor g).exit_locals
   exit_each P found key = subst (AllByRecursion (λ l. P l.1)) exit_are (each_name P found key ds exit_numbers)
 
   -- no flag has a variable's name
-  flag_apart : (x : List ℕ) → ((n : ℕ) → same_text x (found_name n) ≡ false) → ((n j : ℕ) → same_text x (key_name n j) ≡ false) → AllByRecursion (λ f. same_text x f.name ≡ false) (fields_of (lower_monitor g).exit_locals)
+  flag_apart :
+      (x : List ℕ) → ((n : ℕ) → same_text x (found_name n) ≡ false) → ((n j : ℕ) → same_text x (key_name n j) ≡ false) →
+      AllByRecursion (λ f. same_text x f.name ≡ false) (fields_of (lower_monitor g).exit_locals)
   flag_apart x found key = vars_as_fields (λ y. same_text x y ≡ false) (lower_monitor g).exit_locals (exit_each (λ y. same_text x y ≡ false) found key)
 
   exit_apart : AreApart (fields_of (lower_monitor g).exit_locals)

@@ -13,6 +13,8 @@ earlier a b [] le h = omega (arith, le, h)
 earlier a b (l ∷ ls) le h = (omega (arith, le, h.0), h.1)
 
 -- those of a control, and others behind them
-pub numbered_behind : (c : List ℕ) (a b : ℕ) (ls : List (ℕ × Decl)) (rest : List Lookup) → AreRising a b ls → AreNumbered b rest → AreNumbered a (map (lookup_of c) ls ++ rest)
+pub numbered_behind :
+    (c : List ℕ) (a b : ℕ) (ls : List (ℕ × Decl)) (rest : List Lookup) → AreRising a b ls → AreNumbered b rest →
+    AreNumbered a (map (lookup_of c) ls ++ rest)
 numbered_behind c a b [] rest h k = earlier a b rest h k
 numbered_behind c a b (l ∷ ls) rest h k = (h.0, numbered_behind c (suc l.0) b ls rest h.1 k)

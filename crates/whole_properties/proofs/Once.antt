@@ -14,7 +14,8 @@ AreOnce [] = Unit {0}
 AreOnce (d ∷ ds) = (lookup ds d.name ≡ None) × AreOnce ds
 
 -- what holds of all declarations holds of one that is found
-pub found_all : (P : Decl → Type 0) (ds : List Decl) → AllByRecursion P ds → (x : List ℕ) (c : Decl) → lookup ds x ≡ Some c → P c
+pub found_all :
+    (P : Decl → Type 0) (ds : List Decl) → AllByRecursion P ds → (x : List ℕ) (c : Decl) → lookup ds x ≡ Some c → P c
 found_all P [] h x c is = absurd (cc)
 found_all P (d ∷ ds) h x c is = go (same_text d.name x) is (found_all P ds h.1 x c)
   where
@@ -27,7 +28,9 @@ pub name_found : (ds : List Decl) (x : List ℕ) (c : Decl) → lookup ds x ≡ 
 name_found [] x c is = absurd (cc)
 name_found (e ∷ ds) x c is = go (same_text e.name x) refl is (name_found ds x c)
   where
-    go : (b : Bool) → same_text e.name x ≡ b → cond b (Some e) (lookup ds x) ≡ Some c → (lookup ds x ≡ Some c → c.name ≡ x) → c.name ≡ x
+    go :
+        (b : Bool) → same_text e.name x ≡ b → cond b (Some e) (lookup ds x) ≡ Some c →
+        (lookup ds x ≡ Some c → c.name ≡ x) → c.name ≡ x
     go true k i j = let same : e ≡ c = cc in ap (λ (d : Decl). d.name) (sym same) ∙ (text_decides e.name x).0 k
     go false k i j = j i
 
@@ -36,10 +39,14 @@ name_found (e ∷ ds) x c is = go (same_text e.name x) refl is (name_found ds x 
 pub first_found : (e : Decl) (ds : List Decl) → lookup (e ∷ ds) e.name ≡ Some e
 first_found e ds = ap (λ b. cond b (Some e) (lookup ds e.name)) (same_self e.name)
 
-pub other_name : (e : Decl) (ds : List Decl) → lookup ds e.name ≡ None → (x : List ℕ) (d : Decl) → lookup ds x ≡ Some d → same_text e.name x ≡ false
+pub other_name :
+    (e : Decl) (ds : List Decl) → lookup ds e.name ≡ None → (x : List ℕ) (d : Decl) → lookup ds x ≡ Some d →
+    same_text e.name x ≡ false
 other_name e ds o x d is = apart e.name x (λ same. absurd (let two : None ≡ Some d = sym o ∙ ap (lookup ds) same ∙ is in cc))
 
-pub behind_found : (e : Decl) (ds : List Decl) → lookup ds e.name ≡ None → (x : List ℕ) (d : Decl) → lookup ds x ≡ Some d → lookup (e ∷ ds) x ≡ Some d
+pub behind_found :
+    (e : Decl) (ds : List Decl) → lookup ds e.name ≡ None → (x : List ℕ) (d : Decl) → lookup ds x ≡ Some d →
+    lookup (e ∷ ds) x ≡ Some d
 behind_found e ds o x d is = ap (λ b. cond b (Some e) (lookup ds x)) (other_name e ds o x d is) ∙ is
 
 -- each is found by its name

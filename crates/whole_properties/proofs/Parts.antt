@@ -57,7 +57,8 @@ use Rattle.whole_properties.proofs.Facts.{once, scalars, sound as sound_here, ke
 -- ---- words
 
 -- variables that are 0 have their widths
-fresh_widths : (vars : List Var) (s : Store) → HasWords [] (fields_of vars) (zeros (fields_of vars)) s → HasWidths vars s
+fresh_widths :
+    (vars : List Var) (s : Store) → HasWords [] (fields_of vars) (zeros (fields_of vars)) s → HasWidths vars s
 fresh_widths [] s h = tt
 fresh_widths (v ∷ vs) s h = (ap (λ (w : Word). w.width) h.0 ∙ sound (sound_width (p4v.width_of v.0)) (sound_wide (p4v.width_of v.0)) (sound_narrow (p4v.width_of v.0)), fresh_widths vs s h.1)
 
@@ -65,7 +66,9 @@ fresh_widths (v ∷ vs) s h = (ap (λ (w : Word). w.width) h.0 ∙ sound (sound_
 abbrev IsFilled : Store → Field → Type 0
 IsFilled s f = ((s.values (tele_header ++ f.name ∷ [])).width ≡ f.width) × ((s.values (tele_header ++ f.name ∷ [])).value < 2 ^ f.width)
 
-each_field : (fs : List Field) (ws : List Word) (s : Store) → AreFor fs ws → HasWords tele_header fs ws s → AllByRecursion (IsFilled s) fs
+each_field :
+    (fs : List Field) (ws : List Word) (s : Store) → AreFor fs ws → HasWords tele_header fs ws s →
+    AllByRecursion (IsFilled s) fs
 each_field [] [] s a h = tt
 each_field [] (w ∷ ws) s a h = absurd a
 each_field (f ∷ fs) [] s a h = absurd a
@@ -73,17 +76,24 @@ each_field (f ∷ fs) (w ∷ ws) s a h =
     ((ap (λ (u : Word). u.width) h.0 ∙ a.0, subst (λ n. (s.values (tele_header ++ f.name ∷ [])).value < 2 ^ n) a.0 (subst (λ (u : Word). u.value < 2 ^ w.width) (sym h.0) a.1)), each_field fs ws s a.2 h.1)
 
 -- what holds of all fields holds of that of a numbered scalar
-field_at : (P : Field → Type 0) (ds : List Decl) → AllByRecursion P (tele_fields ds) → AllByRecursion (λ d. d.kind ≡ Tele → P (record { name = tele_name d.name; width = shape_width d.shape })) ds
+field_at :
+    (P : Field → Type 0) (ds : List Decl) → AllByRecursion P (tele_fields ds) →
+    AllByRecursion (λ d. d.kind ≡ Tele → P (record { name = tele_name d.name; width = shape_width d.shape })) ds
 field_at P [] h = tt
 field_at P (e ∷ ds) h = (first e.kind refl (all_left P (tele_field e.kind e) (tele_fields ds) h), field_at P ds (all_right P (tele_field e.kind e) (tele_fields ds) h))
   where
-    first : (k : DeclKind) → e.kind ≡ k → AllByRecursion P (tele_field k e) → e.kind ≡ Tele → P (record { name = tele_name e.name; width = shape_width e.shape })
+    first :
+        (k : DeclKind) → e.kind ≡ k → AllByRecursion P (tele_field k e) → e.kind ≡ Tele →
+        P (record { name = tele_name e.name; width = shape_width e.shape })
     first Tele q h k = h.0
     first Sensor q h k = absurd (let z : Tele ≡ Sensor = sym k ∙ q in cc)
     first Header q h k = absurd (let z : Tele ≡ Header = sym k ∙ q in cc)
     first Control q h k = absurd (let z : Tele ≡ Control = sym k ∙ q in cc)
 
-fill_same : (w : ℕ) (s r : Store) → r.values fill_path ≡ s.values fill_path → HasWords tele_header (fill_field w) (zeros (fill_field w)) s → HasWords tele_header (fill_field w) (zeros (fill_field w)) r
+fill_same :
+    (w : ℕ) (s r : Store) → r.values fill_path ≡ s.values fill_path →
+    HasWords tele_header (fill_field w) (zeros (fill_field w)) s →
+    HasWords tele_header (fill_field w) (zeros (fill_field w)) r
 fill_same zero s r e h = tt
 fill_same (suc w) s r e h = (e ∙ h.0, tt)
 
@@ -150,10 +160,14 @@ module _
   abbrev pub started : Doing Held Held
   started = record { tele = λ x. tele_off r.store (lookup (decls g) x) x; sensors = z; rejected = false; reports = [] }
 
-  tele_is : (x : List ℕ) (c : Decl) → lookup (decls g) x ≡ Some c → c.kind ≡ Tele → started.tele x ≡ r.store.values (scalar_path x) ∷ []
+  tele_is :
+      (x : List ℕ) (c : Decl) → lookup (decls g) x ≡ Some c → c.kind ≡ Tele →
+      started.tele x ≡ r.store.values (scalar_path x) ∷ []
   tele_is x c is k = ap (λ o. tele_off r.store o x) is ∙ ap (λ k. tele_of_kind r.store k x) k
 
-  field_fits : (x : List ℕ) (c : Decl) → lookup (decls g) x ≡ Some c → c.kind ≡ Tele → HasWidth (shape_width c.shape) (r.store.values (scalar_path x))
+  field_fits :
+      (x : List ℕ) (c : Decl) → lookup (decls g) x ≡ Some c → c.kind ≡ Tele →
+      HasWidth (shape_width c.shape) (r.store.values (scalar_path x))
   field_fits x c is k =
       let each = field_at (IsFilled r.store) (decls g) (all_left (IsFilled r.store) (tele_fields (decls g)) (fill_fields (tele_fields (decls g))) (each_field (fields g) (words g t) r.store (fitting g i t s.tele.fits) s.tele.words)) in
       let f = found_all _ (decls g) each x c is k in
@@ -195,7 +209,9 @@ module _
   ready_decls : IsReady p.decls
   ready_decls = ready p i.plain.typed i.plain.plain i.plain.few
 
-  each_holds : (x : List ℕ) (d : Decl) (v : ℕ) → lookup p.decls x ≡ Some d → variable_number p.decls x ≡ Some v → d.kind ≡ Tele → HoldsStore v d.shape (t x) r.store
+  each_holds :
+      (x : List ℕ) (d : Decl) (v : ℕ) → lookup p.decls x ≡ Some d → variable_number p.decls x ≡ Some v → d.kind ≡ Tele →
+      HoldsStore v d.shape (t x) r.store
   each_holds x d v is num k =
       words_from p.decls 0 t r.store
       (has_left tele_header (tele_fields (decls g)) (fill_fields (tele_fields (decls g))) (tele_words p.decls t) (zeros (fill_fields (tele_fields (decls g)))) r.store (words_long p.decls 0 t) s.tele.words).0 x d v is num k
@@ -226,7 +242,10 @@ module _
 
   -- ---- its lookups find what they should
 
-  lookup_finds : (l : ℕ × Decl) → TableFinds (lookups g) held vars (lookup_of control l) → held (table_name control l.0) ≡ entries_for (lookup_of control l) (contents_in p.decls h.contents l.1.name) → Finds part l
+  lookup_finds :
+      (l : ℕ × Decl) → TableFinds (lookups g) held vars (lookup_of control l) →
+      held (table_name control l.0) ≡ entries_for (lookup_of control l) (contents_in p.decls h.contents l.1.name) →
+      Finds part l
   lookup_finds l find holds is k q key plain old keys long =
       let can : CanBeFound l.1 (contents_in p.decls h.contents l.1.name) =
       record { shape = looked_up g i l.1.name l.1 is k; sound = sound_here g i l.1.name l.1 is; gives = s.keeps.contents l.1.name l.1 (kept_control g i l.1.name l.1 is k) k } in
@@ -267,7 +286,9 @@ module _
   shape_back q f u e x d v is num k (set ks) sh w = tt
   shape_back q f u e x d v is num k (dict ks ty) sh w = tt
 
-  words_behind : (q : Run) (f d : Doing Held Held) → Stands part q f → Numbers p.decls d f → HasWords tele_header (fields g) (words g d.tele) q.store
+  words_behind :
+      (q : Run) (f d : Doing Held Held) → Stands part q f → Numbers p.decls d f →
+      HasWords tele_header (fields g) (words g d.tele) q.store
   words_behind q f d e n =
       let fs = fill_fields (tele_fields (decls g)) in
       has_both tele_header (tele_fields (decls g)) fs (tele_words p.decls d.tele) (zeros fs) q.store
@@ -278,7 +299,9 @@ module _
   kept_cells x c is k = kept_found in_init ready_decls (hop_for p.decls h) x (record { decl = c; found = is; kind = λ e. absurd (let z : Tele ≡ Sensor = sym e ∙ k in cc) }) ∙ is
 
   -- a run that stands for the numbered form of a state did what a part does
-  pub does_of : (e : Ended) (f d : Doing Held Held) → Ends (λ q. Stands part q f) e → Numbers p.decls d f → AreShaped p.decls d → Does (lower_monitor g) (IsFitTele g) (Keeps g) held r e h.contents d
+  pub does_of :
+      (e : Ended) (f d : Doing Held Held) → Ends (λ q. Stands part q f) e → Numbers p.decls d f → AreShaped p.decls d →
+      Does (lower_monitor g) (IsFitTele g) (Keeps g) held r e h.contents d
   does_of e f d a n k =
       record {
         words = words_behind e.0 f d a.run n;

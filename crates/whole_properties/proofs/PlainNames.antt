@@ -18,7 +18,9 @@ glyph_first n rest =
     let lt : n % 10 < 10 = mod-lt n (omega arith) in
     ap (λ d. is_plain (d ∷ rest)) (glyph_is (n % 10) lt) ∙ digit_first (48 + n % 10) rest (omega arith) (omega (arith, lt))
 
-digits_first : (k n d : ℕ) (acc rest : List ℕ) → is_plain (d ∷ acc ++ rest) ≡ false → is_plain (digits_onto k 10 false n (d ∷ acc) ++ rest) ≡ false
+digits_first :
+    (k n d : ℕ) (acc rest : List ℕ) → is_plain (d ∷ acc ++ rest) ≡ false →
+    is_plain (digits_onto k 10 false n (d ∷ acc) ++ rest) ≡ false
 digits_first zero n d acc rest h = h
 digits_first (suc k) n d acc rest h =
     go (n / 10 == 0) (digits_first k (n / 10) (digit_glyph false (n % 10)) (d ∷ acc) rest (glyph_first n (d ∷ acc ++ rest)))

@@ -96,13 +96,15 @@ module _ (ds : List Decl) where
     all_more l m none x i = tt
     all_more l m (more e es) x i = (has_more l m e x i.0, all_more l m es x i.1)
 
-  kind_there : (k : DeclKind) (e : Expr) (l : List Expr) → Extends l (reads_by_kind k e l) × HasKind (reads_by_kind k e l) k e
+  kind_there :
+      (k : DeclKind) (e : Expr) (l : List Expr) → Extends l (reads_by_kind k e l) × HasKind (reads_by_kind k e l) k e
   kind_there Tele e l = (extends_same l, tt)
   kind_there Sensor e l = with_extends e l
   kind_there Header e l = (extends_same l, tt)
   kind_there Control e l = with_extends e l
 
-  name_there : (o : Option Decl) (e : Expr) (l : List Expr) → Extends l (name_reads o e l) × HasName (name_reads o e l) o e
+  name_there :
+      (o : Option Decl) (e : Expr) (l : List Expr) → Extends l (name_reads o e l) × HasName (name_reads o e l) o e
   name_there None e l = (extends_same l, tt)
   name_there (Some c) e l = kind_there c.kind e l
 
@@ -221,16 +223,22 @@ module _ (ds : List Decl) (m : Expr → ℕ) (c d : List ℕ → ℕ) (are : Are
         more_none = λ l i. (let n = reads ds t l in let x = a.more_none l i in let y = b.more_none n (has_more ds l n e (there ds t l).0 i) in omega (arith, x, y));
       }
 
-  halves_once : (k : ℕ) (e : Expr) (p : ℕ) (o : Op) (test : ℕ → Expr) → ((i : ℕ) → Once k e (test i)) → (fuel first n : ℕ) → Once k e (halves p o test fuel first n)
+  halves_once :
+      (k : ℕ) (e : Expr) (p : ℕ) (o : Op) (test : ℕ → Expr) → ((i : ℕ) → Once k e (test i)) → (fuel first n : ℕ) →
+      Once k e (halves p o test fuel first n)
   halves_once k e p o test h zero first n = h first
   halves_once k e p o test h (suc fuel) first n = go (nat_le n 1) (halves_once k e p o test h fuel first (n / 2)) (halves_once k e p o test h fuel (first + n / 2) (n - n / 2))
     where
-      go : (b : Bool) → Once k e (halves p o test fuel first (n / 2)) → Once k e (halves p o test fuel (first + n / 2) (n - n / 2)) →
+      go :
+          (b : Bool) → Once k e (halves p o test fuel first (n / 2)) →
+          Once k e (halves p o test fuel (first + n / 2) (n - n / 2)) →
           Once k e (elim b [ true ↦ test first | false ↦ binary p o (halves p o test fuel first (n / 2)) (halves p o test fuel (first + n / 2) (n - n / 2)) ])
       go true x y = h first
       go false x y = once_both k e (halves p o test fuel first (n / 2)) (halves p o test fuel (first + n / 2) (n - n / 2)) p o x y
 
-  pub joined_few : (k : ℕ) (e : Expr) (p : ℕ) (o : Op) (b : Bool) (test : ℕ → Expr) → ((i : ℕ) → Once k e (test i)) → (n : ℕ) → Few k (joined p o b test n)
+  pub joined_few :
+      (k : ℕ) (e : Expr) (p : ℕ) (o : Op) (b : Bool) (test : ℕ → Expr) → ((i : ℕ) → Once k e (test i)) → (n : ℕ) →
+      Few k (joined p o b test n)
   joined_few k e p o b test h zero l = omega arith
   joined_few k e p o b test h (suc n) l = (halves_once k e p o test h (suc n) 0 (suc n)).few l
 
@@ -288,7 +296,10 @@ module _ (ds : List Decl) (m : Expr → ℕ) (c d : List ℕ → ℕ) (are : Are
     source_name None x = in_name (variable_number os x) (lookup os x) x
     source_name (Some b) x = let z = are.item b.list b.turn in omega (arith, z)
 
-    all_few : (e : Expr) (es : Exprs) → Few (expr_reads c d e) (flat_expr os bs e) → AllFew (exprs_reads c d es) (flat_exprs os bs es) → AllFew (expr_reads c d e + exprs_reads c d es) (flat_exprs os bs (more e es))
+    all_few :
+        (e : Expr) (es : Exprs) → Few (expr_reads c d e) (flat_expr os bs e) →
+        AllFew (exprs_reads c d es) (flat_exprs os bs es) →
+        AllFew (expr_reads c d e + exprs_reads c d es) (flat_exprs os bs (more e es))
     all_few e es h k l = let x = h l in let y = k (reads ds (flat_expr os bs e) l) in omega (arith, x, y)
 
     -- a membership reads its first part once for a list, and else all of its parts and the variable

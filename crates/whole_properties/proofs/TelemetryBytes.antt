@@ -44,7 +44,9 @@ behind_first : (t : Ty) (n : ℕ) (x : Word) (ws : List Word) → item_words t (
 behind_first t zero x ws = refl
 behind_first t (suc n) x ws = ap (λ l. l ++ or_word (slice_get ws n) (nothing_of (width_of t)) ∷ []) (behind_first t n x ws)
 
-none_bits : (t : Ty) (n : ℕ) → sound_width (width_of t) ≡ width_of t → words_bits (item_words t n []) ≡ replicate (n * width_of t) 0
+none_bits :
+    (t : Ty) (n : ℕ) → sound_width (width_of t) ≡ width_of t →
+    words_bits (item_words t n []) ≡ replicate (n * width_of t) 0
 none_bits t zero k = ap (λ m. replicate m 0) (let z : 0 ≡ 0 * width_of t = omega arith in z)
 none_bits t (suc n) k =
     words_both (item_words t n []) (nothing_of (width_of t) ∷ [])
@@ -52,7 +54,9 @@ none_bits t (suc n) k =
     ∙ replicate-append-replicate (n * width_of t) (width_of t) 0
     ∙ ap (λ m. replicate m 0) (let z : n * width_of t + width_of t ≡ suc n * width_of t = omega arith in z)
 
-item_bits : (t : Ty) (ws : List Word) (n : ℕ) → sound_width (width_of t) ≡ width_of t → All (HasWidth (width_of t)) ws → length ws ≤ n →
+item_bits :
+    (t : Ty) (ws : List Word) (n : ℕ) → sound_width (width_of t) ≡ width_of t → All (HasWidth (width_of t)) ws →
+    length ws ≤ n →
     words_bits (item_words t n ws) ≡ numbers_bits (width_of t) ws ++ replicate ((n - length ws) * width_of t) 0
 item_bits t [] n k all le = none_bits t n k ∙ ap (λ m. replicate (m * width_of t) 0) (let z : n ≡ n - 0 = omega arith in z)
 item_bits t (x ∷ ws) zero k all le = absurd (omega (arith, le))
@@ -77,7 +81,9 @@ none_of : (ws : List Word) (w : ℕ) → length ws ≡ 0 → slot_bits w 0 ws �
 none_of [] w e = refl
 none_of (x ∷ ws) w e = absurd (omega (arith, e))
 
-shape_bits : (s : Shape) (ws : List Word) → sound_width (shape_width s) ≡ shape_width s → IsHeld IsTeleCount s ws → IsRoomy s → slot_bits (shape_width s) (shape_size s) ws ≡ words_bits (shape_words s ws)
+shape_bits :
+    (s : Shape) (ws : List Word) → sound_width (shape_width s) ≡ shape_width s → IsHeld IsTeleCount s ws → IsRoomy s →
+    slot_bits (shape_width s) (shape_size s) ws ≡ words_bits (shape_words s ws)
 shape_bits (one t) [] k h r = absurd (let c = h.count in omega (arith, c))
 shape_bits (one t) (x ∷ []) k h r = ap (λ v. number_bits v x.value ++ []) (sym ((All-head (HasWidth (width_of t)) x [] h.words).width ∙ k))
 shape_bits (one t) (x ∷ y ∷ ws) k h r = absurd (let c = h.count in omega (arith, c))
@@ -92,7 +98,8 @@ shape_bits (dict ks t) ws k h r = none_of ws (shape_width (dict ks t)) h.count
 abbrev Travels : Held → Decl → Type 0
 Travels t d = d.kind ≡ Tele → (sound_width (shape_width d.shape) ≡ shape_width d.shape) × IsHeld IsTeleCount d.shape (t d.name) × IsRoomy d.shape
 
-all_bits : (ds : List Decl) (t : Held) → AllByRecursion (Travels t) ds → variables_bits ds t ≡ words_bits (tele_words ds t)
+all_bits :
+    (ds : List Decl) (t : Held) → AllByRecursion (Travels t) ds → variables_bits ds t ≡ words_bits (tele_words ds t)
 all_bits [] t h = refl
 all_bits (d ∷ ds) t h = go d.kind refl (all_bits ds t h.1) ∙ sym (words_both (kind_words d.kind d t) (tele_words ds t))
   where

@@ -27,13 +27,17 @@ scalar_path x = tele_header ++ tele_name x ∷ []
 
 -- ---- words in two lists of fields
 
-pub has_left : (p : List (List ℕ)) (fs gs : List Field) (ws vs : List Word) (s : Store) → length fs ≡ length ws → HasWords p (fs ++ gs) (ws ++ vs) s → HasWords p fs ws s × HasWords p gs vs s
+pub has_left :
+    (p : List (List ℕ)) (fs gs : List Field) (ws vs : List Word) (s : Store) → length fs ≡ length ws →
+    HasWords p (fs ++ gs) (ws ++ vs) s → HasWords p fs ws s × HasWords p gs vs s
 has_left p [] gs [] vs s e h = (tt, h)
 has_left p [] gs (w ∷ ws) vs s e h = absurd (omega (arith, e))
 has_left p (f ∷ fs) gs [] vs s e h = absurd (omega (arith, e))
 has_left p (f ∷ fs) gs (w ∷ ws) vs s e h = let r = has_left p fs gs ws vs s (omega (arith, e)) h.1 in ((h.0, r.0), r.1)
 
-pub has_both : (p : List (List ℕ)) (fs gs : List Field) (ws vs : List Word) (s : Store) → HasWords p fs ws s → HasWords p gs vs s → HasWords p (fs ++ gs) (ws ++ vs) s
+pub has_both :
+    (p : List (List ℕ)) (fs gs : List Field) (ws vs : List Word) (s : Store) → HasWords p fs ws s → HasWords p gs vs s →
+    HasWords p (fs ++ gs) (ws ++ vs) s
 has_both p [] gs [] vs s h k = k
 has_both p [] gs (w ∷ ws) vs s h k = absurd h
 has_both p (f ∷ fs) gs [] vs s h k = absurd h
@@ -43,7 +47,9 @@ pub fields_of_both : (ds es : List Decl) → tele_fields (ds ++ es) ≡ tele_fie
 fields_of_both [] es = refl
 fields_of_both (d ∷ ds) es = ap (λ l. tele_field d.kind d ++ l) (fields_of_both ds es) ∙ sym (append_assoc (tele_field d.kind d) (tele_fields ds) (tele_fields es))
 
-long_both : (fs gs : List Field) (ws vs : List Word) → length fs ≡ length ws → length gs ≡ length vs → length (fs ++ gs) ≡ length (ws ++ vs)
+long_both :
+    (fs gs : List Field) (ws vs : List Word) → length fs ≡ length ws → length gs ≡ length vs →
+    length (fs ++ gs) ≡ length (ws ++ vs)
 long_both fs gs ws vs h k = let a = length-append fs gs in let b = length-append ws vs in omega (arith, a, b, h, k)
 
 -- ---- one variable
@@ -56,7 +62,8 @@ HoldsStore v (list t n) ws s =
 HoldsStore v (set ks) ws s = Unit {0}
 HoldsStore v (dict ks t) ws s = Unit {0}
 
-items_long : (p v : ℕ) (t : Ty) (n : ℕ) (ws : List Word) → length (tele_fields (item_decls p v t n)) ≡ length (item_words t n ws)
+items_long :
+    (p v : ℕ) (t : Ty) (n : ℕ) (ws : List Word) → length (tele_fields (item_decls p v t n)) ≡ length (item_words t n ws)
 items_long p v t zero ws = refl
 items_long p v t (suc i) ws =
     ap length (fields_of_both (item_decls p v t i) (scalar_decl p (item_name v i) t ∷ []))
@@ -86,19 +93,24 @@ items_to p v t (suc m) ws s h =
     subst (λ fs. HasWords tele_header fs (item_words t (suc m) ws) s) (sym (fields_of_both (item_decls p v t m) (scalar_decl p (item_name v m) t ∷ [])))
     (has_both tele_header (tele_fields (item_decls p v t m)) _ (item_words t m ws) _ s (items_to p v t m ws s (λ i lt. h i (omega (arith, lt)))) (h m (omega arith), tt))
 
-shape_long : (p v : ℕ) (sh : Shape) (ws : List Word) → length (tele_fields (numbered_shape p v sh)) ≡ length (shape_words sh ws)
+shape_long :
+    (p v : ℕ) (sh : Shape) (ws : List Word) → length (tele_fields (numbered_shape p v sh)) ≡ length (shape_words sh ws)
 shape_long p v (one t) ws = refl
 shape_long p v (list t n) ws = ap suc (items_long p v t n ws)
 shape_long p v (set ks) ws = refl
 shape_long p v (dict ks t) ws = refl
 
-shape_from : (p v : ℕ) (sh : Shape) (ws : List Word) (s : Store) → HasWords tele_header (tele_fields (numbered_shape p v sh)) (shape_words sh ws) s → HoldsStore v sh ws s
+shape_from :
+    (p v : ℕ) (sh : Shape) (ws : List Word) (s : Store) →
+    HasWords tele_header (tele_fields (numbered_shape p v sh)) (shape_words sh ws) s → HoldsStore v sh ws s
 shape_from p v (one t) ws s h = h.0
 shape_from p v (list t n) ws s h = (h.0, λ i lt. items_from p v t n ws s h.1 i lt)
 shape_from p v (set ks) ws s h = tt
 shape_from p v (dict ks t) ws s h = tt
 
-shape_to : (p v : ℕ) (sh : Shape) (ws : List Word) (s : Store) → HoldsStore v sh ws s → HasWords tele_header (tele_fields (numbered_shape p v sh)) (shape_words sh ws) s
+shape_to :
+    (p v : ℕ) (sh : Shape) (ws : List Word) (s : Store) → HoldsStore v sh ws s →
+    HasWords tele_header (tele_fields (numbered_shape p v sh)) (shape_words sh ws) s
 shape_to p v (one t) ws s h = (h, tt)
 shape_to p v (list t n) ws s h = (h.0, items_to p v t n ws s (λ i lt. h.1 i lt))
 shape_to p v (set ks) ws s h = tt
@@ -113,19 +125,26 @@ no_field Sensor d e n = ap (λ k. tele_field k d ++ []) e
 no_field Header d e n = ap (λ k. tele_field k d ++ []) e
 no_field Control d e n = ap (λ k. tele_field k d ++ []) e
 
-kind_long : (k : DeclKind) (v : ℕ) (d : Decl) (t : Held) → d.kind ≡ k → length (tele_fields (numbered_kind k v d)) ≡ length (kind_words k d t)
+kind_long :
+    (k : DeclKind) (v : ℕ) (d : Decl) (t : Held) → d.kind ≡ k →
+    length (tele_fields (numbered_kind k v d)) ≡ length (kind_words k d t)
 kind_long Tele v d t e = shape_long d.at v d.shape (t d.name)
 kind_long Sensor v d t e = ap length (no_field Sensor d e (λ i. absurd (cc)))
 kind_long Header v d t e = ap length (no_field Header d e (λ i. absurd (cc)))
 kind_long Control v d t e = ap length (no_field Control d e (λ i. absurd (cc)))
 
-kind_to : (k : DeclKind) (v : ℕ) (d : Decl) (t : Held) (s : Store) → d.kind ≡ k → (k ≡ Tele → HoldsStore v d.shape (t d.name) s) → HasWords tele_header (tele_fields (numbered_kind k v d)) (kind_words k d t) s
+kind_to :
+    (k : DeclKind) (v : ℕ) (d : Decl) (t : Held) (s : Store) → d.kind ≡ k →
+    (k ≡ Tele → HoldsStore v d.shape (t d.name) s) →
+    HasWords tele_header (tele_fields (numbered_kind k v d)) (kind_words k d t) s
 kind_to Tele v d t s e h = shape_to d.at v d.shape (t d.name) s (h refl)
 kind_to Sensor v d t s e h = subst (λ fs. HasWords tele_header fs [] s) (sym (no_field Sensor d e (λ i. absurd (cc)))) tt
 kind_to Header v d t s e h = subst (λ fs. HasWords tele_header fs [] s) (sym (no_field Header d e (λ i. absurd (cc)))) tt
 kind_to Control v d t s e h = subst (λ fs. HasWords tele_header fs [] s) (sym (no_field Control d e (λ i. absurd (cc)))) tt
 
-kind_from : (k : DeclKind) (v : ℕ) (d : Decl) (t : Held) (s : Store) → k ≡ Tele → HasWords tele_header (tele_fields (numbered_kind k v d)) (kind_words k d t) s → HoldsStore v d.shape (t d.name) s
+kind_from :
+    (k : DeclKind) (v : ℕ) (d : Decl) (t : Held) (s : Store) → k ≡ Tele →
+    HasWords tele_header (tele_fields (numbered_kind k v d)) (kind_words k d t) s → HoldsStore v d.shape (t d.name) s
 kind_from Tele v d t s e h = shape_from d.at v d.shape (t d.name) s h
 kind_from Sensor v d t s e h = absurd (cc)
 kind_from Header v d t s e h = absurd (cc)
@@ -168,7 +187,8 @@ words_to (e ∷ ds) n t s o h =
     (words_to ds (n + 1) t s o.1 (λ x d v is num k. h x d v (behind_found e ds o.0 x d is) (ap (λ b. cond b (Some n) (rest x)) (other_name e ds o.0 x d is) ∙ num) k)))
 
 -- as many words as fields
-pub words_long : (ds : List Decl) (n : ℕ) (t : Held) → length (tele_fields (numbered_from n ds)) ≡ length (tele_words ds t)
+pub words_long :
+    (ds : List Decl) (n : ℕ) (t : Held) → length (tele_fields (numbered_from n ds)) ≡ length (tele_words ds t)
 words_long [] n t = refl
 words_long (e ∷ ds) n t =
     ap length (fields_of_both (numbered_kind e.kind n e) (numbered_from (n + 1) ds))

@@ -55,7 +55,9 @@ or_fits ws i w all = go (slice_get ws i) refl
     go None e = nothing_fits w
     go (Some u) e = subst (HasWidth w) (get_or_from_slice_get ws i u (nothing_of w) e) (All-get_or (HasWidth w) ws i (nothing_of w) (slice_get_within ws i u e) all)
 
-items_for : (p v : ℕ) (t : Ty) (n : ℕ) (ws : List Word) → sound_width (width_of t) ≡ width_of t → All (HasWidth (width_of t)) ws → AreFor (tele_fields (item_decls p v t n)) (item_words t n ws)
+items_for :
+    (p v : ℕ) (t : Ty) (n : ℕ) (ws : List Word) → sound_width (width_of t) ≡ width_of t →
+    All (HasWidth (width_of t)) ws → AreFor (tele_fields (item_decls p v t n)) (item_words t n ws)
 items_for p v t zero ws k all = tt
 items_for p v t (suc i) ws k all =
     let f = fits_field (width_of t) (or_word (slice_get ws i) (nothing_of (width_of t))) k (or_fits ws i (width_of t) all) in
@@ -66,7 +68,9 @@ scalar_fits : (ws : List Word) (w : ℕ) → All (HasWidth w) ws → HasWidth w 
 scalar_fits [] w all = nothing_fits w
 scalar_fits (x ∷ xs) w all = All-head (HasWidth w) x xs all
 
-shape_for : (p v : ℕ) (s : Shape) (ws : List Word) → sound_width (shape_width s) ≡ shape_width s → IsShort s → IsHeld IsTeleCount s ws → AreFor (tele_fields (numbered_shape p v s)) (shape_words s ws)
+shape_for :
+    (p v : ℕ) (s : Shape) (ws : List Word) → sound_width (shape_width s) ≡ shape_width s → IsShort s →
+    IsHeld IsTeleCount s ws → AreFor (tele_fields (numbered_shape p v s)) (shape_words s ws)
 shape_for p v (one t) ws k short h = let f = fits_field (width_of t) (scalar ws (width_of t)) k (scalar_fits ws (width_of t) h.words) in (f.0, f.1, tt)
 shape_for p v (list t n) ws k short h = (refl, (let c = h.count in omega (arith, c, short)), items_for p v t n ws k h.words)
 shape_for p v (set ks) ws k short h = tt
@@ -115,7 +119,9 @@ shape_zero p v (list t n) = ap (λ (l : List Word). word 8 0 ∷ l) (items_zero 
 shape_zero p v (set ks) = refl
 shape_zero p v (dict ks t) = refl
 
-kind_zero : (k : DeclKind) (v : ℕ) (d : Decl) (t : Held) → d.kind ≡ k → (k ≡ Tele → t d.name ≡ start_of_shape d.shape) → kind_words k d t ≡ zeros (tele_fields (numbered_kind k v d))
+kind_zero :
+    (k : DeclKind) (v : ℕ) (d : Decl) (t : Held) → d.kind ≡ k → (k ≡ Tele → t d.name ≡ start_of_shape d.shape) →
+    kind_words k d t ≡ zeros (tele_fields (numbered_kind k v d))
 kind_zero Tele v d t e h = ap (shape_words d.shape) (h refl) ∙ shape_zero d.at v d.shape
 kind_zero Sensor v d t e h = ap zeros (sym (no_field Sensor d e (λ i. absurd (cc))))
 kind_zero Header v d t e h = ap zeros (sym (no_field Header d e (λ i. absurd (cc))))

@@ -10,8 +10,8 @@ use Rattle.flat_laws.specs.Meaning.{IsPlainProperty}
 use Rattle.monitor_laws.specs.MonitorLaws.{IsView}
 use Rattle.whole_properties.specs.Whole.{Given, views_in}
 
--- a well-typed property that is made flat, whose reports have numbers of 16 bits, as those of a text have, and whose header
--- variables read no path of the monitor's, which the linker tests
+-- a well-typed property that is made flat, whose reports have numbers of 16 bits, as those of a text have, and whose
+-- header variables read no path of the monitor's, which the linker tests
 pub record IsGiven (g : Given) : Type 0 where
   pub plain : IsPlainProperty g.property
   pub light : property_weight g.property ≤ greatest_weight

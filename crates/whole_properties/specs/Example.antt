@@ -70,7 +70,10 @@ looks =
       init =
           next
           (choice 0 (member 0 (more (at_h (codes "d")) none) (codes "l"))
-          (next (cell 0 (codes "n") read_h (binary 0 op.Add (at_h (codes "n")) (num 0 (record { width = 0; value = 1 })))) done) done)
+          (next
+          (cell 0 (codes "n") read_h (binary 0 op.Add (at_h (codes "n")) (num 0 (record { width = 0; value = 1 }))))
+          done)
+          done)
           done;
       tele = done;
       check = done;
@@ -97,6 +100,10 @@ looks_at i x v =
     p4.binary 0 p4o.Both (p4.binary 0 p4o.Less (number 8 i) (scalar (codes "hydra_v_1_c")))
     (p4.binary 0 p4o.Equal (scalar x) (variable v))
 
+-- the cells hold values xor 7
+abbrev turned_7 : p4.Expr → p4.Expr
+turned_7 e = p4.binary 0 p4o.BitXor e (number 8 7)
+
 -- a cell is read, where there is one, and one more is written
 abbrev counting : Stmts
 counting =
@@ -107,10 +114,10 @@ counting =
     (p4.next
     (p4.call 0 (codes "hydra_s_n" ∷ codes "read" ∷ [])
     (p4.one 0 (variable (codes "hydra_f_1")) ∷ p4.one 0 (variable (codes "hydra_k_1_0")) ∷ []))
-    (p4.next (p4.assign 0 (codes "hydra_f_1" ∷ []) (p4.binary 0 p4o.BitXor (variable (codes "hydra_f_1")) (number 8 7))) p4.done)))
+    (p4.next (p4.assign 0 (codes "hydra_f_1" ∷ []) (turned_7 (variable (codes "hydra_f_1")))) p4.done)))
     (p4.next
     (p4.call 0 (codes "hydra_s_n" ∷ codes "write" ∷ [])
-    (p4.one 0 hab ∷ p4.one 0 (p4.binary 0 p4o.BitXor (p4.binary 0 p4o.Add (variable (codes "hydra_f_1")) (number 0 1)) (number 8 7)) ∷ []))
+    (p4.one 0 hab ∷ p4.one 0 (turned_7 (p4.binary 0 p4o.Add (variable (codes "hydra_f_1")) (number 0 1))) ∷ []))
     p4.done)))
 
 abbrev pub looking_code : Stmts
@@ -120,6 +127,7 @@ looking_code =
     (p4.next (p4.call 0 (codes "hydra_t_0.I" ∷ codes "apply" ∷ []) [])
     (p4.next
     (p4.choice 0
-    (p4.binary 0 p4o.Either (looks_at 0 (codes "hydra_v_1_0") (codes "hydra_f_0")) (looks_at 1 (codes "hydra_v_1_1") (codes "hydra_f_0")))
+    (p4.binary 0 p4o.Either (looks_at 0 (codes "hydra_v_1_0") (codes "hydra_f_0"))
+    (looks_at 1 (codes "hydra_v_1_1") (codes "hydra_f_0")))
     (p4.block 0 counting) p4.without)
     p4.done)))

@@ -19,4 +19,5 @@ TablesAreFew = (g : Given) (v : List ℕ) → is_plain v ≡ true → lookups_of
 -- no more numbers are spent than the property weighs
 abbrev pub NumbersAreFew : Type 0
 NumbersAreFew =
-    (g : Given) → IsPlainProperty g.property → block_end (decls g) (check g) (check_first g) ≤ property_weight g.property
+    (g : Given) → IsPlainProperty g.property →
+    block_end (decls g) (check g) (check_first g) ≤ property_weight g.property

@@ -1,5 +1,5 @@
--- The monitor of a whole property: its flat code over numbered scalars in P4. Read `Statements` of `lowered_code`, `Tables` of
--- `lookup_tables`, `Numbered` of `flat_laws` and `Monitor` of `monitor_laws` before it.
+-- The monitor of a whole property: its flat code over numbered scalars in P4. Read `Statements` of `lowered_code`,
+-- `Tables` of `lookup_tables`, `Numbered` of `flat_laws` and `Monitor` of `monitor_laws` before it.
 use Rattle.std.specs.Prelude.{◌≡◌, codes, ℕ, zero, suc, ◌+◌, ◌-◌, ◌*◌, ◌/◌, List, [], ◌∷◌, ◌++◌, map, length, slice_get, Bool, false, Option, Some, None, if◌then◌else◌, nat_eq}
 use Rattle.std.specs.List.{AllByRecursion}
 use Rattle.bit_values.specs.Bits.{Word, word}
@@ -132,7 +132,9 @@ views_in (d ∷ ds) = view_in d.kind d ++ views_in ds
 abbrev pub loads : List Decl → List Lookup → (ℕ → Contents) → Tables → Tables
 loads ds [] c held x = held x
 loads ds (l ∷ ls) c held x =
-    if same_text (table_name l.control l.number) x then entries_for l (contents_in ds c l.decl.name) else loads ds ls c held x
+    if same_text (table_name l.control l.number) x
+    then entries_for l (contents_in ds c l.decl.name)
+    else loads ds ls c held x
 
 abbrev pub is_number : Option ℕ → ℕ → Bool
 is_number None v = false
@@ -185,7 +187,8 @@ module _ (g : Given) where
   abbrev pub checks : (switch : ℕ) → p4.Stmt
   checks s =
       only_if (variable last_name)
-      (next (p4.assign 0 (rejected_name ∷ []) (p4.flag 0 false)) (block_code (on_switch s g.egress) decls check check_first))
+      (next (p4.assign 0 (rejected_name ∷ []) (p4.flag 0 false))
+      (block_code (on_switch s g.egress) decls check check_first))
 
   abbrev pub lower_monitor : Monitor Held Held Contents
   lower_monitor =
@@ -225,10 +228,12 @@ module _ (g : Given) where
         (x : List ℕ) (d : Decl) → lookup g.property.decls x ≡ Some d → d.kind ≡ Sensor
         → b.registers (sensor_name x) ≡ map (cell_value (start_word d.start (shape_width d.shape))) (z x)
     pub shaped :
-        (x : List ℕ) (d : Decl) → lookup g.property.decls x ≡ Some d → d.kind ≡ Sensor → IsHeld IsSensorCount d.shape (z x)
+        (x : List ℕ) (d : Decl) → lookup g.property.decls x ≡ Some d → d.kind ≡ Sensor
+        → IsHeld IsSensorCount d.shape (z x)
     pub contents : FitContents c
     pub tables :
-        AllByRecursion (λ l. b.tables (table_name l.control l.number) ≡ entries_for l (contents_in g.property.decls c l.decl.name)) lookups
+        AllByRecursion
+        (λ l. b.tables (table_name l.control l.number) ≡ entries_for l (contents_in g.property.decls c l.decl.name)) lookups
 
   -- the numbers that name a control variable
   abbrev pub IsVariable : ℕ → Type 0
@@ -239,5 +244,5 @@ module _ (g : Given) where
   -- the contents that it may have
   abbrev pub IsFitContents : (variable : ℕ) → Contents → Type 0
   IsFitContents v k =
-      (x : List ℕ) (d : Decl) → lookup g.property.decls x ≡ Some d → d.kind ≡ Control → variable_number g.property.decls x ≡ Some v
-      → GiveWidth (shape_width d.shape) k
+      (x : List ℕ) (d : Decl) → lookup g.property.decls x ≡ Some d → d.kind ≡ Control
+      → variable_number g.property.decls x ≡ Some v → GiveWidth (shape_width d.shape) k
