@@ -1,16 +1,14 @@
--- A P4 program whose two tables hold one control variable, a set of bytes, and a network of one switch that runs it. A frame of
--- one byte goes on where the ingress finds its byte in the set, and leaves by port 2 where the egress finds it there; else it is
--- dropped. All places are 0.
+-- A P4 program whose two tables hold one control variable, a set of bytes, and a network of one switch that runs it. A
+-- frame of one byte goes on where the ingress finds its byte in the set, and leaves by port 2 where the egress finds it
+-- there; else it is dropped. All places are 0.
 use Rattle.std.specs.Prelude.{codes, ℕ, List, [], ◌∷◌, ◌++◌, map, None}
 use Rattle.bit_values.specs.Bits.{Word, word}
-use Rattle.p4_tree.specs.Tree.{Expr, path, binary, one, Stmts, Stmt, block, assign, choice, call, done, next, otherwise, to, Local, local_action, local_table, local_var, header_type, struct_type, parser, control, Program}
+use Rattle.p4_tree.specs.Tree.{path, binary, one, Stmts, block, assign, choice, call, done, next, otherwise, to, Local, local_action, local_table, local_var, header_type, struct_type, parser, Program}
 use Rattle.p4_tree.specs.declared.statement.PTy.TheVariants as type
 use Rattle.p4_tree.specs.declared.statement.Op.TheVariants.{Equal}
-use Rattle.p4_meaning.specs.Standard.{egress_spec}
 use Rattle.p4_meaning.specs.Parts.{parts_of}
 use Rattle.p4_meaning.specs.Pass.{Kept, Queued, parts_enter, parts_leave}
 use Rattle.p4_meaning.specs.Tables.{Tables}
-use Rattle.p4_tables.specs.State.{Held}
 use Rattle.p4_tables.specs.Named.{tables_in}
 use Rattle.p4_tables.specs.Programs.{state_before}
 use Rattle.indus_tree.specs.Tree as indus
@@ -25,7 +23,7 @@ use Rattle.lookup_names.specs.Names.{table_name, found_name, key_name}
 use Rattle.lookup_names.specs.Keys.{variable}
 use Rattle.control_tables.specs.Tables.{table_of, action_of}
 use Rattle.control_maps.specs.Numbers.{Numbered, load_in}
-use Rattle.wire_program.specs.WireProgram.{parser_params, deparser_params, two_params, three_params, main_names, control_of}
+use Rattle.wire_program.specs.WireProgram.{parser_params, deparser_params, two_params, three_params, main_names, control_of, control_with, send_by}
 use Rattle.path_runner.specs.Nets.{State, Switch, controls_of, run_in}
 use Rattle.path_runner.specs.Starts.{state_before as net_before}
 use Rattle.network_tests.specs.Routing.{byte_header, on_packet}
@@ -53,7 +51,8 @@ guard n goes =
     next (assign 0 (found_name n ∷ []) (number 1 0))
     (next (assign 0 (key_name n 0 ∷ []) (path 0 (byte_header ++ codes "byte" ∷ [])))
     (next (call 0 (table_name n ∷ codes "apply" ∷ []) [])
-    (next (choice 0 (binary 0 Equal (variable (found_name n)) (number 1 1)) (block 0 goes) (otherwise (block 0 drop))) done)))
+    (next (choice 0 (binary 0 Equal (variable (found_name n)) (number 1 1)) (block 0 goes) (otherwise (block 0 drop)))
+    done)))
 
 abbrev pub guarding : Program
 guarding =
@@ -67,11 +66,16 @@ guarding =
             at = 0;
             name = codes "WireParser";
             params = parser_params;
-            states = record { at = 0; name = codes "start"; body = call 0 (codes "packet" ∷ codes "extract" ∷ []) (one 0 (path 0 byte_header) ∷ []) ∷ []; next = to 0 (codes "accept") } ∷ [];
+            states = record {
+              at = 0;
+              name = codes "start";
+              body = call 0 (codes "packet" ∷ codes "extract" ∷ []) (one 0 (path 0 byte_header) ∷ []) ∷ [];
+              next = to 0 (codes "accept");
+            } ∷ [];
           })
           ∷ control_of (codes "WireVerify") two_params done
-          ∷ control 0 (record { at = 0; name = codes "WireIngress"; params = three_params; locals = lookup_locals 0; apply = guard 0 (next (assign 0 egress_spec (number 0 2)) done) })
-          ∷ control 0 (record { at = 0; name = codes "WireEgress"; params = three_params; locals = lookup_locals 1; apply = guard 1 done })
+          ∷ control_with (codes "WireIngress") three_params (lookup_locals 0) (guard 0 (send_by 2))
+          ∷ control_with (codes "WireEgress") three_params (lookup_locals 1) (guard 1 done)
           ∷ control_of (codes "WireCompute") two_params done
           ∷ control_of (codes "WireDeparser") deparser_params (on_packet (codes "emit"))
           ∷ [];
@@ -80,7 +84,10 @@ guarding =
 
 -- both tables hold variable 0
 abbrev pub guards : List Numbered
-guards = record { table = 0; action = 0; variable = 0; shape = bytes } ∷ record { table = 1; action = 1; variable = 0; shape = bytes } ∷ []
+guards =
+    record { table = 0; action = 0; variable = 0; shape = bytes }
+    ∷ record { table = 1; action = 1; variable = 0; shape = bytes }
+    ∷ []
 
 -- ---- the network
 
@@ -95,8 +102,8 @@ guard_switch c = record { program = guarding; tables = load_in guards (λ v. c) 
 -- one packet at port 1 of it, with a frame of one byte
 abbrev pub guarded : Contents → (byte : ℕ) → State
 guarded c b =
-    net_before (record { names = codes "s1" ∷ []; links = [] }) (record { hops = 64; link = 65535 }) (guard_switch c ∷ []) (guards ∷ [])
-    (record { switch = 0; port = 1; frame = b ∷ [] } ∷ [])
+    net_before (record { names = codes "s1" ∷ []; links = [] }) (record { hops = 64; link = 65535 })
+    (guard_switch c ∷ []) (guards ∷ []) (record { switch = 0; port = 1; frame = b ∷ [] } ∷ [])
 
 -- the same as a world, with a schedule
 abbrev pub guarded_world : Contents → (byte : ℕ) → List (Event Contents) → World Tables Contents
@@ -116,7 +123,8 @@ guard_programs = record { program = λ s. parts_of guarding; reads = λ s. [] }
 unfoldable pub guarded_end : Contents → (byte : ℕ) → List (Event Contents) → Net Kept Queued Contents
 unfolding parts_enter parts_leave state_before
 guarded_end c b es =
-    run_in guard_programs (guarded c b) (first_net (machine_with (controls_of (guarded c b)) guard_programs) (guarded_world c b es))
+    let s = guarded c b in
+    run_in guard_programs s (first_net (machine_with (controls_of s) guard_programs) (guarded_world c b es))
     (es ++ closing 64 0 1)
 
 -- the frames that left, and how many packets were dropped

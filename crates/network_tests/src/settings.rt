@@ -37,21 +37,24 @@ fn contents_set_between_the_halves()
     ensures taken { frames_left (guarded_end (set_of (7 ∷ [])) 7 (Enter 0 ∷ set_bytes 0 [] ∷ Leave 0 ∷ [])) ≡ [] }
     ensures dropped { length (guarded_end (set_of (7 ∷ [])) 7 (Enter 0 ∷ set_bytes 0 [] ∷ Leave 0 ∷ [])).dropped ≡ 1 }
     ensures late { frames_left (guarded_end (set_of []) 7 (Enter 0 ∷ set_bytes 0 (7 ∷ []) ∷ Leave 0 ∷ [])) ≡ [] }
-    ensures back { frames_left (guarded_end (set_of (7 ∷ [])) 7 (Enter 0 ∷ set_bytes 0 [] ∷ set_bytes 0 (7 ∷ []) ∷ Leave 0 ∷ []))
+    ensures back { frames_left (guarded_end (set_of (7 ∷ [])) 7
+        (Enter 0 ∷ set_bytes 0 [] ∷ set_bytes 0 (7 ∷ []) ∷ Leave 0 ∷ [])) ≡ (7 ∷ []) ∷ [] }
+    ensures behind { frames_left (guarded_end (set_of (7 ∷ [])) 7 (Enter 0 ∷ Leave 0 ∷ set_bytes 0 [] ∷ []))
         ≡ (7 ∷ []) ∷ [] }
-    ensures behind { frames_left (guarded_end (set_of (7 ∷ [])) 7 (Enter 0 ∷ Leave 0 ∷ set_bytes 0 [] ∷ [])) ≡ (7 ∷ []) ∷ [] }
 {}
 
 /// The same contents set twice are held as if they were set once.
 fn contents_set_twice()
-    ensures { set_in guards 0 (set_of (7 ∷ 8 ∷ [])) (set_in guards 0 (set_of (7 ∷ 8 ∷ [])) (load_in guards (λ v. set_of []) (state_before guarding)))
-        ≡ set_in guards 0 (set_of (7 ∷ 8 ∷ [])) (load_in guards (λ v. set_of []) (state_before guarding)) }
+    ensures { let st = load_in guards (λ v. set_of []) (state_before guarding) in
+        set_in guards 0 (set_of (7 ∷ 8 ∷ [])) (set_in guards 0 (set_of (7 ∷ 8 ∷ [])) st)
+        ≡ set_in guards 0 (set_of (7 ∷ 8 ∷ [])) st }
 {}
 
 /// A variable that no table holds changes no table.
 #[tactic(auto, unfolding(crate::specs::Guarding::guarded_end))]
 fn variable_that_no_table_holds()
-    ensures tables { tables_after (guarded (set_of (7 ∷ [])) 7) (set_bytes 1 []) ≡ tables_of (guarded (set_of (7 ∷ [])) 7) }
+    ensures tables { tables_after (guarded (set_of (7 ∷ [])) 7) (set_bytes 1 [])
+        ≡ tables_of (guarded (set_of (7 ∷ [])) 7) }
     ensures frames { frames_left (guarded_end (set_of (7 ∷ [])) 7 (set_bytes 1 [] ∷ [])) ≡ (7 ∷ []) ∷ [] }
 {}
 

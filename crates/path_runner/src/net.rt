@@ -39,7 +39,7 @@ pub struct Net<P: Pass + Drop> {
     given_up: bool,
     ghost switches: { length stations.items ≡ length network.names },
     ghost lists: { length maps.items ≡ length network.names },
-    ghost mapped: { AreMapped (map (λ s. switch_of P.program P.tables P.cells s.switch) stations.items) (maps_of maps.items) } by { mapped_prop (map (λ s. switch_of P.program P.tables P.cells s.switch) stations.items) (maps_of maps.items) },
+    ghost mapped: { AreMapped (map (λ s. switch_of P.program P.tables P.cells s.switch) stations.items) (maps_of maps.items) } by { mapped_prop _ _ },
     ghost wired: { IsWiring (wiring_of network) },
     ghost within: { list_all (is_within (length network.names) (limits_of limits)) (map place_in places.items) ≡ true },
     ghost made: { AreMade (map (λ s. P.program s.switch) stations.items) places.items },
@@ -80,7 +80,8 @@ impl<P: Pass + Drop> Net<P> {
         requires { IsHandedIn network (record { hops = hops; link = limit }) (each (switch_of P.program P.tables P.cells) switches.items)
             bufs.items (maps_of map.items) (each arrival_of packets.items) }
         ensures state { IfOk result (λ n. state_of n ≡ state_before network (record { hops = hops; link = limit })
-            (each (switch_of P.program P.tables P.cells) switches.items) (maps_of map.items) (each arrival_of packets.items)) }
+            (each (switch_of P.program P.tables P.cells) switches.items) (maps_of map.items)
+            (each arrival_of packets.items)) }
         ensures starts { IfOk result (λ n. Starts (each (switch_of P.program P.tables P.cells) switches.items)
             (each arrival_of packets.items) (state_of n)) }
         ensures worlds { IfOk result (λ n. StartsWorlds (each (switch_of P.program P.tables P.cells) switches.items)
@@ -152,10 +153,12 @@ impl<P: Pass + Drop> Net<P> {
     ) -> Result<(), AllocError>
         requires { IsEvent (state_of self.old) (Set switch variable (contents_of contents.now)) }
         ensures same { IsSame (state_of self.old) (state_of self.new) }
-        ensures others { LeavesTables (Set switch variable (contents_of contents.now)) (state_of self.old) (state_of self.new) }
+        ensures others { LeavesTables (Set switch variable (contents_of contents.now))
+            (state_of self.old) (state_of self.new) }
         ensures tables { OnOk result (tables_of (state_of self.new)
             ≡ tables_after (state_of self.old) (Set switch variable (contents_of contents.now))) }
-        ensures set { OnOk result (RunsTo (state_of self.old) (Set switch variable (contents_of contents.now) ∷ []) (state_of self.new)) }
+        ensures set { OnOk result (RunsTo (state_of self.old)
+            (Set switch variable (contents_of contents.now) ∷ []) (state_of self.new)) }
     {
         let at = switch as usize;
         set(
@@ -172,7 +175,8 @@ impl<P: Pass + Drop> Net<P> {
         requires { IsEvent (state_of self.old) (event_of event.now) }
         ensures same { IsSame (state_of self.old) (state_of self.new) }
         ensures others { LeavesTables (event_of event.now) (state_of self.old) (state_of self.new) }
-        ensures tables { OnOk result (tables_of (state_of self.new) ≡ tables_after (state_of self.old) (event_of event.now)) }
+        ensures tables { OnOk result (tables_of (state_of self.new)
+            ≡ tables_after (state_of self.old) (event_of event.now)) }
         ensures happens { OnOk result (RunsTo (state_of self.old) (event_of event.now ∷ []) (state_of self.new)) }
     {
         match event {
@@ -197,7 +201,8 @@ impl<P: Pass + Drop> Net<P> {
         requires { IsEvent (state_of self.old) (event_of event.now) }
         ensures same { IsSame (state_of self.old) (state_of self.new) }
         ensures others { LeavesTables (event_of event.now) (state_of self.old) (state_of self.new) }
-        ensures tables { OnOk result (tables_of (state_of self.new) ≡ tables_after (state_of self.old) (event_of event.now)) }
+        ensures tables { OnOk result (tables_of (state_of self.new)
+            ≡ tables_after (state_of self.old) (event_of event.now)) }
         ensures happens { OnOk result (RunsTo (state_of self.old) (event_of event.now ∷ []) (state_of self.new)) }
         ensures given_up { IsErr result ↔ IsTrue (is_given_up self.new) }
         ensures stays { IsTrue (is_given_up self.old) → IsErr result }
@@ -235,7 +240,8 @@ impl<P: Pass + Drop> Net<P> {
         ensures ends { IfOk result (λ x. RunsTo (state_of self) (closing (state_of self).limits.hops 0 (length (state_of self).places))
             (log_of P.program P.tables P.cells (state_of self).limits x)) }
         ensures kept { IfOk result (λ x. AreKept (state_of self) (log_of P.program P.tables P.cells (state_of self).limits x)) }
-        ensures tables { IfOk result (λ x. tables_of (log_of P.program P.tables P.cells (state_of self).limits x) ≡ tables_of (state_of self)) }
+        ensures tables { IfOk result (λ x. tables_of (log_of P.program P.tables P.cells (state_of self).limits x)
+            ≡ tables_of (state_of self)) }
         ensures given_up { IsTrue (is_given_up self) → IsErr result }
     {
         if self.given_up {
