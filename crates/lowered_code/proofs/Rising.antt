@@ -51,20 +51,20 @@ rising_both a b c [] ys h k = rising_from a b c ys h k
 rising_both a b c (x ∷ xs) ys h k = (h.0, rising_both (suc x.0) b c xs ys h.1 k)
 
 -- those of lookups among those of reads
-pub lookups_rising : (ds : List Decl) (a b : ℕ) (rs : List (ℕ × Option Decl)) → AreRising a b rs → AreRising a b (lookups_in ds rs)
+pub lookups_rising : (ds : List Decl) (a b : ℕ) (rs : List (ℕ × Option Decl)) → AreRising a b rs → AreRising a b (lookups_in rs)
 lookups_rising ds a b [] h = h
 lookups_rising ds a b (r ∷ rs) h = by_decl r.1 (lookups_rising ds (suc r.0) b rs h.1)
   where
-    past : AreRising (suc r.0) b (lookups_in ds rs) → AreRising a b (lookups_in ds rs)
-    past more = rising_from a (suc r.0) b (lookups_in ds rs) (let le = h.0 in omega (arith, le)) more
+    past : AreRising (suc r.0) b (lookups_in rs) → AreRising a b (lookups_in rs)
+    past more = rising_from a (suc r.0) b (lookups_in rs) (let le = h.0 in omega (arith, le)) more
 
-    by_kind : (k : DeclKind) (d : Decl) → AreRising (suc r.0) b (lookups_in ds rs) → AreRising a b (control_kind k r.0 d ++ lookups_in ds rs)
+    by_kind : (k : DeclKind) (d : Decl) → AreRising (suc r.0) b (lookups_in rs) → AreRising a b (control_kind k r.0 d ++ lookups_in rs)
     by_kind Tele d more = past more
     by_kind Sensor d more = past more
     by_kind Header d more = past more
     by_kind Control d more = (h.0, more)
 
-    by_decl : (o : Option Decl) → AreRising (suc r.0) b (lookups_in ds rs) → AreRising a b (read_lookups r.0 o ++ lookups_in ds rs)
+    by_decl : (o : Option Decl) → AreRising (suc r.0) b (lookups_in rs) → AreRising a b (read_lookups r.0 o ++ lookups_in rs)
     by_decl None more = past more
     by_decl (Some d) more = by_kind d.kind d more
 

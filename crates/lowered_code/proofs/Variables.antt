@@ -27,9 +27,9 @@ module _ (P : List ℕ → Type 0) (found : (n : ℕ) → P (found_name n)) (key
   read_each n None = tt
   read_each n (Some d) = (found n, keys_each n 0 (kept_types d.kind d.shape))
 
-  pub each_name : (ds : List Decl) (rs : List (ℕ × Option Decl)) → AllByRecursion (λ l. P l.1) (vars_in ds rs)
+  pub each_name : (ds : List Decl) (rs : List (ℕ × Option Decl)) → AllByRecursion (λ l. P l.1) (vars_in rs)
   each_name ds [] = tt
-  each_name ds (r ∷ rs) = both_each (read_vars r.0 r.1) (vars_in ds rs) (read_each r.0 r.1) (each_name ds rs)
+  each_name ds (r ∷ rs) = both_each (read_vars r.0 r.1) (vars_in rs) (read_each r.0 r.1) (each_name ds rs)
 
 -- ---- names of a range of numbers
 
@@ -59,11 +59,11 @@ lower_of : (a b c : ℕ) (xs : List Var) → a ≤ b → AreOf b c xs → AreOf 
 lower_of a b c [] le h = tt
 lower_of a b c (x ∷ xs) le h = ((h.0.0, (let k = h.0.1 in omega (arith, k, le)), h.0.2, h.0.3), lower_of a b c xs le h.1)
 
-reads_of_numbers : (ds : List Decl) (a b : ℕ) (rs : List (ℕ × Option Decl)) → AreRising a b rs → AreOf a b (vars_in ds rs)
+reads_of_numbers : (ds : List Decl) (a b : ℕ) (rs : List (ℕ × Option Decl)) → AreRising a b rs → AreOf a b (vars_in rs)
 reads_of_numbers ds a b [] h = tt
 reads_of_numbers ds a b (r ∷ rs) h =
-    lower_of a r.0 b (vars_in ds (r ∷ rs)) h.0
-    (both_of r.0 (suc r.0) b (read_vars r.0 r.1) (vars_in ds rs) (omega arith) (read_of_number r.0 r.1) (reads_of_numbers ds (suc r.0) b rs h.1) (rising_up (suc r.0) b rs h.1))
+    lower_of a r.0 b (vars_in (r ∷ rs)) h.0
+    (both_of r.0 (suc r.0) b (read_vars r.0 r.1) (vars_in rs) (omega arith) (read_of_number r.0 r.1) (reads_of_numbers ds (suc r.0) b rs h.1) (rising_up (suc r.0) b rs h.1))
 
 -- ---- names are apart
 
@@ -118,9 +118,9 @@ module _ (ds : List Decl) (few_parts : (x : List ℕ) (d : Decl) → lookup ds x
   read_apart n None is = tt
   read_apart n (Some d) is = (found_past n n 0 (kept_types d.kind d.shape), key_apart n 0 (kept_types d.kind d.shape) (let few = few_parts d.name d is in omega (arith, few)))
 
-  pub vars_apart : (a b : ℕ) (rs : List (ℕ × Option Decl)) → b ≤ 2 ^ 64 → AreReads ds a b rs → AreApart (fields_of (vars_in ds rs))
+  pub vars_apart : (a b : ℕ) (rs : List (ℕ × Option Decl)) → b ≤ 2 ^ 64 → AreReads ds a b rs → AreApart (fields_of (vars_in rs))
   vars_apart a b [] few h = tt
   vars_apart a b (r ∷ rs) few h =
       let rising = h.rising.1 in
-      both_apart r.0 (suc r.0) b (read_vars r.0 r.1) (vars_in ds rs) few (read_of_number r.0 r.1) (reads_of_numbers ds (suc r.0) b rs rising) (read_apart r.0 r.1 h.declared.0)
+      both_apart r.0 (suc r.0) b (read_vars r.0 r.1) (vars_in rs) few (read_of_number r.0 r.1) (reads_of_numbers ds (suc r.0) b rs rising) (read_apart r.0 r.1 h.declared.0)
       (vars_apart (suc r.0) b rs few (record { rising = rising; declared = h.declared.1 }))

@@ -67,5 +67,5 @@ Finds p l = lookup p.hop.decls l.1.name ≡ Some l.1 → l.1.kind ≡ Control �
 
 -- numbered reads can be made: their variables are declared, and their lookups find what they should
 pub record AreServed (p : Setting) (rs : List (ℕ × Option Decl)) : Type 0 where
-  pub declared : (s : Store) → HasWidths p.vars s → HasWidths (vars_in p.hop.decls rs) s
-  pub found : AllByRecursion (Finds p) (lookups_in p.hop.decls rs)
+  pub declared : (s : Store) → HasWidths p.vars s → HasWidths (vars_in rs) s
+  pub found : AllByRecursion (Finds p) (lookups_in rs)

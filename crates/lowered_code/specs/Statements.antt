@@ -136,6 +136,15 @@ abbrev pub read_lookups : (n : ℕ) → Option Decl → List (ℕ × Decl)
 read_lookups n None = []
 read_lookups n (Some d) = control_kind d.kind n d
 
+-- the variables of reads, and the lookups among them
+abbrev pub vars_in : List (ℕ × Option Decl) → List Var
+vars_in [] = []
+vars_in (r ∷ rs) = read_vars r.0 r.1 ++ vars_in rs
+
+abbrev pub lookups_in : List (ℕ × Option Decl) → List (ℕ × Decl)
+lookups_in [] = []
+lookups_in (r ∷ rs) = read_lookups r.0 r.1 ++ lookups_in rs
+
 module _ (ds : List Decl) where
   -- the reads of a block, each with its number
   abbrev pub numbered_reads : (n : ℕ) → List Expr → List (ℕ × Option Decl)
@@ -159,14 +168,6 @@ module _ (ds : List Decl) where
     block_numbers (indus.next s ss) n = stmt_numbers s n ++ block_numbers ss (stmt_end ds s n)
 
   -- the variables of a block
-  abbrev pub vars_in : List (ℕ × Option Decl) → List Var
-  vars_in [] = []
-  vars_in (r ∷ rs) = read_vars r.0 r.1 ++ vars_in rs
-
-  abbrev pub lookups_in : List (ℕ × Option Decl) → List (ℕ × Decl)
-  lookups_in [] = []
-  lookups_in (r ∷ rs) = read_lookups r.0 r.1 ++ lookups_in rs
-
   abbrev pub block_vars : indus.Stmts → (base : ℕ) → List Var
   block_vars ss n = vars_in (block_numbers ss n)
 

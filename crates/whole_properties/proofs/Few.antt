@@ -77,21 +77,21 @@ module _ (v : List ℕ) where
     read_looked n (binary p o a b) = omega arith
     read_looked n (cast p w a) = omega arith
 
-    reads_looked : (n : ℕ) (es : List Expr) → looked (lookups_in ds (numbered_reads ds n es)) ≤ counted is_read es
+    reads_looked : (n : ℕ) (es : List Expr) → looked (lookups_in (numbered_reads ds n es)) ≤ counted is_read es
     reads_looked n [] = omega arith
     reads_looked n (e ∷ es) =
         let a = read_looked n e in
         let b = reads_looked (suc n) es in
-        let c = looked_both (read_lookups n (read_decl ds e)) (lookups_in ds (numbered_reads ds (suc n) es)) in
+        let c = looked_both (read_lookups n (read_decl ds e)) (lookups_in (numbered_reads ds (suc n) es)) in
         omega (arith, a, b, c)
 
     all_looked :
         (xs ys : List (ℕ × Option Decl)) →
-        looked (lookups_in ds (xs ++ ys)) ≡ looked (lookups_in ds xs) + looked (lookups_in ds ys)
-    all_looked xs ys = ap looked (lookups_both ds xs ys) ∙ looked_both (lookups_in ds xs) (lookups_in ds ys)
+        looked (lookups_in (xs ++ ys)) ≡ looked (lookups_in xs) + looked (lookups_in ys)
+    all_looked xs ys = ap looked (lookups_both ds xs ys) ∙ looked_both (lookups_in xs) (lookups_in ys)
 
     mutual
-      stmt_looked : (s : indus.Stmt) (n : ℕ) → looked (lookups_in ds (stmt_numbers ds s n)) ≤ stmt_count ds is_read s
+      stmt_looked : (s : indus.Stmt) (n : ℕ) → looked (lookups_in (stmt_numbers ds s n)) ≤ stmt_count ds is_read s
       stmt_looked (indus.assign p x e) n = reads_looked n (stmt_reads ds (indus.assign p x e))
       stmt_looked (indus.cell p x i e) n = reads_looked n (stmt_reads ds (indus.cell p x i e))
       stmt_looked (indus.push p x e) n = omega arith

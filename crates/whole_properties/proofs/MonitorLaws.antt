@@ -103,7 +103,7 @@ module _ (g : Given) (i : IsGiven g) where
   abbrev exit_numbers : List (ℕ × Option Decl)
   exit_numbers = block_numbers ds (tele g) (tele_first g) ++ block_numbers ds (check g) (check_first g)
 
-  exit_are : vars_in ds exit_numbers ≡ (lower_monitor g).exit_locals
+  exit_are : vars_in exit_numbers ≡ (lower_monitor g).exit_locals
   exit_are = vars_both ds (block_numbers ds (tele g) (tele_first g)) (block_numbers ds (check g) (check_first g))
 
   exit_each :

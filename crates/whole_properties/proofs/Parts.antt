@@ -261,7 +261,7 @@ module _
   -- the reads of a block whose lookups are among all, and whose variables among those of the part
   pub served :
       (ss : indus.Stmts) (n : ℕ) → ((P : Lookup → Type 0) → AllByRecursion P (lookups g) → AllByRecursion P (lookups_of g control ss n)) →
-      ((q : Store) → HasWidths vars q → HasWidths (vars_in (decls g) (block_numbers (decls g) ss n)) q) → AreServed part (block_numbers (decls g) ss n)
+      ((q : Store) → HasWidths vars q → HasWidths (vars_in (block_numbers (decls g) ss n)) q) → AreServed part (block_numbers (decls g) ss n)
   served ss n among has =
       record {
         declared = has;
