@@ -8,6 +8,7 @@ pub fn bits(a: Bits, b: Bits, width: u8, value: u128, low: u8) {
     if never() {
         let _: Bits = Bits::new(width, value);
         let _: Bits = Bits { width, value };
+        let _: Bits = Bits::default();
         let _: Bits = a.add(b);
         let _: Bits = a.sub(b);
         let _: Bits = a.mul(b);

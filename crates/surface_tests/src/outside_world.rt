@@ -52,8 +52,8 @@ pub fn sinks(alloc: Global, room: u32, fail: Vec<u64>) {
 /// The system's files and standard output.
 pub fn real(rt: &HostRuntime) {
     if never() {
-        let _ = RealStore::new(rt);
-        let _ = RealSink::new(rt);
+        let _: RealStore<'_, HostRuntime> = RealStore::new(rt);
+        let _: RealSink<'_, HostRuntime> = RealSink::new(rt);
     }
 }
 

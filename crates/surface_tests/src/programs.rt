@@ -39,64 +39,82 @@ pub fn typed(alloc: Global, p: Program, typed: &TypedProgram, name: &str) {
 
 /// The tree of a program.
 pub fn program(alloc: Global, p: &Program, top: &Top) {
+    let _: u32 = p.at;
     let _: &Vec<Top> = &p.tops;
     let _: &Vec<Name> = &p.main;
-    match top {
-        Top::Const(_, ty, name, e) => {
-            let _: &PTy = ty;
-            let _: &Name = name;
-            let _: &Expr = e;
-        }
-        Top::Typedef(_, ty, name) => {
-            let _: &PTy = ty;
-            let _: &Name = name;
-        }
-        Top::Header(_, name, fields) => {
-            let _: &Name = name;
-            let _: &Vec<(PTy, Name)> = fields;
-        }
-        Top::Struct(_, name, fields) => {
-            let _: &Name = name;
-            let _: &Vec<(PTy, Name)> = fields;
-        }
-        Top::Reg(_, register) => {
-            let _: &Register = register;
-        }
-        Top::Pars(_, parser) => {
-            let _: &Parser = parser;
-        }
-        Top::Ctl(_, control) => {
-            let _: &Control = control;
-        }
-    }
     if never() {
         let _: Result<Program, AllocError> = p.copy(alloc);
         let _: Result<Top, AllocError> = top.copy(alloc);
     }
 }
 
+/// The declarations of a program.
+pub fn tops(top: &Top) {
+    match top {
+        Top::Const(at, ty, name, e) => {
+            let _: &u32 = at;
+            let _: &PTy = ty;
+            let _: &Name = name;
+            let _: &Expr = e;
+        }
+        Top::Typedef(at, ty, name) => {
+            let _: &u32 = at;
+            let _: &PTy = ty;
+            let _: &Name = name;
+        }
+        Top::Header(at, name, fields) => {
+            let _: &u32 = at;
+            let _: &Name = name;
+            let _: &Vec<(PTy, Name)> = fields;
+        }
+        Top::Struct(at, name, fields) => {
+            let _: &u32 = at;
+            let _: &Name = name;
+            let _: &Vec<(PTy, Name)> = fields;
+        }
+        Top::Reg(at, register) => {
+            let _: &u32 = at;
+            let _: &Register = register;
+        }
+        Top::Pars(at, parser) => {
+            let _: &u32 = at;
+            let _: &Parser = parser;
+        }
+        Top::Ctl(at, control) => {
+            let _: &u32 = at;
+            let _: &Control = control;
+        }
+    }
+}
+
 /// Controls and their declarations.
 pub fn controls(alloc: Global, c: &Control, local: &Local) {
+    let _: u32 = c.at;
     let _: &Name = &c.name;
     let _: &Vec<Param> = &c.params;
     let _: &Vec<Local> = &c.locals;
     let _: &Vec<Stmt> = &c.apply;
     match local {
-        Local::Act(_, action) => {
+        Local::Act(at, action) => {
+            let _: &u32 = at;
             let _: &Action = action;
         }
-        Local::Tab(_, table) => {
+        Local::Tab(at, table) => {
+            let _: &u32 = at;
             let _: &Table = table;
         }
-        Local::Reg(_, register) => {
+        Local::Reg(at, register) => {
+            let _: &u32 = at;
             let _: &Register = register;
         }
-        Local::Const(_, ty, name, e) => {
+        Local::Const(at, ty, name, e) => {
+            let _: &u32 = at;
             let _: &PTy = ty;
             let _: &Name = name;
             let _: &Expr = e;
         }
-        Local::Var(_, ty, name, start) => {
+        Local::Var(at, ty, name, start) => {
+            let _: &u32 = at;
             let _: &PTy = ty;
             let _: &Name = name;
             let _: &Option<Expr> = start;
@@ -110,18 +128,22 @@ pub fn controls(alloc: Global, c: &Control, local: &Local) {
 
 /// Actions, tables, registers and parameters.
 pub fn declarations(alloc: Global, a: &Action, t: &Table, r: &Register, param: &Param) {
+    let _: u32 = a.at;
     let _: &Name = &a.name;
     let _: &Vec<(PTy, Name)> = &a.params;
     let _: &Vec<Stmt> = &a.body;
+    let _: u32 = t.at;
     let _: &Name = &t.name;
     let _: &Vec<(Expr, Name)> = &t.keys;
     let _: &Vec<Name> = &t.actions;
     let _: &Option<(Name, Vec<Expr>)> = &t.default;
     let _: bool = t.fixed;
     let _: Option<u128> = t.size;
+    let _: u32 = r.at;
     let _: &PTy = &r.ty;
     let _: u128 = r.count;
     let _: &Name = &r.name;
+    let _: u32 = param.at;
     let _: Way = param.way;
     let _: &PTy = &param.ty;
     let _: &Name = &param.name;
@@ -135,9 +157,11 @@ pub fn declarations(alloc: Global, a: &Action, t: &Table, r: &Register, param: &
 
 /// Parsers and their states.
 pub fn parsers(alloc: Global, p: &Parser, s: &ParserState, way: Way) {
+    let _: u32 = p.at;
     let _: &Name = &p.name;
     let _: &Vec<Param> = &p.params;
     let _: &Vec<ParserState> = &p.states;
+    let _: u32 = s.at;
     let _: &Name = &s.name;
     let _: &Vec<Stmt> = &s.body;
     let _: &Transition = &s.next;
@@ -153,21 +177,29 @@ pub fn parsers(alloc: Global, p: &Parser, s: &ParserState, way: Way) {
 /// Transitions and key sets.
 pub fn transitions(alloc: Global, next: &Transition, keys: &Keyset) {
     match next {
-        Transition::None(_) => {}
-        Transition::To(_, name) => {
+        Transition::None(at) => {
+            let _: &u32 = at;
+        }
+        Transition::To(at, name) => {
+            let _: &u32 = at;
             let _: &Name = name;
         }
-        Transition::Select(_, asked, cases) => {
+        Transition::Select(at, asked, cases) => {
+            let _: &u32 = at;
             let _: &Vec<Expr> = asked;
             let _: &Vec<(Vec<Keyset>, Name)> = cases;
         }
     }
     match keys {
-        Keyset::Any(_) => {}
-        Keyset::One(_, e) => {
+        Keyset::Any(at) => {
+            let _: &u32 = at;
+        }
+        Keyset::One(at, e) => {
+            let _: &u32 = at;
             let _: &Expr = e;
         }
-        Keyset::Masked(_, e, mask) => {
+        Keyset::Masked(at, e, mask) => {
+            let _: &u32 = at;
             let _: &Expr = e;
             let _: &Expr = mask;
         }
@@ -178,97 +210,165 @@ pub fn transitions(alloc: Global, next: &Transition, keys: &Keyset) {
     }
 }
 
-/// Statements and arguments.
-pub fn statements(alloc: Global, s: &Stmt, arg: &Arg) {
+/// Statements with a name, and blocks.
+pub fn statements(alloc: Global, s: &Stmt) {
     match s {
-        Stmt::Nothing(_) | Stmt::Return(_) | Stmt::Exit(_) => {}
-        Stmt::Block(_, body) => {
+        Stmt::Nothing(..) | Stmt::If(..) | Stmt::Return(..) | Stmt::Exit(..) => {}
+        Stmt::Block(at, body) => {
+            let _: &u32 = at;
             let _: &Vec<Stmt> = body;
         }
-        Stmt::Var(_, ty, name, start) => {
+        Stmt::Var(at, ty, name, start) => {
+            let _: &u32 = at;
             let _: &PTy = ty;
             let _: &Name = name;
             let _: &Option<Expr> = start;
         }
-        Stmt::Assign(_, path, e) => {
+        Stmt::Assign(at, path, e) => {
+            let _: &u32 = at;
             let _: &Vec<Name> = path;
             let _: &Expr = e;
         }
-        Stmt::If(_, test, yes, no) => {
-            let _: &Expr = test;
-            let _: &Box<Stmt> = yes;
-            let _: &Option<Box<Stmt>> = no;
-        }
-        Stmt::Call(_, path, args) => {
+        Stmt::Call(at, path, args) => {
+            let _: &u32 = at;
             let _: &Vec<Name> = path;
             let _: &Vec<Arg> = args;
         }
     }
+    if never() {
+        let _: Result<Stmt, AllocError> = s.copy(alloc);
+    }
+}
+
+/// The other statements.
+pub fn turns(s: &Stmt) {
+    match s {
+        Stmt::Block(..) | Stmt::Var(..) | Stmt::Assign(..) | Stmt::Call(..) => {}
+        Stmt::Nothing(at) => {
+            let _: &u32 = at;
+        }
+        Stmt::If(at, test, yes, no) => {
+            let _: &u32 = at;
+            let _: &Expr = test;
+            let _: &Box<Stmt> = yes;
+            let _: &Option<Box<Stmt>> = no;
+        }
+        Stmt::Return(at) => {
+            let _: &u32 = at;
+        }
+        Stmt::Exit(at) => {
+            let _: &u32 = at;
+        }
+    }
+}
+
+/// Arguments of calls.
+pub fn arguments(alloc: Global, arg: &Arg) {
     match arg {
-        Arg::One(_, e) => {
+        Arg::One(at, e) => {
+            let _: &u32 = at;
             let _: &Expr = e;
         }
-        Arg::Many(_, list) => {
+        Arg::Many(at, list) => {
+            let _: &u32 = at;
             let _: &Vec<Expr> = list;
         }
     }
     if never() {
-        let _: Result<Stmt, AllocError> = s.copy(alloc);
         let _: Result<Arg, AllocError> = arg.copy(alloc);
     }
 }
 
-/// Expressions and types.
-pub fn expressions(alloc: Global, e: &Expr, ty: &PTy) {
+/// Expressions that no operator makes.
+pub fn expressions(alloc: Global, e: &Expr) {
     match e {
-        Expr::Num(_, literal) => {
+        Expr::Num(at, literal) => {
+            let _: &u32 = at;
             let _: &Literal = literal;
         }
-        Expr::Flag(_, flag) => {
+        Expr::Flag(at, flag) => {
+            let _: &u32 = at;
             let _: &bool = flag;
         }
-        Expr::Path(_, path) => {
+        Expr::Path(at, path) => {
+            let _: &u32 = at;
             let _: &Vec<Name> = path;
         }
-        Expr::Valid(_, path) => {
+        Expr::Valid(at, path) => {
+            let _: &u32 = at;
             let _: &Vec<Name> = path;
         }
-        Expr::Applied(_, name, hit) => {
+        Expr::Applied(at, name, hit) => {
+            let _: &u32 = at;
             let _: &Name = name;
             let _: &bool = hit;
         }
-        Expr::ErrorName(_, name) => {
+        Expr::ErrorName(at, name) => {
+            let _: &u32 = at;
             let _: &Name = name;
         }
-        Expr::Not(_, a) => {
+        Expr::Not(..) | Expr::Invert(..) | Expr::Negate(..) | Expr::Bin(..) => {}
+        Expr::Choice(..) | Expr::Slice(..) | Expr::Cast(..) => {}
+    }
+    if never() {
+        let _: Result<Expr, AllocError> = e.copy(alloc);
+    }
+}
+
+/// Expressions that an operator makes.
+pub fn operations(e: &Expr) {
+    match e {
+        Expr::Num(..) | Expr::Flag(..) | Expr::Path(..) | Expr::Valid(..) => {}
+        Expr::Applied(..) | Expr::ErrorName(..) | Expr::Slice(..) | Expr::Cast(..) => {}
+        Expr::Not(at, a) => {
+            let _: &u32 = at;
             let _: &Box<Expr> = a;
         }
-        Expr::Invert(_, a) => {
+        Expr::Invert(at, a) => {
+            let _: &u32 = at;
             let _: &Box<Expr> = a;
         }
-        Expr::Negate(_, a) => {
+        Expr::Negate(at, a) => {
+            let _: &u32 = at;
             let _: &Box<Expr> = a;
         }
-        Expr::Bin(_, op, a, b) => {
+        Expr::Bin(at, op, a, b) => {
+            let _: &u32 = at;
             let _: &Op = op;
             let _: &Box<Expr> = a;
             let _: &Box<Expr> = b;
         }
-        Expr::Choice(_, test, yes, no) => {
+        Expr::Choice(at, test, yes, no) => {
+            let _: &u32 = at;
             let _: &Box<Expr> = test;
             let _: &Box<Expr> = yes;
             let _: &Box<Expr> = no;
         }
-        Expr::Slice(_, a, high, low) => {
+    }
+}
+
+/// Slices and casts.
+pub fn cuts(e: &Expr) {
+    match e {
+        Expr::Num(..) | Expr::Flag(..) | Expr::Path(..) | Expr::Valid(..) => {}
+        Expr::Applied(..) | Expr::ErrorName(..) | Expr::Not(..) | Expr::Invert(..) => {}
+        Expr::Negate(..) | Expr::Bin(..) | Expr::Choice(..) => {}
+        Expr::Slice(at, a, high, low) => {
+            let _: &u32 = at;
             let _: &Box<Expr> = a;
             let _: &u8 = high;
             let _: &u8 = low;
         }
-        Expr::Cast(_, ty, a) => {
+        Expr::Cast(at, ty, a) => {
+            let _: &u32 = at;
             let _: &PTy = ty;
             let _: &Box<Expr> = a;
         }
     }
+}
+
+/// Types.
+pub fn types(alloc: Global, ty: &PTy) {
     match ty {
         PTy::Bit(width) => {
             let _: &u8 = width;
@@ -279,7 +379,6 @@ pub fn expressions(alloc: Global, e: &Expr, ty: &PTy) {
         }
     }
     if never() {
-        let _: Result<Expr, AllocError> = e.copy(alloc);
         let _: Result<PTy, AllocError> = ty.copy(alloc);
     }
 }

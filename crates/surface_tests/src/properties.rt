@@ -86,11 +86,13 @@ pub fn contents(alloc: Global, report: &Report, value: &ControlValue) {
 
 /// The tree of a property, and of a declaration.
 pub fn declarations(alloc: Global, p: &Property, d: &Decl) {
+    let _: u32 = p.at;
     let _: u8 = p.edition;
     let _: &Vec<Decl> = &p.decls;
     let _: &Vec<Stmt> = &p.init;
     let _: &Vec<Stmt> = &p.tele;
     let _: &Vec<Stmt> = &p.check;
+    let _: u32 = d.at;
     let _: DeclKind = d.kind;
     let _: &Name = &d.name;
     let _: &Shape = &d.shape;
@@ -135,84 +137,119 @@ pub fn shapes(alloc: Global, kind: DeclKind, shape: &Shape, ty: Ty) {
     }
 }
 
-/// Expressions.
+/// Expressions that no operator makes.
 pub fn expressions(alloc: Global, e: &Expr) {
     match e {
-        Expr::Num(_, literal) => {
+        Expr::Num(at, literal) => {
+            let _: &u32 = at;
             let _: &Literal = literal;
         }
-        Expr::Flag(_, flag) => {
+        Expr::Flag(at, flag) => {
+            let _: &u32 = at;
             let _: &bool = flag;
         }
-        Expr::Read(_, name) => {
+        Expr::Read(at, name) => {
+            let _: &u32 = at;
             let _: &Name = name;
         }
-        Expr::Length(_, name) => {
+        Expr::Length(at, name) => {
+            let _: &u32 = at;
             let _: &Name = name;
         }
-        Expr::Index(_, name, keys) => {
+        Expr::Index(at, name, keys) => {
+            let _: &u32 = at;
             let _: &Name = name;
             let _: &Vec<Expr> = keys;
         }
-        Expr::Member(_, keys, name) => {
+        Expr::Member(at, keys, name) => {
+            let _: &u32 = at;
             let _: &Name = name;
             let _: &Vec<Expr> = keys;
         }
-        Expr::Not(_, a) => {
-            let _: &Box<Expr> = a;
-        }
-        Expr::Invert(_, a) => {
-            let _: &Box<Expr> = a;
-        }
-        Expr::Bin(_, op, a, b) => {
-            let _: &Op = op;
-            let _: &Box<Expr> = a;
-            let _: &Box<Expr> = b;
-        }
-        Expr::Cast(_, width, a) => {
-            let _: &u8 = width;
-            let _: &Box<Expr> = a;
-        }
+        Expr::Not(..) | Expr::Invert(..) | Expr::Bin(..) | Expr::Cast(..) => {}
     }
     if never() {
         let _: Result<Expr, AllocError> = e.copy(alloc);
     }
 }
 
-/// Statements.
-pub fn statements(alloc: Global, s: &Stmt) {
+/// Expressions that an operator makes.
+pub fn operations(e: &Expr) {
+    match e {
+        Expr::Num(..) | Expr::Flag(..) | Expr::Read(..) | Expr::Length(..) => {}
+        Expr::Index(..) | Expr::Member(..) => {}
+        Expr::Not(at, a) => {
+            let _: &u32 = at;
+            let _: &Box<Expr> = a;
+        }
+        Expr::Invert(at, a) => {
+            let _: &u32 = at;
+            let _: &Box<Expr> = a;
+        }
+        Expr::Bin(at, op, a, b) => {
+            let _: &u32 = at;
+            let _: &Op = op;
+            let _: &Box<Expr> = a;
+            let _: &Box<Expr> = b;
+        }
+        Expr::Cast(at, width, a) => {
+            let _: &u32 = at;
+            let _: &u8 = width;
+            let _: &Box<Expr> = a;
+        }
+    }
+}
+
+/// Statements that write a variable.
+pub fn writes(alloc: Global, s: &Stmt) {
     match s {
-        Stmt::Assign(_, name, e) => {
+        Stmt::Assign(at, name, e) => {
+            let _: &u32 = at;
             let _: &Name = name;
             let _: &Expr = e;
         }
-        Stmt::Push(_, name, e) => {
+        Stmt::Push(at, name, e) => {
+            let _: &u32 = at;
             let _: &Name = name;
             let _: &Expr = e;
         }
-        Stmt::Cell(_, name, index, e) => {
+        Stmt::Cell(at, name, index, e) => {
+            let _: &u32 = at;
             let _: &Name = name;
             let _: &Expr = index;
             let _: &Expr = e;
         }
-        Stmt::If(_, test, yes, no) => {
+        Stmt::If(..) | Stmt::For(..) | Stmt::Reject(..) | Stmt::Report(..) => {}
+    }
+    if never() {
+        let _: Result<Stmt, AllocError> = s.copy(alloc);
+    }
+}
+
+/// The other statements.
+pub fn statements(s: &Stmt) {
+    match s {
+        Stmt::Assign(..) | Stmt::Push(..) | Stmt::Cell(..) => {}
+        Stmt::If(at, test, yes, no) => {
+            let _: &u32 = at;
             let _: &Expr = test;
             let _: &Vec<Stmt> = yes;
             let _: &Vec<Stmt> = no;
         }
-        Stmt::For(_, items, lists, body) => {
+        Stmt::For(at, items, lists, body) => {
+            let _: &u32 = at;
             let _: &Vec<Name> = items;
             let _: &Vec<Name> = lists;
             let _: &Vec<Stmt> = body;
         }
-        Stmt::Reject(_) => {}
-        Stmt::Report(_, number, values) => {
+        Stmt::Reject(at) => {
+            let _: &u32 = at;
+        }
+        Stmt::Report(at, number, values) => {
+            let _: &u32 = at;
             let _: &u16 = number;
             let _: &Vec<Expr> = values;
         }
-    }
-    if never() {
-        let _: Result<Stmt, AllocError> = s.copy(alloc);
     }
 }
 
