@@ -1,9 +1,9 @@
 -- A P4 program whose two tables hold one control variable, a set of bytes, and a network of one switch that runs it. A
 -- frame of one byte goes on where the ingress finds its byte in the set, and leaves by port 2 where the egress finds it
 -- there; else it is dropped. All places are 0.
-use Rattle.std.specs.Prelude.{codes, ℕ, List, [], ◌∷◌, ◌++◌, map, None}
+use Rattle.std.specs.Prelude.{codes, ℕ, List, [], ◌∷◌, ◌++◌, map, false, Some, None}
 use Rattle.bit_values.specs.Bits.{Word, word}
-use Rattle.p4_tree.specs.Tree.{path, binary, one, Stmts, block, assign, choice, call, done, next, otherwise, to, Local, local_action, local_table, local_var, header_type, struct_type, parser, Program}
+use Rattle.p4_tree.specs.Tree.{Expr, path, binary, one, Stmts, block, assign, choice, call, done, next, otherwise, to, Local, local_action, local_table, local_var, header_type, struct_type, parser, Program}
 use Rattle.p4_tree.specs.declared.statement.PTy.TheVariants as type
 use Rattle.p4_tree.specs.declared.statement.Op.TheVariants.{Equal}
 use Rattle.p4_meaning.specs.Parts.{parts_of}
@@ -19,9 +19,6 @@ use Rattle.network_run.specs.Events.{Event, Set, closing}
 use Rattle.network_run.specs.Network.{Net}
 use Rattle.network_run.specs.World.{World, first_net}
 use Rattle.switch_machines.specs.Programs.{Programs, machine_with}
-use Rattle.lookup_names.specs.Names.{table_name, found_name, key_name}
-use Rattle.lookup_names.specs.Keys.{variable}
-use Rattle.control_tables.specs.Tables.{table_of, action_of}
 use Rattle.control_maps.specs.Numbers.{Numbered, load_in}
 use Rattle.wire_program.specs.WireProgram.{parser_params, deparser_params, two_params, three_params, main_names, control_of, control_with, send_by}
 use Rattle.path_runner.specs.Nets.{State, Switch, controls_of, run_in}
@@ -33,26 +30,49 @@ use Rattle.network_tests.specs.Routing.{byte_header, on_packet}
 abbrev pub bytes : indus.Shape
 bytes = indus.set (ty.Bit 8 ∷ [])
 
--- what the lookup of a number declares
-abbrev pub lookup_locals : ℕ → List Local
-lookup_locals n =
-    local_var 0 (type.Bit 8) (key_name n 0) None
-    ∷ local_var 0 (type.Bit 1) (found_name n) None
-    ∷ local_action 0 (action_of n bytes)
-    ∷ local_table 0 (table_of n bytes)
+-- the names of a lookup: its table and its action, and the variables that hold its key and what it found
+pub record Lookup : Type 0 where
+  pub table : List ℕ
+  pub action : List ℕ
+  pub key : List ℕ
+  pub found : List ℕ
+
+abbrev pub first : Lookup
+first = record { table = codes "hydra_t_0"; action = codes "hydra_a_0"; key = codes "hydra_k_0_0"; found = codes "hydra_f_0" }
+
+abbrev pub second : Lookup
+second = record { table = codes "hydra_t_1"; action = codes "hydra_a_1"; key = codes "hydra_k_1_0"; found = codes "hydra_f_1" }
+
+abbrev pub variable : List ℕ → Expr
+variable x = path 0 (x ∷ [])
+
+-- what it declares
+abbrev pub lookup_locals : Lookup → List Local
+lookup_locals l =
+    local_var 0 (type.Bit 8) l.key None
+    ∷ local_var 0 (type.Bit 1) l.found None
+    ∷ local_action 0 (record { at = 0; name = l.action; params = []; body = next (assign 0 (l.found ∷ []) (number 1 1)) done })
+    ∷ local_table 0 (record {
+      at = 0;
+      name = l.table;
+      keys = (variable l.key, codes "exact") ∷ [];
+      actions = l.action ∷ codes "NoAction" ∷ [];
+      default = Some (codes "NoAction", []);
+      fixed = false;
+      size = None;
+    })
     ∷ []
 
 abbrev pub drop : Stmts
 drop = next (call 0 (codes "mark_to_drop" ∷ []) (one 0 (path 0 (codes "standard_metadata" ∷ [])) ∷ [])) done
 
 -- the frame's byte is looked up, and the frame is dropped where it is not found
-abbrev pub guard : (number : ℕ) → (goes : Stmts) → Stmts
-guard n goes =
-    next (assign 0 (found_name n ∷ []) (number 1 0))
-    (next (assign 0 (key_name n 0 ∷ []) (path 0 (byte_header ++ codes "byte" ∷ [])))
-    (next (call 0 (table_name n ∷ codes "apply" ∷ []) [])
-    (next (choice 0 (binary 0 Equal (variable (found_name n)) (number 1 1)) (block 0 goes) (otherwise (block 0 drop)))
-    done)))
+abbrev pub guard : Lookup → (goes : Stmts) → Stmts
+guard l goes =
+    next (assign 0 (l.found ∷ []) (number 1 0))
+    (next (assign 0 (l.key ∷ []) (path 0 (byte_header ++ codes "byte" ∷ [])))
+    (next (call 0 (l.table ∷ codes "apply" ∷ []) [])
+    (next (choice 0 (binary 0 Equal (variable l.found) (number 1 1)) (block 0 goes) (otherwise (block 0 drop))) done)))
 
 abbrev pub guarding : Program
 guarding =
@@ -74,8 +94,8 @@ guarding =
             } ∷ [];
           })
           ∷ control_of (codes "WireVerify") two_params done
-          ∷ control_with (codes "WireIngress") three_params (lookup_locals 0) (guard 0 (send_by 2))
-          ∷ control_with (codes "WireEgress") three_params (lookup_locals 1) (guard 1 done)
+          ∷ control_with (codes "WireIngress") three_params (lookup_locals first) (guard first (send_by 2))
+          ∷ control_with (codes "WireEgress") three_params (lookup_locals second) (guard second done)
           ∷ control_of (codes "WireCompute") two_params done
           ∷ control_of (codes "WireDeparser") deparser_params (on_packet (codes "emit"))
           ∷ [];
@@ -99,17 +119,17 @@ set_of bs = members (map (λ b. word 8 b ∷ []) bs)
 abbrev pub guard_switch : Contents → Switch
 guard_switch c = record { program = guarding; tables = load_in guards (λ v. c) (state_before guarding); cells = λ x. [] }
 
--- one packet at port 1 of it, with a frame of one byte
+-- one packet at port 1 of it, with a frame of one byte, which may pass one switch
 abbrev pub guarded : Contents → (byte : ℕ) → State
 guarded c b =
-    net_before (record { names = codes "s1" ∷ []; links = [] }) (record { hops = 64; link = 65535 })
+    net_before (record { names = codes "s1" ∷ []; links = [] }) (record { hops = 1; link = 65535 })
     (guard_switch c ∷ []) (guards ∷ []) (record { switch = 0; port = 1; frame = b ∷ [] } ∷ [])
 
 -- the same as a world, with a schedule
 abbrev pub guarded_world : Contents → (byte : ℕ) → List (Event Contents) → World Tables Contents
 guarded_world c b es =
     record {
-      hops = 64;
+      hops = 1;
       entries = λ s. tables_in (parts_of guarding) (state_before guarding);
       contents = λ s v. c;
       packets = record { switch = 0; port = 1; frame = b ∷ [] } ∷ [];
@@ -125,7 +145,7 @@ unfolding parts_enter parts_leave state_before
 guarded_end c b es =
     let s = guarded c b in
     run_in guard_programs s (first_net (machine_with (controls_of s) guard_programs) (guarded_world c b es))
-    (es ++ closing 64 0 1)
+    (es ++ closing 1 0 1)
 
 -- the frames that left, and how many packets were dropped
 abbrev pub frames_left : Net Kept Queued Contents → List (List ℕ)
