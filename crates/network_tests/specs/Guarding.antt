@@ -1,9 +1,8 @@
 -- A P4 program whose two tables hold one control variable, a set of bytes, and a network of one switch that runs it. A
--- frame of one byte goes on where the ingress finds its byte in the set, and leaves by port 2 where the egress finds it
--- there; else it is dropped. All places are 0.
+-- frame of one byte leaves by port 2 where the egress finds its byte by both tables; else it is dropped. All places are 0.
 use Rattle.std.specs.Prelude.{codes, ℕ, List, [], ◌∷◌, ◌++◌, map, false, Some, None}
 use Rattle.bit_values.specs.Bits.{Word, word}
-use Rattle.p4_tree.specs.Tree.{Expr, path, binary, one, Stmts, block, assign, choice, call, done, next, otherwise, to, Local, local_action, local_table, local_var, header_type, struct_type, parser, Program}
+use Rattle.p4_tree.specs.Tree.{Expr, path, binary, one, Stmts, block, assign, choice, call, done, next, otherwise, to, ParserState, Local, local_action, local_table, local_var, header_type, Program}
 use Rattle.p4_tree.specs.declared.statement.PTy.TheVariants as type
 use Rattle.p4_tree.specs.declared.statement.Op.TheVariants.{Equal}
 use Rattle.p4_meaning.specs.Parts.{parts_of}
@@ -20,7 +19,7 @@ use Rattle.network_run.specs.Network.{Net}
 use Rattle.network_run.specs.World.{World, first_net}
 use Rattle.switch_machines.specs.Programs.{Programs, machine_with}
 use Rattle.control_maps.specs.Numbers.{Numbered, load_in}
-use Rattle.wire_program.specs.WireProgram.{parser_params, deparser_params, two_params, three_params, main_names, control_of, control_with, send_by}
+use Rattle.wire_program.specs.WireProgram.{in_frame, wire_ingress}
 use Rattle.path_runner.specs.Nets.{State, Switch, controls_of, run_in}
 use Rattle.path_runner.specs.Starts.{state_before as net_before}
 use Rattle.network_tests.specs.Routing.{byte_header, on_packet}
@@ -74,33 +73,13 @@ guard l goes =
     (next (call 0 (l.table ∷ codes "apply" ∷ []) [])
     (next (choice 0 (binary 0 Equal (variable l.found) (number 1 1)) (block 0 goes) (otherwise (block 0 drop))) done)))
 
+abbrev pub extract : ParserState
+extract = record { at = 0; name = codes "start"; body = call 0 (codes "packet" ∷ codes "extract" ∷ []) (one 0 (path 0 byte_header) ∷ []) ∷ []; next = to 0 (codes "accept") }
+
 abbrev pub guarding : Program
 guarding =
-    record {
-      at = 0;
-      tops =
-          header_type 0 (codes "byte_t") ((type.Bit 8, codes "byte") ∷ [])
-          ∷ struct_type 0 (codes "metadata") []
-          ∷ struct_type 0 (codes "headers") ((type.Named (codes "byte_t"), codes "first") ∷ [])
-          ∷ parser 0 (record {
-            at = 0;
-            name = codes "WireParser";
-            params = parser_params;
-            states = record {
-              at = 0;
-              name = codes "start";
-              body = call 0 (codes "packet" ∷ codes "extract" ∷ []) (one 0 (path 0 byte_header) ∷ []) ∷ [];
-              next = to 0 (codes "accept");
-            } ∷ [];
-          })
-          ∷ control_of (codes "WireVerify") two_params done
-          ∷ control_with (codes "WireIngress") three_params (lookup_locals first) (guard first (send_by 2))
-          ∷ control_with (codes "WireEgress") three_params (lookup_locals second) (guard second done)
-          ∷ control_of (codes "WireCompute") two_params done
-          ∷ control_of (codes "WireDeparser") deparser_params (on_packet (codes "emit"))
-          ∷ [];
-      main = main_names;
-    }
+    in_frame (header_type 0 (codes "byte_t") ((type.Bit 8, codes "byte") ∷ []) ∷ []) [] ((type.Named (codes "byte_t"), codes "first") ∷ []) (extract ∷ [])
+    (lookup_locals first ++ lookup_locals second) wire_ingress (guard first (guard second done)) (on_packet (codes "emit"))
 
 -- both tables hold variable 0
 abbrev pub guards : List Numbered

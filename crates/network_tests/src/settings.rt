@@ -21,7 +21,7 @@ fn what_tables_take()
     ensures elsewhere { IsEvent (guarded (set_of (7 ∷ [])) 7) (Set 1 0 (set_of (7 ∷ []))) → ⊥ }
 {}
 
-/// Both tables hold the variable: a frame leaves where ingress and egress find its byte.
+/// Both tables hold the variable: a frame leaves where both find its byte.
 #[tactic(auto, unfolding(crate::specs::Guarding::guarded_end))]
 fn two_tables_hold_one_variable()
     ensures found { frames_left (guarded_end (set_of (7 ∷ [])) 7 []) ≡ (7 ∷ []) ∷ [] }
@@ -36,7 +36,7 @@ fn two_tables_hold_one_variable()
 fn contents_set_between_the_halves()
     ensures taken { frames_left (guarded_end (set_of (7 ∷ [])) 7 (Enter 0 ∷ set_bytes 0 [] ∷ Leave 0 ∷ [])) ≡ [] }
     ensures dropped { length (guarded_end (set_of (7 ∷ [])) 7 (Enter 0 ∷ set_bytes 0 [] ∷ Leave 0 ∷ [])).dropped ≡ 1 }
-    ensures late { frames_left (guarded_end (set_of []) 7 (Enter 0 ∷ set_bytes 0 (7 ∷ []) ∷ Leave 0 ∷ [])) ≡ [] }
+    ensures given { frames_left (guarded_end (set_of []) 7 (Enter 0 ∷ set_bytes 0 (7 ∷ []) ∷ Leave 0 ∷ [])) ≡ (7 ∷ []) ∷ [] }
     ensures back { frames_left (guarded_end (set_of (7 ∷ [])) 7
         (Enter 0 ∷ set_bytes 0 [] ∷ set_bytes 0 (7 ∷ []) ∷ Leave 0 ∷ [])) ≡ (7 ∷ []) ∷ [] }
     ensures behind { frames_left (guarded_end (set_of (7 ∷ [])) 7 (Enter 0 ∷ Leave 0 ∷ set_bytes 0 [] ∷ []))
