@@ -19,7 +19,8 @@ use Rattle.exit_programs.proofs.Sized.{size_bounded, height_bounded}
 use Rattle.exit_programs.proofs.Agreed.{parts_agree, bound_stays}
 use Rattle.exit_passages.specs.Passages.{PassesSame}
 use Rattle.exit_passages.proofs.Halves.{passes_agree}
-use Rattle.exit_lowering.proofs.Plain.{tops_plain}
+use Rattle.p4_typing_laws.specs.Plain.{IsPlain}
+use Rattle.exit_names.proofs.Names.{tops_names}
 use Rattle.exit_names.proofs.Programs.{controls_own}
 use Rattle.exit_rules.proofs.WellTyped.{digests_same, bytes_same, cells_same}
 use Rattle.exit_rewriting.proofs.Spelled.{stays_spelled}
@@ -39,7 +40,7 @@ module _ (p : Program) (w : IsWellTyped p) (given : HasGivenNames p) where
   passes : HasPlainNames p → PassesSame (parts_of p) (parts_of (program_without p))
   passes plain =
       (let own = controls_own p w given plain in
-      subst (PassesSame (parts_of p)) (sym agree) (passes_agree p w given (tops_plain p.tops plain.tops) own.0 own.1 own.2))
+      subst (PassesSame (parts_of p)) (sym agree) (passes_agree p w given (tops_names IsPlain (λ x. Unit {0}) (λ x h. h) (λ x h. tt) p.tops plain.tops) own.0 own.1 own.2))
 
   pub lowered : IsLowered p (program_without p)
   lowered =

@@ -1,4 +1,3 @@
 pub mod Places
 pub mod Numbered
-pub mod Plain
 pub mod Facts

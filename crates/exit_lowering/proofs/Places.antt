@@ -1,19 +1,13 @@
 -- Verify checksum, compute checksum and the deparser of a well-typed program stay as they are.
-use Rattle.std.proofs.Common.{◌≡◌, ℕ, List, [], ◌∷◌, Bool, true, false, cond, not, ◌&&◌, Some, is_some, refl, sym, ap, ◌∙◌, inl, inr}
+use Rattle.std.proofs.Common.{◌≡◌, ℕ, List, [], ◌∷◌, Bool, true, false, cond, Some, refl, sym, ap, ◌∙◌, inl, inr}
 use Rattle.lex_text.specs.Names.{same_text}
 use Rattle.p4_tree.specs.Tree.{Control, Top, constant, typedef, header_type, struct_type, register, parser, control, Program}
-use Rattle.p4_meaning.specs.Parts.{parser_named, control_named, named_in}
-use Rattle.p4_parser_states.specs.Cycles as cycles
+use Rattle.p4_meaning.specs.Parts.{control_named, named_in}
 use Rattle.p4_statement_rules.specs.Forms.{has_calls_alone}
-use Rattle.p4_statement_rules.specs.declared.rule.Part.TheVariants as place
-use Rattle.p4_declaration_rules.specs.Declarations.{has_twice}
 use Rattle.p4_declaration_rules.specs.Controls.{part_in}
-use Rattle.p4_rules.specs.Mains.{has_controls, names_parts}
 use Rattle.p4_rules.specs.ProgramRules.{IsWellTyped}
 use Rattle.p4_rule_laws.specs.Roles.{In}
-use Rattle.p4_typing_laws.proofs.Fine.{neither}
-use Rattle.p4_typing_laws.proofs.CallCounts.{text_is, text_same}
-use Rattle.p4_typing_laws.proofs.FullNames.{other_text}
+use Rattle.p4_typing_laws.proofs.CallCounts.{text_is}
 use Rattle.p4_typing_laws.proofs.FineUses.{parts_named}
 use Rattle.exit_programs.specs.Programs.{exits_in}
 use Rattle.exit_programs.specs.Laws.{Stays}

@@ -19,7 +19,7 @@ use Rattle.p4_rule_laws.specs.Old.{OldFields}
 use Rattle.p4_typing_laws.specs.Places.{ActionUses, KeyUses, LocalsUses}
 use Rattle.p4_typing_laws.specs.Names.{UseAgrees}
 use Rattle.p4_typing_laws.proofs.CallCounts.{text_is, text_same}
-use Rattle.p4_typing_laws.proofs.FullNames.{among_head, other_text, among_tail, Knows, knows_rest}
+use Rattle.p4_typing_laws.proofs.FullNames.{full_has, among_head, other_text, among_tail, Knows, knows_rest}
 use Rattle.p4_typing_laws.proofs.CountedNames.{was_missing}
 use Rattle.p4_typing_laws.proofs.TiedNames.{inner_missing}
 use Rattle.p4_typing_laws.proofs.AlongRuns.{among_left, among_right}
@@ -27,7 +27,8 @@ use Rattle.exit_statements.specs.Free.{Hides, is_flag, shows, IsFreeExpr, AreFre
 use Rattle.exit_statements.specs.Actions.{flags_in, all_but, shows_params, IsFreeAction, IsFreeTable}
 use Rattle.exit_statements.specs.WrittenActions.{returned_in}
 use Rattle.exit_programs.specs.Programs.{flags}
-use Rattle.exit_programs.specs.Names.{is_given, has_point, is_plain}
+use Rattle.p4_typing_laws.specs.Plain.{has_point, is_plain, IsPlain}
+use Rattle.exit_programs.specs.Names.{is_given}
 use Rattle.p4_meaning.specs.Tables.{key_under, tables_in}
 use Rattle.p4_meaning.specs.Parts.{Parts}
 use Rattle.p4_declaration_rules.specs.Controls.{local_tests, after_local, locals_tests, after_locals}
@@ -37,7 +38,7 @@ use Rattle.p4_typing_laws.proofs.ReadyPlaces.{IsControl, root_free}
 use Rattle.p4_typing_laws.proofs.RunPlaces.{IsPlaced, placed_more}
 use Rattle.exit_statements.specs.Laws.{is_other}
 use Rattle.exit_statements.specs.Controls.{var_names, AreVars}
-use Rattle.exit_names.proofs.Names.{broken, false_if, full_point, point_other, given_no_flag, inner_full, inner_one, inner_no_flag, old_params, old_names, plain_value}
+use Rattle.exit_names.proofs.Names.{broken, false_if, point_other, given_no_flag, inner_full, inner_one, inner_no_flag, old_params, old_names, local_names}
 use Rattle.exit_names.proofs.Seen.{Sees, sees_declared, sees_quiet, expr_free}
 use Rattle.exit_names.proofs.Blocks.{IsRun, NamesFunctions, functions_declared, start_free, AreOwn, IsAt, at_more, name_free, block_free}
 
@@ -83,7 +84,7 @@ module _ (seen : List ℕ → Bool) (plain : (y : List ℕ) → seen y ≡ true 
         record {
           apart = λ x y h k e. inner_one sc.control a.name x y (sym (inner_is x h.0) ∙ e ∙ inner_is y k.0);
           no_flag = λ x h. ap (λ (y : List ℕ). is_flag (flags_in flags.left (returned_in flags) n) y) (inner_is x h.0) ∙ inner_no_flag sc.control a.name x h.1;
-          may_be = λ x h. ap has_point (inner_is x h.0) ∙ full_point sc.control (full a.name x);
+          may_be = λ x h. ap has_point (inner_is x h.0) ∙ full_has sc.control (full a.name x);
         }
 
     module _ (f : IsFine (action_tests place.Action s a)) where
@@ -98,7 +99,7 @@ module _ (seen : List ℕ → Bool) (plain : (y : List ℕ) → seen y ≡ true 
       begins =
           record {
             sees = record { shown = λ x h r k. ap (λ (y : List ℕ). not (seen y)) (outer_is x (not_inner x h)) ∙ sees.shown x h r (still_shown x (not_inner x h) k); long = λ x y rest. refl; empty = refl };
-            hidden = λ x h m. ap (λ (y : List ℕ). not (seen y)) (inner_is x h.0) ∙ ap not (false_if _ (λ e. broken (sym (full_point sc.control (full a.name x)) ∙ plain _ e)));
+            hidden = λ x h m. ap (λ (y : List ℕ). not (seen y)) (inner_is x h.0) ∙ ap not (false_if _ (λ e. broken (sym (full_has sc.control (full a.name x)) ∙ plain _ e)));
             functions = record { functions = functions.functions };
           }
 
@@ -118,8 +119,8 @@ module _ (seen : List ℕ → Bool) (plain : (y : List ℕ) → seen y ≡ true 
           subst (λ (y : List ℕ). IsFreeAction flags.left (returned_in flags) has_point seen (record { name = y; params = map (param_under (in_action sc a)) a.params; body = stmts_under (in_action sc a) a.body }))
           (sym (ap (λ (b : Bool). cond b n a.name) named))
           (record {
-            two = other_text (returned_in flags n) flags.left (λ e. point_other (returned_in flags n) flags.left (full_point n flags.returned) refl e);
-            flag_own = full_point n flags.returned;
+            two = other_text (returned_in flags n) flags.left (λ e. point_other (returned_in flags n) flags.left (full_has n flags.returned) refl e);
+            flag_own = full_has n flags.returned;
             params = params_flags a.params new_param;
             body =
                 block_free (flags_in flags.left (returned_in flags) n) has_point NewIn (in_action sc a) own_action a.body place.Action action_run (with_params s a.params) (shows_params (all_but seen) (map (param_under (in_action sc a)) a.params))
@@ -206,7 +207,7 @@ module _ (pt : Parts) (r : Roots) (c : List ℕ) where
 
     next_before : (s : Scope) (sd : meaning.Scope) (l : Local) (ls : List Local) (hides : Hides) → IsBefore s sd (l ∷ ls) hides → OldLocal is_given l → OldLocal is_plain l → IsFine (local_tests place.Apply s l) → IsBefore (after_local s l) (behind_local sd l) ls (shows_local sd hides l)
     next_before s sd l ls hides b given plain f =
-        record { placed = placed_more pt r s sd l b.placed (plain_value l plain) f; at = at_local s sd l ls hides b given plain f; seen_there = seen_local s sd l ls hides b; knows = knows_rest c sd l ls b.knows; vars = vars_local sd l ls b.vars }
+        record { placed = placed_more pt r s sd l b.placed (local_names (λ x. Unit {0}) IsPlain (λ x h. tt) (λ x h. h) l plain) f; at = at_local s sd l ls hides b given plain f; seen_there = seen_local s sd l ls hides b; knows = knows_rest c sd l ls b.knows; vars = vars_local sd l ls b.vars }
 
     -- the variables, and then the body
     pub settings_free : (rest : Stmts) (ls : List Local) (s : Scope) (sd : meaning.Scope) (hides : Hides) → IsBefore s sd ls hides → OldLocals is_given ls → OldLocals is_plain ls → IsFine (locals_tests place.Apply s ls) → LocalsUses UseAgrees s ls

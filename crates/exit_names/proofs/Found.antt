@@ -15,8 +15,8 @@ use Rattle.p4_meaning.specs.Tables.{Table, table_under, tables_in, table_named, 
 use Rattle.p4_rule_laws.specs.Old.{OldPath, OldExpr, OldStmt, OldElse, OldStmts}
 use Rattle.p4_rule_laws.specs.OldPrograms.{OldLocals, OldControl, OldTops}
 use Rattle.p4_typing_laws.proofs.CallCounts.{text_is, text_same}
-use Rattle.p4_typing_laws.proofs.FullNames.{among_head, Knows, known_full, knows_rest, full_apart, knows_all, skip_actions, skip_tables}
-use Rattle.exit_programs.specs.Names.{is_plain, has_point}
+use Rattle.p4_typing_laws.proofs.FullNames.{full_has, among_head, Knows, known_full, knows_rest, full_apart, knows_all, skip_actions, skip_tables}
+use Rattle.p4_typing_laws.specs.Plain.{is_plain, has_point, IsPlain, IsPlainLocal}
 use Rattle.exit_programs.specs.Calls.{FindsAction, FindsListed, FindsTable, FindsAct, FindsApplied, FindsStmt, FindsElse, FindStmts}
 use Rattle.rule_tests.specs.Tests.{IsFine}
 use Rattle.p4_scopes.specs.Scopes.{is_missing, Scope, declare, part}
@@ -25,11 +25,14 @@ use Rattle.p4_typing_laws.proofs.CountedNames.{self_stands}
 use Rattle.p4_meaning.specs.Under as under
 use Rattle.p4_meaning.specs.Parts.{whole, body_of, control_named, scope_at_control}
 use Rattle.p4_declaration_rules.specs.Controls.{after_top, tops_tests}
-use Rattle.p4_typing_laws.specs.Counted.{IsPlain}
 use Rattle.p4_typing_laws.proofs.KnownScopes.{stays}
-use Rattle.exit_names.proofs.Names.{broken, not_true, point_other, full_point, plain_locals}
+use Rattle.exit_names.proofs.Names.{broken, not_true, point_other, locals_names}
 use Rattle.exit_names.proofs.Seen.{AreQuiet, HasArg, named_has, on_has, header_has}
 use Rattle.exit_programs.specs.Owned.{all_actions, all_tables, actions_own, tables_own}
+
+-- what a control whose names are plain declares
+plain_locals : (ls : List Local) → OldLocals is_plain ls → AllByRecursion IsPlainLocal ls
+plain_locals = locals_names IsPlain (λ x. Unit {0}) (λ x h. h) (λ x h. tt)
 
 -- an expression of any kind
 abbrev Anything : Expr → Type 0
@@ -160,7 +163,7 @@ IsOutside y (_ ∷ ts) = IsOutside y ts
 module _ (y : List ℕ) where
   point_outside : has_point y ≡ false → (ts : List Top) → IsOutside y ts
   point_outside h [] = tt
-  point_outside h (control p c ∷ ts) = ((λ x q e. point_other (full c.name x) y (full_point c.name x) h e), point_outside h ts)
+  point_outside h (control p c ∷ ts) = ((λ x q e. point_other (full c.name x) y (full_has c.name x) h e), point_outside h ts)
   point_outside h (t ∷ ts) = point_outside h ts
 
   none_named : (as' : List Action) (ts : List Top) (sc : meaning.Scope) → IsOutside y ts → OldTops is_plain ts → (action_named (actions_of sc ts) y ≡ None) × (table_named (tables_of sc as' ts) y ≡ None)
@@ -224,7 +227,7 @@ module _ (p : Program) (names : OldTops is_plain p.tops) (c : Control) (plain : 
 
   plain_found : (y : List ℕ) → is_plain y ≡ true → (action_named acts y ≡ action_named (all_actions p) y) × (table_named tabs y ≡ table_named (all_tables p) y)
   plain_found y h =
-      (let apart : (x : List ℕ) → IsPlain x → full c.name x ≡ y → ⊥ = λ x k e. point_other (full c.name x) y (full_point c.name x) (not_true _ h) e in
+      (let apart : (x : List ℕ) → IsPlain x → full c.name x ≡ y → ⊥ = λ x k e. point_other (full c.name x) y (full_has c.name x) (not_true _ h) e in
       let none = none_named y (all_actions p) p.tops no_scope (point_outside y (not_true _ h) p.tops) names in (
         sym (action_front acts [] y refl) ∙ skip_actions c.name y apart c.locals sd (knows_all 0 1 2 sc c) (plain_locals c.locals plain.locals) [] ∙ sym none.0,
         sym (table_front tabs [] y refl) ∙ skip_tables (all_actions p) c.name y apart c.locals sd (knows_all 0 1 2 sc c) (plain_locals c.locals plain.locals) [] ∙ sym none.1,

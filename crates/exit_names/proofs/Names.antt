@@ -1,24 +1,23 @@
 -- Names that are plain and no flag's, and trees of such names.
-use Rattle.std.proofs.Common.{◌≡◌, ◌⊎◌, inl, inr, ℕ, List, [], ◌∷◌, Bool, true, false, not, ◌||◌, nat_eq, refl, sym, ap, ◌∙◌, subst}
+use Rattle.std.proofs.Common.{◌≡◌, ◌⊎◌, inl, inr, ℕ, List, [], ◌∷◌, Bool, true, false, not, ◌||◌, refl, sym, ap, ◌∙◌, subst}
 use Rattle.std.proofs.lemmas.List.{append_assoc, append_cancel_right}
 use Rattle.std.specs.List.{AllByRecursion}
 use Rattle.lex_text.specs.Names.{same_text}
-use Rattle.p4_tree.specs.Tree.{Stmt, Stmts, MaybeStmt, block, var, choice, done, next, without, otherwise, Local, local_action, local_table, local_register, local_const, local_var}
+use Rattle.p4_tree.specs.Tree.{Stmt, Stmts, MaybeStmt, block, var, choice, done, next, without, otherwise, Local, local_action, local_table, local_register, local_const, local_var, Top, constant, typedef, header_type, struct_type, register, parser, control}
 use Rattle.p4_tree.specs.declared.statement.PTy.{PTy}
 use Rattle.p4_meaning.specs.Scope.{is_among, full, names_in_stmt, names_in_else, names_in}
 use Rattle.p4_meaning.specs.Actions.{params_in}
 use Rattle.p4_rule_laws.specs.Old.{Names, OldFields, OldStmt, OldElse, OldStmts}
-use Rattle.p4_rule_laws.specs.OldPrograms.{OldLocal, OldLocals}
-use Rattle.p4_typing_laws.specs.Counted.{IsPlain, IsPlainLocal}
-use Rattle.p4_typing_laws.specs.Runs.{IsPlainValue}
+use Rattle.p4_rule_laws.specs.OldPrograms.{OldLocal, OldLocals, OldTops}
+use Rattle.p4_typing_laws.specs.Plain.{has_point, is_plain, IsPlain, HasName, HaveNames}
 use Rattle.p4_typing_laws.proofs.CallCounts.{text_is}
-use Rattle.p4_typing_laws.proofs.FullNames.{other_text}
+use Rattle.p4_typing_laws.proofs.FullNames.{full_has, among_head, among_tail, other_text}
 use Rattle.p4_typing_laws.proofs.TiedNames.{among_either}
 use Rattle.exit_statements.specs.Free.{is_flag}
 use Rattle.exit_statements.specs.Actions.{flags_in}
 use Rattle.exit_statements.specs.WrittenActions.{returned_in}
 use Rattle.exit_programs.specs.Programs.{flags}
-use Rattle.exit_programs.specs.Names.{is_given, has_point, is_plain}
+use Rattle.exit_programs.specs.Names.{is_given}
 
 pub broken : {A : Type 0} → true ≡ false → A
 broken h = absurd (cc)
@@ -30,27 +29,7 @@ false_if false h = refl
 pub not_true : (b : Bool) → not b ≡ true → b ≡ false
 not_true b h = false_if b (λ e. broken (sym h ∙ ap not e))
 
-or_right : (a b : Bool) → b ≡ true → (a || b) ≡ true
-or_right true b h = refl
-or_right false b h = h
-
 -- ---- points
-
-pub full_point : (c x : List ℕ) → has_point (full c x) ≡ true
-full_point c [] = refl
-full_point c (b ∷ bs) = or_right (nat_eq b 46) (has_point (full c bs)) (full_point c bs)
-
-no_point : (x : List ℕ) → has_point x ≡ false → IsPlain x
-no_point [] h = tt
-no_point (b ∷ bs) h = go (nat_eq b 46) refl h (no_point bs)
-  where
-    go : (c : Bool) → nat_eq b 46 ≡ c → (c || has_point bs) ≡ false → (has_point bs ≡ false → IsPlain bs) → IsPlain (b ∷ bs)
-    go true e k more = broken k
-    go false e k more = ((λ q. broken (sym (ap (λ (n : ℕ). nat_eq n 46) q) ∙ e)), more k)
-
--- a plain name in the words of the laws on typing
-pub plain_is : (x : List ℕ) → is_plain x ≡ true → IsPlain x
-plain_is x h = no_point x (not_true (has_point x) h)
 
 pub point_other : (x y : List ℕ) → has_point x ≡ true → has_point y ≡ false → x ≡ y → ⊥
 point_other x y h k e = broken (sym h ∙ ap has_point e ∙ k)
@@ -74,7 +53,7 @@ inner_one c a x y e = append_cancel_right x y (46 ∷ a) (append_cancel_right (f
 -- nor is the full name of a given name one of an action's flags
 pub inner_no_flag : (c a x : List ℕ) → is_given x ≡ true → is_flag (flags_in flags.left (returned_in flags) (full c a)) (inner_full c a x) ≡ false
 inner_no_flag c a x h =
-    (let left = other_text flags.left (inner_full c a x) (λ e. point_other (inner_full c a x) flags.left (full_point c (full a x)) refl (sym e)) in
+    (let left = other_text flags.left (inner_full c a x) (λ e. point_other (inner_full c a x) flags.left (full_has c (full a x)) refl (sym e)) in
     let returned = other_text (returned_in flags (full c a)) (inner_full c a x) (λ e. kept_name x flags.returned h refl (inner_one c a flags.returned x (append_assoc flags.returned (46 ∷ a) (46 ∷ c) ∙ e))) in cc)
 
 -- ---- of trees whose names pass a test each declared name does
@@ -110,19 +89,32 @@ module _ (old : Names) (m : List ℕ) where
     old_names done o i = broken (sym i)
     old_names (next c b) o i = either (among_either (names_in_stmt c) (names_in b) m i) (λ k. old_stmt c o.0 k) (λ k. old_names b o.1 k)
 
--- ---- plain names, in the words of the laws on typing
+-- ---- plain names
 
-plain_local : (l : Local) → OldLocal is_plain l → IsPlainLocal l
-plain_local (local_action p a) o = plain_is a.name o.0
-plain_local (local_table p t) o = plain_is t.name o.name
-plain_local (local_register p r) o = plain_is r.name o.0
-plain_local _ o = tt
+-- where all names are plain, what is asked of plain names holds
+module _ (Thing Value : List ℕ → Type 0) (thing : (x : List ℕ) → IsPlain x → Thing x) (value : (x : List ℕ) → IsPlain x → Value x) where
+  pub local_names : (l : Local) → OldLocal is_plain l → HasName Thing Value l
+  local_names (local_action p a) o = thing a.name o.0
+  local_names (local_table p t) o = thing t.name o.name
+  local_names (local_register p r) o = thing r.name o.0
+  local_names (local_const p t x e) o = value x o.1
+  local_names (local_var p t x e) o = value x o.1
 
-pub plain_locals : (ls : List Local) → OldLocals is_plain ls → AllByRecursion IsPlainLocal ls
-plain_locals [] o = tt
-plain_locals (l ∷ ls) o = (plain_local l o.0, plain_locals ls o.1)
+  pub locals_names : (ls : List Local) → OldLocals is_plain ls → AllByRecursion (HasName Thing Value) ls
+  locals_names [] o = tt
+  locals_names (l ∷ ls) o = (local_names l o.0, locals_names ls o.1)
 
-pub plain_value : (l : Local) → OldLocal is_plain l → IsPlainValue l
-plain_value (local_const p t x e) o = plain_is x o.1
-plain_value (local_var p t x e) o = plain_is x o.1
-plain_value _ o = tt
+  each_value : (xs : List (List ℕ)) → ((m : List ℕ) → is_among xs m ≡ true → IsPlain m) → AllByRecursion Value xs
+  each_value [] h = tt
+  each_value (x ∷ xs) h = (value x (h x (among_head x xs)), each_value xs (λ m i. h m (among_tail x xs m i)))
+
+  pub tops_names : (ts : List Top) → OldTops is_plain ts → HaveNames Thing Value ts
+  tops_names [] o = tt
+  tops_names (constant p t x e ∷ ts) o = (value x o.0.1, tops_names ts o.1)
+  tops_names (typedef p t x ∷ ts) o = tops_names ts o.1
+  tops_names (header_type p x fs ∷ ts) o = tops_names ts o.1
+  tops_names (struct_type p x fs ∷ ts) o = tops_names ts o.1
+  tops_names (register p r ∷ ts) o = (thing r.name o.0.0, tops_names ts o.1)
+  tops_names (parser p d ∷ ts) o = tops_names ts o.1
+  tops_names (control p c ∷ ts) o =
+      ((locals_names c.locals o.0.locals, each_value (names_in c.apply) (λ m i. old_names is_plain m c.apply o.0.apply i)), tops_names ts o.1)

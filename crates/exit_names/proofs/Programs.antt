@@ -1,6 +1,5 @@
 -- Ingress, egress and compute checksum of each well-typed program.
-use Rattle.std.proofs.Common.{◌≡◌, ℕ, List, [], ◌∷◌, Bool, true, false, cond, codes, Option, Some, None, refl, sym, ap, ◌∙◌, map, not, subst, ◌&&◌, is_some}
-use Rattle.lex_text.specs.Names.{same_text}
+use Rattle.std.proofs.Common.{◌≡◌, ℕ, List, [], ◌∷◌, Bool, true, false, cond, codes, Option, Some, None, refl, sym, ap, ◌∙◌, map, subst}
 use Rattle.rule_tests.specs.Tests.{IsFine}
 use Rattle.p4_tree.specs.Tree.{Stmts, and_then, Control, Top, control, Program, nothing, return_, exit_, call, done, next, Local}
 use Rattle.p4_meaning.specs.Scope as meaning
@@ -9,7 +8,7 @@ use Rattle.p4_meaning.specs.Under as under
 use Rattle.p4_meaning.specs.Under.{no_scope, stmts_under, behind_locals, settings_under, arg_under, callee_under}
 use Rattle.p4_meaning.specs.Actions.{action_named}
 use Rattle.p4_meaning.specs.Tables.{Table, table_named}
-use Rattle.p4_meaning.specs.Parts.{whole, body_of, control_named, parts_of, parser_named, scope_at_control, named_in}
+use Rattle.p4_meaning.specs.Parts.{whole, body_of, control_named, parts_of, scope_at_control, named_in}
 use Rattle.p4_scopes.specs.Scopes.{is_missing, typed, Scope, declare, core_name, value, core}
 use Rattle.p4_scopes.specs.Uses.{is_scalar, is_header}
 use Rattle.p4_scopes.specs.declared.thing.Thing.TheVariants.{Standard}
@@ -20,13 +19,13 @@ use Rattle.p4_statement_rules.specs.declared.rule.Part.TheVariants as place
 use Rattle.p4_declaration_rules.specs.Parsers.{way_access, with_ways}
 use Rattle.p4_declaration_rules.specs.Controls.{in_control, control_tests, tops_tests, locals_tests, after_locals, part_in}
 use Rattle.p4_rule_laws.specs.OldPrograms.{OldControl, OldTops}
-use Rattle.p4_rules.specs.Mains.{structs_of, apply_wants, wanted_tests, checksum_wants, Wanted, Structs, has_controls, names_parts, control_params, parts_params}
+use Rattle.p4_rules.specs.Mains.{structs_of, apply_wants, wanted_tests, checksum_wants, Wanted, Structs, names_parts, control_params, parts_params}
 use Rattle.p4_rules.specs.ProgramRules.{program_scope, IsWellTyped}
 use Rattle.p4_typing_laws.specs.Places.{ControlUses, BlockUses}
 use Rattle.p4_typing_laws.specs.Names.{UseAgrees}
-use Rattle.p4_typing_laws.proofs.Fine.{neither, typed_fine}
-use Rattle.p4_typing_laws.proofs.CallCounts.{text_same, function_name}
-use Rattle.p4_typing_laws.proofs.FullNames.{knows_all, other_text}
+use Rattle.p4_typing_laws.proofs.Fine.{typed_fine}
+use Rattle.p4_typing_laws.proofs.CallCounts.{function_name}
+use Rattle.p4_typing_laws.proofs.FullNames.{knows_all}
 use Rattle.p4_typing_laws.proofs.CountedNames.{Calls, quiet_calls}
 use Rattle.p4_typing_laws.proofs.CountedLocals.{own_missing, own_new}
 use Rattle.p4_typing_laws.proofs.TiedNames.{block_missing}
@@ -38,19 +37,18 @@ use Rattle.exit_statements.specs.Actions.{all_but}
 use Rattle.exit_statements.specs.Controls.{var_names, nothing_seen, IsFreeControl, IsPlain}
 use Rattle.exit_statements.specs.WrittenActions.{returned_in}
 use Rattle.exit_programs.specs.Programs.{flags}
-use Rattle.exit_programs.specs.Names.{is_given, is_plain, has_point, HasGivenNames, HasPlainNames}
+use Rattle.p4_typing_laws.specs.Plain.{is_plain, has_point}
+use Rattle.exit_programs.specs.Names.{is_given, HasGivenNames, HasPlainNames}
 use Rattle.exit_programs.specs.Calls.{FindStmts}
 use Rattle.exit_programs.proofs.MainParts.{have_parts}
 use Rattle.exit_programs.specs.Owned.{all_actions, all_tables, actions_own, tables_own, OwnsWhatItUses}
 use Rattle.p4_meaning.specs.Statements.{Act, runs, act_of}
 use Rattle.p4_statement_rules.specs.Statements.{block_tests}
 use Rattle.exit_statements.specs.Without.{no_exits, call_leaves, stmts_leave}
-use Rattle.p4_parser_states.specs.Cycles as cycles
 use Rattle.p4_statement_rules.specs.declared.rule.Part.{Part}
-use Rattle.p4_declaration_rules.specs.Declarations.{has_twice}
 use Rattle.p4_typing_laws.proofs.FineUses.{each_agrees, parts_named}
 use Rattle.exit_names.specs.Laws.{ControlsOwn}
-use Rattle.exit_names.proofs.Names.{broken, not_true, old_names, plain_is}
+use Rattle.exit_names.proofs.Names.{broken, not_true, old_names}
 use Rattle.exit_names.proofs.Blocks.{NamesFunctions, IsAt, block_free}
 use Rattle.exit_names.proofs.Controls.{apply_run, are_vars, vars_may, NewHere, own_here, new_here, IsBefore, settings_free, actions_free, tables_free}
 use Rattle.exit_names.proofs.Found.{finds_at, FindsOwn, calls_found, actions_within, tables_within}
@@ -213,8 +211,8 @@ module _ (p : Program) (well : IsWellTyped p) (given : HasGivenNames p) (plain :
       owns_here p q c ts s sc b f g o u (part_fine place.Apply c x s e is.part f.0) w plain.tops (subst (λ (d : List ℕ). FindsOwn p sc (Some c) d) (sym e) finds))
       well (each_agrees p well) given.tops plain.tops is.params
       (record {
-        actions = λ y h. sym (finds_at p.main x y (plain_is y h) (all_actions p) p.tops core no_scope plain.tops (typed_fine p well).0).0;
-        tables = λ y h. sym (finds_at p.main x y (plain_is y h) (all_actions p) p.tops core no_scope plain.tops (typed_fine p well).0).1;
+        actions = λ y h. sym (finds_at p.main x y h (all_actions p) p.tops core no_scope plain.tops (typed_fine p well).0).0;
+        tables = λ y h. sym (finds_at p.main x y h (all_actions p) p.tops core no_scope plain.tops (typed_fine p well).0).1;
       })
 
   owned : (n : ℕ) → IsPart p.at R p.tops p.main place.Apply apply_wants (named_in p.main n) → OwnsWhatItUses p n

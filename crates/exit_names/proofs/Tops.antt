@@ -32,8 +32,9 @@ use Rattle.p4_rules.specs.ProgramRules.{program_scope, IsWellTyped}
 use Rattle.p4_typing_laws.specs.Places.{TopsUses, ControlUses}
 use Rattle.p4_typing_laws.specs.Names.{UseAgrees}
 use Rattle.p4_typing_laws.proofs.KnownScopes.{Known, core_known, known_top}
-use Rattle.exit_programs.specs.Names.{is_given, is_plain}
-use Rattle.exit_names.proofs.Names.{broken, plain_is}
+use Rattle.p4_typing_laws.specs.Plain.{is_plain}
+use Rattle.exit_programs.specs.Names.{is_given}
+use Rattle.exit_names.proofs.Names.{broken}
 use Rattle.exit_names.proofs.Seen.{Sees, sees_declared, sees_quiet}
 use Rattle.exit_names.proofs.Controls.{sees_constant}
 
@@ -160,7 +161,7 @@ module _ (p : Program) where
 
   next_top : (t : Top) (ts : List Top) (s : Scope) (sc : meaning.Scope) → IsAtTop (t ∷ ts) s sc → OldTop is_plain t → IsFine (top_tests p.main s t) → IsAtTop ts (after_top s t) (behind_top sc t)
   next_top (constant q t x e) ts s sc b plain f =
-      record { known = known_top p.main s b.known (constant q t x e) (plain_is x plain.1) f; outer = b.outer; all = b.all; none = sees_constant sc t x e b.outer s (all_but nothing_seen) b.none; calls = quiet_calls Anyone Anyone s b.calls _ _ tt }
+      record { known = known_top p.main s b.known (constant q t x e) plain.1 f; outer = b.outer; all = b.all; none = sees_constant sc t x e b.outer s (all_but nothing_seen) b.none; calls = quiet_calls Anyone Anyone s b.calls _ _ tt }
   next_top t ts s sc b plain f =
       (let none = sees_declared s sc (behind_top sc t) (all_but nothing_seen) (all_but nothing_seen) _ _ b.none (λ q h. h) (λ y. refl) (λ y e c. c) (λ r k. broken (sym r)) in
       record { known = known_top p.main s b.known t tt f; outer = b.outer; all = b.all; none = none; calls = quiet_calls Anyone Anyone s b.calls _ _ tt })

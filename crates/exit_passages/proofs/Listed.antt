@@ -20,7 +20,7 @@ use Rattle.p4_declaration_rules.specs.Tables.{default_tests}
 use Rattle.p4_declaration_rules.specs.Parsers.{with_ways}
 use Rattle.p4_declaration_rules.specs.Controls.{after_local, locals_tests, part_in, after_top, tops_tests}
 use Rattle.p4_rules.specs.ProgramRules.{program_tests, IsWellTyped}
-use Rattle.p4_typing_laws.specs.Counted.{HavePlainNames}
+use Rattle.p4_typing_laws.specs.Plain.{HavePlainNames}
 use Rattle.p4_typing_laws.proofs.Fine.{twice_not}
 use Rattle.p4_typing_laws.proofs.FullNames.{none_named}
 use Rattle.exit_statements.specs.Actions.{IsListed, RunListed}

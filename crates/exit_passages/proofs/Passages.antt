@@ -18,7 +18,7 @@ use Rattle.exit_statements.specs.Controls.{with_flag, body_without, run_of, run_
 use Rattle.exit_statements.proofs.Controlled.{enters_agree}
 use Rattle.exit_statements.proofs.Sent.{leaves_agree}
 use Rattle.exit_programs.specs.Programs.{flags}
-use Rattle.exit_programs.specs.Names.{has_point}
+use Rattle.p4_typing_laws.specs.Plain.{has_point}
 use Rattle.exit_programs.specs.Calls.{FindsAction, FindsListed, FindsTable, FindsAct, FindsApplied, FindsStmt, FindsElse, FindStmts}
 use Rattle.exit_programs.specs.Owned.{all_actions, all_tables, own_actions, own_tables, OwnsWhatItUses, ComputeIsPlain}
 use Rattle.exit_programs.specs.Without.{leaves_at, body_at}

@@ -8,7 +8,7 @@ use Rattle.p4_meaning.specs.Parts.{Parts, parts_of}
 use Rattle.p4_meaning.specs.Pass.{Registers, Queued, Going, Leaving, parts_enter, parts_leave}
 use Rattle.p4_meaning.specs.Laws.{AreListed}
 use Rattle.p4_rules.specs.ProgramRules.{IsWellTyped}
-use Rattle.p4_typing_laws.specs.Counted.{HavePlainNames}
+use Rattle.p4_typing_laws.specs.Plain.{HavePlainNames}
 use Rattle.exit_statements.specs.Controls.{SameButVariables, sent}
 use Rattle.exit_programs.specs.Names.{HasGivenNames}
 use Rattle.exit_programs.specs.Owned.{OwnsWhatItUses, ComputeIsPlain}

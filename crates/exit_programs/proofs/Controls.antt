@@ -23,7 +23,8 @@ use Rattle.exit_statements.specs.WrittenActions.{returned_in, HasNoFlag}
 use Rattle.exit_statements.proofs.Written.{names_agree}
 use Rattle.exit_statements.proofs.WrittenActions.{actions_agree}
 use Rattle.exit_statements.proofs.Values.{text_decides}
-use Rattle.p4_typing_laws.proofs.FullNames.{has_point as has_dot, full_has}
+use Rattle.p4_typing_laws.specs.Plain.{has_point}
+use Rattle.p4_typing_laws.proofs.FullNames.{full_has}
 use Rattle.exit_programs.specs.Programs.{flags, name_in, exits_at, local_without, control_leaves, with_flag, control_without}
 use Rattle.exit_programs.specs.Names.{is_given}
 use Rattle.exit_programs.proofs.Given.{other_way, root_same, avoid_stmts, params_off, inner_off}
@@ -132,8 +133,8 @@ first_inside (Some i) c x r e h = absurd (cc e)
 full_apart : (around x : List ℕ) → is_function (full around x) ≡ false
 full_apart around x = go (same_text (full around x) (codes "mark_to_drop")) (same_text (full around x) (codes "digest")) (same_text (full around x) (codes "verify_checksum")) (same_text (full around x) (codes "update_checksum")) refl refl refl refl
   where
-    one : (y : List ℕ) → has_dot y ≡ false → same_text (full around x) y ≡ true → true ≡ false
-    one y h e = sym (full_has around x) ∙ (ap has_dot ((text_decides (full around x) y).0 e) ∙ h)
+    one : (y : List ℕ) → has_point y ≡ false → same_text (full around x) y ≡ true → true ≡ false
+    one y h e = sym (full_has around x) ∙ (ap has_point ((text_decides (full around x) y).0 e) ∙ h)
 
     go : (a b c d : Bool) → same_text (full around x) (codes "mark_to_drop") ≡ a → same_text (full around x) (codes "digest") ≡ b → same_text (full around x) (codes "verify_checksum") ≡ c → same_text (full around x) (codes "update_checksum") ≡ d → (a || (b || (c || d))) ≡ false
     go true b c d e f g i = one (codes "mark_to_drop") refl e

@@ -10,7 +10,7 @@ use Rattle.p4_meaning.specs.Parts.{whole, scope_at_control, named_in, control_in
 use Rattle.exit_statements.specs.WrittenActions.{returned_in}
 use Rattle.exit_statements.specs.Controls.{IsFreeControl, IsPlain}
 use Rattle.exit_programs.specs.Programs.{flags}
-use Rattle.exit_programs.specs.Names.{has_point}
+use Rattle.p4_typing_laws.specs.Plain.{has_point}
 use Rattle.exit_programs.specs.Calls.{FindStmts}
 
 -- the actions of a program, and its tables

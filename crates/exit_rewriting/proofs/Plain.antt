@@ -10,7 +10,7 @@ use Rattle.p4_tree.specs.declared.program.Param.{Param}
 use Rattle.p4_printer.specs.CanSpell.{IsName, EachCan, SomeCan, MayCan, IsVar, IsPathAlone, CanSpellType, CanSpellPath, CanSpellExpr, CanSpellArg, CanSpellStmt, CanSpellStmts, CanSpellParserStmt, CanSpellSimple, CanSpellKeyset, CanSpellCase, CanSpellNext, CanSpellState, CanSpellParam, CanSpellParser, CanSpellField, CanSpellKey, CanSpellDefault, CanSpellTable, CanSpellLocal, CanSpellControl, CanSpellTop}
 use Rattle.p4_rule_laws.specs.Old.{OldPath, OldType, OldFields, OldExpr, OldExprs, OldStart, OldArgs, OldStmt, OldStmts}
 use Rattle.p4_rule_laws.specs.OldPrograms.{OldKeys, OldDefault, OldTable, OldWays, OldKeyset, OldKeysets, OldCases, OldTransition, OldStates, OldParser, OldLocal, OldLocals, OldControl, OldTop, OldTops}
-use Rattle.exit_programs.specs.Names.{has_point, is_plain}
+use Rattle.p4_typing_laws.specs.Plain.{has_point, is_plain}
 use Rattle.exit_rewriting.specs.Laws.{PlainIfSpelled}
 
 -- ---- names

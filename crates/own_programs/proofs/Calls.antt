@@ -1,6 +1,6 @@
 -- Calls of a well-typed program are own: they make headers of the struct of headers valid, write where they may, and tell
 -- no reports.
-use Rattle.std.proofs.Common.{◌≡◌, ◌⊎◌, inl, inr, ℕ, List, [], ◌∷◌, map, Bool, true, false, cond, not, ◌||◌, nat_eq, codes, Option, Some, None, refl, sym, ap, ◌∙◌, subst}
+use Rattle.std.proofs.Common.{◌≡◌, ◌⊎◌, inl, inr, ℕ, List, [], ◌∷◌, map, Bool, true, false, cond, not, codes, Option, Some, None, refl, sym, ap, ◌∙◌, subst}
 use Rattle.bit_values.specs.Bits.{Word}
 use Rattle.lex_text.specs.Names.{same_text}
 use Rattle.rule_tests.specs.Tests.{IsFine}
@@ -19,7 +19,8 @@ use Rattle.p4_statement_rules.specs.Calls.{is_known, digest_tests, cell_read, fi
 use Rattle.p4_rule_laws.specs.Old.{OldPath, OldExpr, OldExprs, OldArgs}
 use Rattle.p4_typing_laws.proofs.Fine.{twice_not, neither}
 use Rattle.p4_typing_laws.proofs.CallCounts.{text_is}
-use Rattle.exit_programs.specs.Names.{has_point}
+use Rattle.p4_typing_laws.proofs.FullNames.{full_has}
+use Rattle.p4_typing_laws.specs.Plain.{has_point}
 use Rattle.own_code.specs.Regions.{is_writable}
 use Rattle.own_code.specs.Forwarding.{IsOwnAct}
 use Rattle.own_programs.specs.OwnPrograms.{is_own, act_tells_report}
@@ -28,20 +29,12 @@ use Rattle.own_programs.proofs.Places.{is_held_header, IsPlace, header_own, targ
 
 -- ---- functions of the architecture's own go by their names
 
-pub full_point : (c x : List ℕ) → has_point (full c x) ≡ true
-full_point c [] = refl
-full_point c (b ∷ x) = go (nat_eq b 46) (full_point c x)
-  where
-    go : (e : Bool) → has_point (full c x) ≡ true → (e || has_point (full c x)) ≡ true
-    go true k = refl
-    go false k = k
-
 -- a name without a point is no full name
 plain_is : (sc : meaning.Scope) (x n : List ℕ) → has_point n ≡ false → full_name sc x ≡ n → x ≡ n
 plain_is sc x n plain e = go (is_among sc.own x) e
   where
     go : (b : Bool) → cond b (full sc.control x) x ≡ n → x ≡ n
-    go true k = broken (sym (full_point sc.control x) ∙ ap has_point k ∙ plain)
+    go true k = broken (sym (full_has sc.control x) ∙ ap has_point k ∙ plain)
     go false k = k
 
 core_is : (x : List ℕ) → core (x ∷ []) ≡ core_name x

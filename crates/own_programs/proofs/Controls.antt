@@ -18,16 +18,15 @@ use Rattle.p4_declaration_rules.specs.Controls.{action_part, after_local, locals
 use Rattle.p4_rule_laws.specs.Old.{OldPath, OldFields}
 use Rattle.p4_rule_laws.specs.OldPrograms.{OldKeys, OldDefault, OldLocals}
 use Rattle.p4_typing_laws.proofs.Fine.{neither}
-use Rattle.p4_typing_laws.proofs.FullNames.{among_head, other_text, Knows, knows_rest}
+use Rattle.p4_typing_laws.proofs.FullNames.{full_has, among_head, other_text, Knows, knows_rest}
 use Rattle.exit_statements.specs.Without.{no_exits, stmts_leave}
 use Rattle.exit_programs.specs.Laws.{local_leaves}
-use Rattle.exit_programs.specs.Names.{has_point}
+use Rattle.p4_typing_laws.specs.Plain.{has_point}
 use Rattle.own_code.specs.Regions.{is_mine}
 use Rattle.own_code.specs.Forwarding.{IsOwnExpr, AreOwnStmts, AreVars, IsOwnAction, IsOwnTable}
 use Rattle.own_programs.specs.OwnPrograms.{is_own, stmts_tell_reports, local_tells_reports}
 use Rattle.own_programs.proofs.Names.{broken, own_not, name_own, first_own, expr_own, start_own}
 use Rattle.own_programs.proofs.Places.{IsPlace, place_local, place_action}
-use Rattle.own_programs.proofs.Calls.{full_point}
 use Rattle.own_programs.proofs.Blocks.{block_own}
 
 -- ---- variables
@@ -118,7 +117,7 @@ actions_own h (local_var p u x e ∷ ls) s sd outer b o l t f = actions_own h ls
 
 -- none is called `NoAction`, since a point stands in each full name
 no_action_name : (c x : List ℕ) → same_text (full c x) (codes "NoAction") ≡ false
-no_action_name c x = other_text (full c x) (codes "NoAction") (λ e. broken (sym (full_point c x) ∙ ap has_point e))
+no_action_name c x = other_text (full c x) (codes "NoAction") (λ e. broken (sym (full_has c x) ∙ ap has_point e))
 
 pub no_action_in : (c : List ℕ) (ls : List Local) (sd : meaning.Scope) → Knows c sd ls → (rest : List Action) → action_named (actions_in sd ls ++ rest) (codes "NoAction") ≡ action_named rest (codes "NoAction")
 no_action_in c [] sd k rest = refl

@@ -1,12 +1,12 @@
 -- A well-typed program with own names, of which nothing leaves and that tells no reports, is a forwarding program.
-use Rattle.std.proofs.Common.{◌≡◌, ℕ, List, [], ◌∷◌, map, Bool, true, false, cond, not, ◌&&◌, is_some, refl, sym, ap, ◌∙◌}
+use Rattle.std.proofs.Common.{◌≡◌, ℕ, List, [], ◌∷◌, map, Bool, true, false, cond, refl, ap, ◌∙◌}
 use Rattle.std.specs.List.{AllByRecursion}
 use Rattle.lex_text.specs.Names.{same_text}
 use Rattle.p4_tree.specs.Tree.{Top, constant, typedef, header_type, struct_type, register, parser, control, Program}
 use Rattle.p4_tree.specs.declared.statement.PTy.{PTy}
 use Rattle.p4_meaning.specs.Under.{no_scope}
 use Rattle.p4_meaning.specs.Actions.{actions_of}
-use Rattle.p4_meaning.specs.Parts.{field_of, header_of, types_of, whole, parser_named, struct_fields, body_of, body_in, parser_type, parser_in, named_in, emits_of, parts_of}
+use Rattle.p4_meaning.specs.Parts.{field_of, header_of, types_of, whole, struct_fields, body_of, body_in, parser_type, parser_in, named_in, emits_of, parts_of}
 use Rattle.p4_scopes.specs.Scopes.{core}
 use Rattle.p4_statement_rules.specs.declared.rule.Part.TheVariants as place
 use Rattle.p4_declaration_rules.specs.Controls.{part_in}
@@ -21,7 +21,7 @@ use Rattle.own_code.specs.Regions.{is_mine, is_own_header}
 use Rattle.own_code.specs.Forwarding.{AreOwnStmts, AreVars, IsOwnBody, IsForwarding}
 use Rattle.own_programs.specs.OwnPrograms.{is_own, HasOwnNames, program_tells_reports}
 use Rattle.own_programs.specs.Laws.{OwnProgramsForward}
-use Rattle.own_programs.proofs.Names.{broken, own_not}
+use Rattle.own_programs.proofs.Names.{own_not}
 use Rattle.own_programs.proofs.Programs.{registers_are, tables_are, none_is_no_action, first_at, apply_body, sums_body, deparser_body, actions_are, at_control, states_are}
 
 -- ---- headers and metadata: the fields of a struct

@@ -11,7 +11,7 @@ use Rattle.p4_meaning.specs.Standard.{headers_root, metadata_root, standard_root
 use Rattle.p4_meaning.specs.Scope.{Roots, root_of, Inner, Scope, is_among, full, full_name, is_inner, inner_name, first_name, path_under, constant_at}
 use Rattle.p4_meaning.specs.Under.{constant_or_path, expr_under, arg_under}
 use Rattle.p4_rule_laws.specs.Old.{OldPath, OldExpr, OldExprs, OldStart, OldArgs}
-use Rattle.exit_programs.specs.Names.{has_point}
+use Rattle.p4_typing_laws.specs.Plain.{has_point}
 use Rattle.own_code.specs.Regions.{is_mine, is_free}
 use Rattle.own_code.specs.Forwarding.{IsOwnExpr, IsOwnStart, IsOwnApplication, IsOwnTest}
 use Rattle.own_programs.specs.OwnPrograms.{is_own}

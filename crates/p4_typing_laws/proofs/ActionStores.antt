@@ -23,6 +23,7 @@ use Rattle.p4_statement_rules.specs.declared.rule.Part.{Part}
 use Rattle.p4_declaration_rules.specs.Declarations.{params_tests, with_params, action_tests}
 use Rattle.p4_typing_laws.specs.Soundness.{kind_width, IsSound}
 use Rattle.p4_typing_laws.specs.Tied.{IsTied}
+use Rattle.p4_typing_laws.specs.Plain.{has_point}
 use Rattle.p4_typing_laws.specs.Stores.{Fits}
 use Rattle.p4_typing_laws.specs.Along.{IsFlat}
 use Rattle.p4_typing_laws.specs.Runs.{ActionRuns}
@@ -30,13 +31,13 @@ use Rattle.p4_typing_laws.proofs.Fine.{twice_not}
 use Rattle.p4_typing_laws.proofs.StaticWidths.{sound_width_of}
 use Rattle.p4_typing_laws.proofs.SoundScopes.{kind_sound, value_sound, params_sound}
 use Rattle.p4_typing_laws.proofs.CallCounts.{text_is, text_same}
-use Rattle.p4_typing_laws.proofs.FullNames.{has_point}
+use Rattle.p4_typing_laws.proofs.FullNames.{plain_no_point}
 use Rattle.p4_typing_laws.proofs.CountedNames.{other_kept}
 use Rattle.p4_typing_laws.proofs.TiedNames.{value_tied, fixed_no_constant, type_width, inner_missing, enter_tied, in_action_tied}
 use Rattle.p4_typing_laws.proofs.KeptPlaces.{path_same, set_keeps, HasPlaces, ParamsSpare, standard_kept, bound_keeps}
 use Rattle.p4_typing_laws.proofs.AlongRuns.{among_left, among_right, Read, fits_kept, flat_type, along}
 use Rattle.p4_typing_laws.proofs.KnownScopes.{flat_declare}
-use Rattle.p4_typing_laws.proofs.ReadyPlaces.{plain_no_point, full_one, root_free, inner_point, bare_calls, action_places}
+use Rattle.p4_typing_laws.proofs.ReadyPlaces.{full_one, root_free, inner_point, bare_calls, action_places}
 use Rattle.p4_typing_laws.proofs.RunPlaces.{IsPlaced}
 
 broken : {A : Type 0} → true ≡ false → A

@@ -26,7 +26,7 @@ use Rattle.p4_declaration_rules.specs.Digests.{most_of, greatest, most_of_defaul
 use Rattle.p4_declaration_rules.specs.Declarations.{with_params}
 use Rattle.p4_declaration_rules.specs.Tables.{listed_tests, default_args, default_tests, table_tests}
 use Rattle.p4_declaration_rules.specs.Controls.{action_part, local_tests, after_local, locals_tests, after_locals}
-use Rattle.p4_typing_laws.specs.Counted.{IsPlain, IsPlainLocal}
+use Rattle.p4_typing_laws.specs.Plain.{IsPlain, IsPlainLocal}
 use Rattle.p4_typing_laws.proofs.Fine.{twice_not}
 use Rattle.p4_typing_laws.proofs.Cut.{IsCut, zero_cut, max_cut}
 use Rattle.p4_typing_laws.proofs.CallCounts.{text_is, text_same, function_name, is_function_name, IsQuiet, Counts, block_counts, no_more_values, params_more}

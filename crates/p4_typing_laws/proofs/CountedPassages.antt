@@ -20,7 +20,8 @@ use Rattle.p4_declaration_rules.specs.Controls.{part_in, top_tests, after_top, t
 use Rattle.p4_rules.specs.Mains.{names_parts}
 use Rattle.p4_rules.specs.Limits.{most_of_program}
 use Rattle.p4_rules.specs.ProgramRules.{IsWellTyped}
-use Rattle.p4_typing_laws.specs.Counted.{HavePlainNames, DigestsAreCounted}
+use Rattle.p4_typing_laws.specs.Plain.{HavePlainNames}
+use Rattle.p4_typing_laws.specs.Counted.{DigestsAreCounted}
 use Rattle.p4_typing_laws.proofs.Fine.{twice_not, neither, typed_fine}
 use Rattle.p4_typing_laws.proofs.Cut.{IsCut, zero_cut, other_cut, first_cut, second_cut, uncut}
 use Rattle.p4_typing_laws.proofs.CallCounts.{text_is, text_same}

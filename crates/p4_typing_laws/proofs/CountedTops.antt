@@ -25,7 +25,7 @@ use Rattle.p4_statement_rules.specs.declared.rule.Part.TheVariants as place
 use Rattle.p4_declaration_rules.specs.Digests.{most_of_form, most_of}
 use Rattle.p4_declaration_rules.specs.Parsers.{way_access, with_ways, ways_tests}
 use Rattle.p4_declaration_rules.specs.Controls.{in_control, control_tests, part_in, top_tests, after_top, tops_tests}
-use Rattle.p4_typing_laws.specs.Counted.{IsPlain, IsPlainLocal, HavePlainNames}
+use Rattle.p4_typing_laws.specs.Plain.{IsPlain, IsPlainLocal, HavePlainNames}
 use Rattle.p4_typing_laws.proofs.Fine.{twice_not}
 use Rattle.p4_typing_laws.proofs.Cut.{IsCut, uncut}
 use Rattle.p4_typing_laws.proofs.CallCounts.{IsQuiet, block_counts, no_more_values}
@@ -224,10 +224,10 @@ module _ (as' : List Action) (tabs : List Table) (none : action_named as' (codes
 
   pub each_counts : (ts : List Top) (s : Scope) (sc : meaning.Scope) → IsBeforeTops as' tabs main sc ts s → HavePlainNames ts → IsFine (tops_tests main s ts) → EachCounts as' tabs main s sc ts
   each_counts [] s sc b plain f = tt
-  each_counts (constant p t x e ∷ ts) s sc b plain f = each_counts ts _ (behind_top sc (constant p t x e)) (quiet_tops sc (behind_top sc (constant p t x e)) (constant p t x e) ts s x (value Constant t) b (λ y. refl) (λ y. refl) (twice_not _ f.0.0) refl tt) plain f.1
+  each_counts (constant p t x e ∷ ts) s sc b plain f = each_counts ts _ (behind_top sc (constant p t x e)) (quiet_tops sc (behind_top sc (constant p t x e)) (constant p t x e) ts s x (value Constant t) b (λ y. refl) (λ y. refl) (twice_not _ f.0.0) refl tt) plain.1 f.1
   each_counts (typedef p t x ∷ ts) s sc b plain f = each_counts ts _ (behind_top sc (typedef p t x)) (quiet_tops sc (behind_top sc (typedef p t x)) (typedef p t x) ts s x (alias t) b (λ y. refl) (λ y. refl) (twice_not _ f.0.0) refl tt) plain f.1
   each_counts (header_type p x fs ∷ ts) s sc b plain f = each_counts ts _ sc (quiet_tops sc sc (header_type p x fs) ts s x (fields (Header _) fs) b (λ y. refl) (λ y. refl) (twice_not _ f.0.0) refl tt) plain f.1
   each_counts (struct_type p x fs ∷ ts) s sc b plain f = each_counts ts _ sc (quiet_tops sc sc (struct_type p x fs) ts s x (fields Struct fs) b (λ y. refl) (λ y. refl) (twice_not _ f.0.0) refl tt) plain f.1
   each_counts (register p r ∷ ts) s sc b plain f = each_counts ts _ sc (quiet_tops sc sc (register p r) ts s r.name (scope.register r.ty) b (λ y. refl) (λ y. refl) (twice_not _ f.0.0) refl tt) plain.1 f.1
   each_counts (parser p d ∷ ts) s sc b plain f = each_counts ts _ sc (quiet_tops sc sc (parser p d) ts s d.name part b (λ y. refl) (λ y. refl) (twice_not _ f.0.0) refl tt) plain f.1
-  each_counts (control p c ∷ ts) s sc b plain f = (control_counts (part_in main c.name) p c ts s sc b plain.0 refl f.0, each_counts ts _ sc (behind_control (part_in main c.name) sc p c ts s b plain.0 f.0) plain.1 f.1)
+  each_counts (control p c ∷ ts) s sc b plain f = (control_counts (part_in main c.name) p c ts s sc b plain.0.0 refl f.0, each_counts ts _ sc (behind_control (part_in main c.name) sc p c ts s b plain.0.0 f.0) plain.1 f.1)

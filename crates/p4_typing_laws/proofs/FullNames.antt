@@ -1,5 +1,6 @@
 -- Full names: a point stands between the name of what a control declares and the control's name, and in no plain name.
-use Rattle.std.proofs.Common.{◌≡◌, ℕ, List, [], ◌∷◌, ◌++◌, Bool, true, false, cond, ◌||◌, nat_eq, codes, Some, None, refl, sym, ap, ◌∙◌}
+use Rattle.std.proofs.Common.{◌≡◌, ℕ, List, [], ◌∷◌, ◌++◌, Bool, true, false, not, cond, ◌||◌, nat_eq, codes, Some, None, refl, sym, ap, ◌∙◌, subst}
+use Rattle.std.proofs.lemmas.Bool.{not-true}
 use Rattle.lex_text.specs.Names.{same_text}
 use Rattle.p4_tree.specs.Tree.{Local, local_action, local_table, local_register, local_const, local_var, Top, constant, typedef, header_type, struct_type, register, parser, control, Control}
 use Rattle.p4_meaning.specs.Scope as meaning
@@ -7,7 +8,7 @@ use Rattle.p4_meaning.specs.Scope.{is_among, full, full_name, own_names}
 use Rattle.p4_meaning.specs.Under.{behind_top, behind_local, in_control}
 use Rattle.p4_meaning.specs.Actions.{Action, actions_in, actions_of, action_named}
 use Rattle.p4_meaning.specs.Tables.{Table, tables_in, table_named}
-use Rattle.p4_typing_laws.specs.Counted.{IsPlain, IsPlainLocal, HavePlainNames}
+use Rattle.p4_typing_laws.specs.Plain.{has_point, is_plain, IsPlain, IsPlainLocal, HavePlainNames}
 use Rattle.std.specs.List.{AllByRecursion}
 use Rattle.p4_typing_laws.proofs.CallCounts.{text_is, text_same, is_function_name}
 
@@ -17,22 +18,29 @@ head_same x y xs ys e = cc
 pub tail_same : {A : Type 0} (x y : A) (xs ys : List A) → (x ∷ xs) ≡ (y ∷ ys) → xs ≡ ys
 tail_same x y xs ys e = cc
 
+-- what begins a plain name is no point, and what follows is plain
+plain_head : (b : ℕ) (bs : List ℕ) → IsPlain (b ∷ bs) → b ≡ 46 → ⊥
+plain_head b bs h e = (let c : false ≡ true = subst (λ (n : ℕ). is_plain (n ∷ bs) ≡ true) e h in cc)
+
+plain_tail : (b : ℕ) (bs : List ℕ) → IsPlain (b ∷ bs) → IsPlain bs
+plain_tail b bs h = go (nat_eq b 46) h
+  where
+    go : (c : Bool) → not (c || has_point bs) ≡ true → IsPlain bs
+    go true k = absurd (let c : false ≡ true = k in cc)
+    go false k = k
+
 -- plain names and the names around them are known from full names
 pub full_apart : (a b c d : List ℕ) → IsPlain a → IsPlain b → full c a ≡ full d b → (a ≡ b) × (c ≡ d)
 full_apart [] [] c d h k e = (refl, tail_same 46 46 c d e)
-full_apart [] (y ∷ ys) c d h k e = absurd (k.0 (sym (head_same 46 y c (ys ++ 46 ∷ d) e)))
-full_apart (x ∷ xs) [] c d h k e = absurd (h.0 (head_same x 46 (xs ++ 46 ∷ c) d e))
+full_apart [] (y ∷ ys) c d h k e = absurd (plain_head y ys k (sym (head_same 46 y c (ys ++ 46 ∷ d) e)))
+full_apart (x ∷ xs) [] c d h k e = absurd (plain_head x xs h (head_same x 46 (xs ++ 46 ∷ c) d e))
 full_apart (x ∷ xs) (y ∷ ys) c d h k e =
     (let same = head_same x y (xs ++ 46 ∷ c) (ys ++ 46 ∷ d) e in
-    let more = full_apart xs ys c d h.1 k.1 (tail_same x y (xs ++ 46 ∷ c) (ys ++ 46 ∷ d) e) in
+    let more = full_apart xs ys c d (plain_tail x xs h) (plain_tail y ys k) (tail_same x y (xs ++ 46 ∷ c) (ys ++ 46 ∷ d) e) in
     let rest = more.0 in
     (cc, more.1))
 
 -- ---- points
-
-abbrev pub has_point : List ℕ → Bool
-has_point [] = false
-has_point (b ∷ bs) = nat_eq b 46 || has_point bs
 
 or_right : (a b : Bool) → b ≡ true → (a || b) ≡ true
 or_right true b h = refl
@@ -41,6 +49,13 @@ or_right false b h = h
 pub full_has : (c x : List ℕ) → has_point (full c x) ≡ true
 full_has c [] = refl
 full_has c (b ∷ bs) = or_right (nat_eq b 46) (has_point (full c bs)) (full_has c bs)
+
+-- a plain name has none, so that it is no full name
+pub plain_no_point : (x : List ℕ) → IsPlain x → has_point x ≡ false
+plain_no_point x h = not-true (has_point x) h
+
+pub plain_not_full : (x : List ℕ) → IsPlain x → (c y : List ℕ) → x ≡ full c y → ⊥
+plain_not_full x h c y e = (let k : true ≡ false = sym (full_has c y) ∙ sym (ap has_point e) ∙ plain_no_point x h in cc)
 
 pub no_other : (y n : List ℕ) → has_point y ≡ true → has_point n ≡ false → same_text y n ≡ false
 no_other y n h k = go (same_text y n) refl
@@ -125,12 +140,12 @@ knows_all h m s sc c = record { control = refl; names = λ x e. e }
 -- a name without a point is no action's
 pub none_named : (ts : List Top) (sc : meaning.Scope) (y : List ℕ) → has_point y ≡ false → HavePlainNames ts → action_named (actions_of sc ts) y ≡ None
 none_named [] sc y h k = refl
-none_named (constant p t x e ∷ ts) sc y h k = none_named ts (behind_top sc (constant p t x e)) y h k
+none_named (constant p t x e ∷ ts) sc y h k = none_named ts (behind_top sc (constant p t x e)) y h k.1
 none_named (typedef p t x ∷ ts) sc y h k = none_named ts (behind_top sc (typedef p t x)) y h k
 none_named (header_type p x fs ∷ ts) sc y h k = none_named ts sc y h k
 none_named (struct_type p x fs ∷ ts) sc y h k = none_named ts sc y h k
 none_named (register p r ∷ ts) sc y h k = none_named ts sc y h k.1
 none_named (parser p d ∷ ts) sc y h k = none_named ts sc y h k
 none_named (control p c ∷ ts) sc y h k =
-    skip_actions c.name y (λ x q e. (let has : has_point y ≡ true = sym (ap has_point e) ∙ full_has c.name x in let c : false ≡ true = sym h ∙ has in cc)) c.locals (in_control 0 1 2 sc c) (knows_all 0 1 2 sc c) k.0 (actions_of sc ts)
+    skip_actions c.name y (λ x q e. (let has : has_point y ≡ true = sym (ap has_point e) ∙ full_has c.name x in let c : false ≡ true = sym h ∙ has in cc)) c.locals (in_control 0 1 2 sc c) (knows_all 0 1 2 sc c) k.0.0 (actions_of sc ts)
     ∙ none_named ts sc y h k.1

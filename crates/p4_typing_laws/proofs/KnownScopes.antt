@@ -16,9 +16,8 @@ use Rattle.p4_statement_rules.specs.declared.rule.Part.{Part}
 use Rattle.p4_declaration_rules.specs.Digests.{most_of, most_of_table}
 use Rattle.p4_declaration_rules.specs.Controls.{local_tests, after_local, top_tests, after_top, tops_tests, after_tops}
 use Rattle.p4_typing_laws.specs.Soundness.{IsSound}
-use Rattle.p4_typing_laws.specs.Counted.{IsPlain}
+use Rattle.p4_typing_laws.specs.Plain.{IsPlain, IsPlainValue}
 use Rattle.p4_typing_laws.specs.Along.{is_value_type, IsFlat}
-use Rattle.p4_typing_laws.specs.Runs.{IsPlainValue}
 use Rattle.p4_typing_laws.proofs.Fine.{twice_not}
 use Rattle.p4_typing_laws.proofs.SoundScopes.{core_sound}
 use Rattle.p4_typing_laws.proofs.SoundPlaces.{local_sound, top_sound}

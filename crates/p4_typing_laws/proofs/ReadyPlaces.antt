@@ -1,8 +1,7 @@
 -- Names of a control and of an action have places of their own in a store: what a control declares goes by its plain name,
 -- what an action declares by its full one.
-use Rattle.std.proofs.Common.{◌≡◌, ◌⊎◌, inl, inr, ℕ, List, [], ◌∷◌, ◌++◌, map, Bool, true, false, cond, ◌||◌, nat_eq, Option, None, refl, sym, ap, ◌∙◌}
+use Rattle.std.proofs.Common.{◌≡◌, ◌⊎◌, inl, inr, ℕ, List, [], ◌∷◌, ◌++◌, map, Bool, true, false, cond, ◌||◌, Option, None, refl, sym, ap, ◌∙◌}
 use Rattle.std.proofs.lemmas.List.{append_cancel_right}
-use borrow.Author.Tests.{eqb-true}
 use Rattle.lex_text.specs.Names.{same_text}
 use Rattle.p4_tree.specs.Tree as tree
 use Rattle.p4_tree.specs.Tree.{Local, local_action, local_table, local_register, local_const, local_var, Top, constant, typedef, header_type, struct_type, register, parser, control}
@@ -18,10 +17,10 @@ use Rattle.p4_scopes.specs.Scopes.{is_missing, Scope, value, declare}
 use Rattle.p4_scopes.specs.Uses.{reads}
 use Rattle.p4_scopes.specs.declared.thing.Access.TheVariants.{Fixed}
 use Rattle.p4_declaration_rules.specs.Declarations.{with_params}
-use Rattle.p4_typing_laws.specs.Counted.{IsPlain}
+use Rattle.p4_typing_laws.specs.Plain.{has_point, IsPlain}
 use Rattle.p4_typing_laws.specs.Along.{IsNameOf, IsPlaceOf, HavePlaces, CallsLeave}
 use Rattle.p4_typing_laws.proofs.CallCounts.{text_same}
-use Rattle.p4_typing_laws.proofs.FullNames.{has_point, full_has, other_text}
+use Rattle.p4_typing_laws.proofs.FullNames.{full_has, plain_no_point, other_text}
 use Rattle.p4_typing_laws.proofs.CountedNames.{other_kept}
 use Rattle.p4_typing_laws.proofs.KeptPlaces.{keeps_same, HasPlaces, ParamsSpare, SpareAll, Spares, calls_keep, calls_none}
 use Rattle.p4_typing_laws.proofs.AlongRuns.{among_left, among_right, block_spares}
@@ -29,15 +28,6 @@ use Rattle.p4_typing_laws.proofs.KnownScopes.{ReadsPlain}
 
 broken : {A : Type 0} → true ≡ false → A
 broken h = absurd (cc)
-
--- a plain name has no point
-pub plain_no_point : (x : List ℕ) → IsPlain x → has_point x ≡ false
-plain_no_point [] h = refl
-plain_no_point (b ∷ bs) h = go (nat_eq b 46) refl (plain_no_point bs h.1)
-  where
-    go : (c : Bool) → nat_eq b 46 ≡ c → has_point bs ≡ false → (c || has_point bs) ≡ false
-    go true e more = absurd (h.0 (eqb-true b 46 e))
-    go false e more = more
 
 pub full_one : (c x y : List ℕ) → full c x ≡ full c y → x ≡ y
 full_one c x y e = append_cancel_right x y (46 ∷ c) e

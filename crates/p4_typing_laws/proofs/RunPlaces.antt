@@ -22,11 +22,10 @@ use Rattle.p4_statement_rules.specs.declared.rule.Part.TheVariants as place
 use Rattle.p4_declaration_rules.specs.Digests.{most_of, most_of_table}
 use Rattle.p4_declaration_rules.specs.Controls.{local_tests, after_local, locals_tests, after_locals}
 use Rattle.p4_typing_laws.specs.Soundness.{kind_width}
-use Rattle.p4_typing_laws.specs.Counted.{IsPlain}
+use Rattle.p4_typing_laws.specs.Plain.{IsPlain, IsPlainValue}
 use Rattle.p4_typing_laws.specs.Tied.{IsTied, LocalsPlaces}
 use Rattle.p4_typing_laws.specs.Stores.{Fits}
 use Rattle.p4_typing_laws.specs.Along.{IsPlaceOf, CallsLeave}
-use Rattle.p4_typing_laws.specs.Runs.{IsPlainValue}
 use Rattle.p4_typing_laws.proofs.Fine.{twice_not}
 use Rattle.p4_typing_laws.proofs.CallCounts.{text_is, text_same}
 use Rattle.p4_typing_laws.proofs.FullNames.{other_text}

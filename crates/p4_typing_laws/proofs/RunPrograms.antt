@@ -26,11 +26,11 @@ use Rattle.p4_rules.specs.Mains.{Structs, structs_of, apply_wants, control_param
 use Rattle.p4_rules.specs.ProgramRules.{program_scope, IsWellTyped}
 use Rattle.p4_meaning.specs.Store.{Store}
 use Rattle.p4_meaning.proofs.Sequences.{then_runs}
-use Rattle.p4_typing_laws.specs.Counted.{IsPlain}
+use Rattle.p4_typing_laws.specs.Plain.{IsPlain, IsPlainValue, HavePlainValues}
 use Rattle.p4_typing_laws.specs.Tied.{IsTied, LocalsPlaces, TopsPlaces}
 use Rattle.p4_typing_laws.specs.Stores.{Fits}
 use Rattle.p4_typing_laws.specs.Along.{CallsLeave, Along, RunFits}
-use Rattle.p4_typing_laws.specs.Runs.{GoesOnToFit, IsPlainValue, HavePlainValues, LocalsRun, ControlRuns, TopsRun, ControlsRun}
+use Rattle.p4_typing_laws.specs.Runs.{GoesOnToFit, LocalsRun, ControlRuns, TopsRun, ControlsRun}
 use Rattle.p4_typing_laws.proofs.Fine.{twice_not, typed_fine}
 use Rattle.p4_typing_laws.proofs.CallCounts.{text_is, text_same}
 use Rattle.p4_typing_laws.proofs.FullNames.{other_text}
@@ -223,7 +223,7 @@ module _ (p : Program) (typed : IsWellTyped p) where
   tops_run (typedef q u x ∷ ts) s sc b t plain f = tops_run ts _ _ (next_at (typedef q u x) ts s sc b (known_top p.main s b.known (typedef q u x) tt f.0) b.outer (λ y m. ((was_missing s x (alias u) refl y m).before, refl))) t.1 plain f.1
   tops_run (header_type q x fs ∷ ts) s sc b t plain f = tops_run ts _ _ (next_at (header_type q x fs) ts s sc b (known_top p.main s b.known (header_type q x fs) tt f.0) b.outer (λ y m. ((was_missing s x (fields (Header _) fs) refl y m).before, refl))) t.1 plain f.1
   tops_run (struct_type q x fs ∷ ts) s sc b t plain f = tops_run ts _ _ (next_at (struct_type q x fs) ts s sc b (known_top p.main s b.known (struct_type q x fs) tt f.0) b.outer (λ y m. ((was_missing s x (fields Struct fs) refl y m).before, refl))) t.1 plain f.1
-  tops_run (register q g ∷ ts) s sc b t plain f = tops_run ts _ _ (next_at (register q g) ts s sc b (known_top p.main s b.known (register q g) tt f.0) b.outer (λ y m. ((was_missing s g.name (scope.register g.ty) refl y m).before, refl))) t.1 plain f.1
+  tops_run (register q g ∷ ts) s sc b t plain f = tops_run ts _ _ (next_at (register q g) ts s sc b (known_top p.main s b.known (register q g) tt f.0) b.outer (λ y m. ((was_missing s g.name (scope.register g.ty) refl y m).before, refl))) t.1 plain.1 f.1
   tops_run (parser q d ∷ ts) s sc b t plain f = tops_run ts _ _ (next_at (parser q d) ts s sc b (known_top p.main s b.known (parser q d) tt f.0) b.outer (λ y m. ((was_missing s d.name part refl y m).before, refl))) t.1 plain f.1
   tops_run (control q c ∷ ts) s sc b t plain f = (
     (λ e. at_control q c ts s sc b (t.0.1 0 1 2) plain.0.0 plain.0.1 f e),

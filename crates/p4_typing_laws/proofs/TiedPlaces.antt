@@ -25,13 +25,13 @@ use Rattle.p4_declaration_rules.specs.Parsers.{with_ways, before_states, parser_
 use Rattle.p4_declaration_rules.specs.Controls.{action_part, local_tests, after_local, locals_tests, control_tests, part_in, top_tests, after_top, tops_tests}
 use Rattle.p4_rules.specs.ProgramRules.{IsWellTyped}
 use Rattle.p4_typing_laws.specs.Soundness.{IsSound}
-use Rattle.p4_typing_laws.specs.Counted.{IsPlain, IsPlainLocal, HavePlainNames}
+use Rattle.p4_typing_laws.specs.Plain.{IsPlain, IsPlainLocal, HavePlainNames}
 use Rattle.p4_typing_laws.specs.Tied.{register_named, RegisterIs, ActionIs, IsTied, LocalsPlaces, ControlPlaces, ParserPlaces, TopsPlaces, EachPlace}
 use Rattle.p4_typing_laws.proofs.Fine.{twice_not, typed_fine}
 use Rattle.p4_typing_laws.proofs.SoundScopes.{params_scalar, part_sound, core_sound}
 use Rattle.p4_typing_laws.proofs.SoundPlaces.{local_sound, ways_sound, top_sound}
 use Rattle.p4_typing_laws.proofs.CallCounts.{text_same}
-use Rattle.p4_typing_laws.proofs.FullNames.{head_same, tail_same, full_apart, other_text, among_head, Knows, known_full, knows_rest, knows_all, named_other, table_other, skip_actions, skip_tables}
+use Rattle.p4_typing_laws.proofs.FullNames.{full_apart, plain_not_full, other_text, among_head, Knows, known_full, knows_rest, knows_all, named_other, table_other, skip_actions, skip_tables}
 use Rattle.p4_typing_laws.proofs.CountedNames.{was_missing}
 use Rattle.p4_typing_laws.proofs.CountedLocals.{own_missing}
 use Rattle.p4_typing_laws.proofs.TiedNames.{tied_moved, type_width, plain_tied, value_tied, writable_no_constant, IsOuter, constant_tied, alias_tied, ways_tied, states_tied, in_action_tied, params_are, core_tied, ends_tied}
@@ -245,12 +245,6 @@ module _ (pt : Parts) (main : List (List ℕ)) where
         finds_here = λ x q m. b.finds_here x q (was_missing s n w some x m).before ∙ registers x;
       }
 
-  no_point : (x : List ℕ) → IsPlain x → (c y : List ℕ) → x ≡ full c y → ⊥
-  no_point [] h c [] e = (let k : (let n : List ℕ = [] in n) ≡ (46 ∷ c) = e in cc)
-  no_point [] h c (b ∷ bs) e = (let k : (let n : List ℕ = [] in n) ≡ (b ∷ (full c bs)) = e in cc)
-  no_point (b ∷ bs) h c [] e = h.0 (head_same b 46 bs c e)
-  no_point (b ∷ bs) h c (d ∷ ds) e = no_point bs h.1 c ds (tail_same b d bs (full c ds) e)
-
   at_top_register : (sc : meaning.Scope) (p : ℕ) (r : Register) (ts : List Top) (s : Scope) → IsAtTop sc (register p r ∷ ts) s → IsPlain r.name → IsFine (top_tests main s (register p r)) → IsAtTop sc ts (after_top s (register p r))
   at_top_register sc p r ts s b plain f =
       record {
@@ -260,7 +254,7 @@ module _ (pt : Parts) (main : List (List ℕ)) where
         owns = b.owns;
         finds_actions = λ c x q m. b.finds_actions c x q (was_missing s r.name (scope.register r.ty) refl c m).before;
         finds_tables = λ c x q m. b.finds_tables c x q (was_missing s r.name (scope.register r.ty) refl c m).before;
-        finds_registers = λ c x q m. b.finds_registers c x q (was_missing s r.name (scope.register r.ty) refl c m).before ∙ register_other _ (cells_under sc r) (full c x) (λ e. no_point r.name plain c x (sym (top_full sc b.owns r.name) ∙ e));
+        finds_registers = λ c x q m. b.finds_registers c x q (was_missing s r.name (scope.register r.ty) refl c m).before ∙ register_other _ (cells_under sc r) (full c x) (λ e. plain_not_full r.name plain c x (sym (top_full sc b.owns r.name) ∙ e));
         finds_here = λ x q m. (let was = was_missing s r.name (scope.register r.ty) refl x m in b.finds_here x q was.before ∙ register_other _ (cells_under sc r) x (λ e. was.apart (sym (top_full sc b.owns r.name) ∙ e)));
       }
     where
@@ -280,7 +274,7 @@ module _ (pt : Parts) (main : List (List ℕ)) where
         finds_actions = λ d x q m. (let was = was_missing s c.name part refl d m in b.finds_actions d x q was.before ∙ skip_actions c.name (full d x) (λ y r e. was.apart (full_apart y x c.name d r q e).1) c.locals (under.in_control 0 1 2 sc c) (knows_all 0 1 2 sc c) plain (actions_of sc ts));
         finds_tables = λ d x q m. (let was = was_missing s c.name part refl d m in b.finds_tables d x q was.before ∙ skip_tables pt.actions c.name (full d x) (λ y r e. was.apart (full_apart y x c.name d r q e).1) c.locals (under.in_control 0 1 2 sc c) (knows_all 0 1 2 sc c) plain (tables_of sc pt.actions ts));
         finds_registers = λ d x q m. (let was = was_missing s c.name part refl d m in b.finds_registers d x q was.before ∙ skip_registers c.name (full d x) (λ y r e. was.apart (full_apart y x c.name d r q e).1) c.locals (under.in_control 0 1 2 sc c) (knows_all 0 1 2 sc c) plain (registers_of sc ts));
-        finds_here = λ x q m. b.finds_here x q (was_missing s c.name part refl x m).before ∙ skip_registers c.name x (λ y r e. no_point x q c.name y (sym e)) c.locals (under.in_control 0 1 2 sc c) (knows_all 0 1 2 sc c) plain (registers_of sc ts);
+        finds_here = λ x q m. b.finds_here x q (was_missing s c.name part refl x m).before ∙ skip_registers c.name x (λ y r e. plain_not_full x q c.name y (sym e)) c.locals (under.in_control 0 1 2 sc c) (knows_all 0 1 2 sc c) plain (registers_of sc ts);
       }
 
   -- inside a control, where the three parameters stand at these places
@@ -320,7 +314,7 @@ module _ (pt : Parts) (main : List (List ℕ)) where
   tops_tied (constant p t x e ∷ ts) s sc b plain f = (
     b.tied,
     tops_tied ts (after_top s (constant p t x e)) (behind_top sc (constant p t x e))
-        (quiet_top sc (behind_top sc (constant p t x e)) (constant p t x e) ts s x (value Constant t) b (constant_tied pt p s sc t x e b.outer b.sound b.tied f.0.1.0) (top_sound main s b.sound (constant p t x e) f.0) (record { inner = b.outer.inner }) b.owns (λ y. refl) (λ y. refl) (λ y. refl) refl) plain f.1,
+        (quiet_top sc (behind_top sc (constant p t x e)) (constant p t x e) ts s x (value Constant t) b (constant_tied pt p s sc t x e b.outer b.sound b.tied f.0.1.0) (top_sound main s b.sound (constant p t x e) f.0) (record { inner = b.outer.inner }) b.owns (λ y. refl) (λ y. refl) (λ y. refl) refl) plain.1 f.1,
   )
   tops_tied (typedef p t x ∷ ts) s sc b plain f = (
     b.tied,
@@ -344,7 +338,7 @@ module _ (pt : Parts) (main : List (List ℕ)) where
         (quiet_top sc sc (parser p d) ts s d.name part b (plain_tied pt s sc d.name part b.tied tt) (top_sound main s b.sound (parser p d) f.0) b.outer b.owns (λ y. refl) (λ y. refl) (λ y. refl) refl) plain f.1,
   )
   tops_tied (control p c ∷ ts) s sc b plain f =
-      ((b.tied, inside_tied (part_in main c.name) sc p c ts s b plain.0 f.0), tops_tied ts (after_top s (control p c)) sc (at_control (part_in main c.name) sc p c ts s b plain.0 f.0) plain.1 f.1)
+      ((b.tied, inside_tied (part_in main c.name) sc p c ts s b plain.0.0 f.0), tops_tied ts (after_top s (control p c)) sc (at_control (part_in main c.name) sc p c ts s b plain.0.0 f.0) plain.1 f.1)
 
 pub each_tied : (p : Program) → IsWellTyped p → HavePlainNames p.tops → EachPlace (IsTied (parts_of p)) p
 each_tied p h plain =

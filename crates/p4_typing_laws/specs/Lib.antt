@@ -5,6 +5,7 @@ pub mod Names
 pub mod Soundness
 pub mod Widths
 pub mod States
+pub mod Plain
 pub mod Counted
 pub mod Tied
 pub mod Stores

@@ -1,12 +1,10 @@
 -- Ingress and egress of a well-typed program, and their actions: at each statement that a run comes to the store fits both
 -- scopes, so that each expression there has its static width. Read `Along` before it.
 use Rattle.std.specs.Prelude.{◌≡◌, ℕ, List, [], ◌∷◌, Some}
-use Rattle.std.specs.List.{AllByRecursion}
 use Rattle.bit_values.specs.Bits.{Word}
 use Rattle.p4_tree.specs.Tree.{Stmt, Local, local_action, local_table, local_register, local_const, local_var, Action, Control, Top, constant, typedef, header_type, struct_type, register, parser, control, Program}
 use Rattle.p4_meaning.specs.Statements.{Run, in_store, no_calls, meaning_of}
 use Rattle.p4_meaning.specs.Scope as meaning
-use Rattle.p4_meaning.specs.Scope.{names_in}
 use Rattle.p4_meaning.specs.Under as under
 use Rattle.p4_meaning.specs.Under.{no_scope, behind_top, behind_local, behind_locals, settings_under}
 use Rattle.p4_meaning.specs.Actions.{in_action, action_under, bound}
@@ -19,30 +17,9 @@ use Rattle.p4_declaration_rules.specs.Declarations.{with_params}
 use Rattle.p4_declaration_rules.specs.Parsers.{with_ways}
 use Rattle.p4_declaration_rules.specs.Controls.{after_local, in_control, part_in, after_top}
 use Rattle.p4_rules.specs.ProgramRules.{IsWellTyped}
-use Rattle.p4_typing_laws.specs.Counted.{IsPlain, HavePlainNames}
+use Rattle.p4_typing_laws.specs.Plain.{HavePlainNames, HavePlainValues}
 use Rattle.p4_typing_laws.specs.Stores.{Fits}
 use Rattle.p4_typing_laws.specs.Along.{Along, RunFits}
-
--- ---- plain names
-
--- the names of constants and variables of a control are plain
-abbrev pub IsPlainValue : Local → Type 0
-IsPlainValue (local_action p a) = Unit {0}
-IsPlainValue (local_table p t) = Unit {0}
-IsPlainValue (local_register p r) = Unit {0}
-IsPlainValue (local_const p t x e) = IsPlain x
-IsPlainValue (local_var p t x e) = IsPlain x
-
--- and so are those of the program's constants, and of the variables of blocks
-abbrev pub HavePlainValues : List Top → Type 0
-HavePlainValues [] = Unit {0}
-HavePlainValues (constant p t x e ∷ ts) = IsPlain x × HavePlainValues ts
-HavePlainValues (typedef p t x ∷ ts) = HavePlainValues ts
-HavePlainValues (header_type p x fs ∷ ts) = HavePlainValues ts
-HavePlainValues (struct_type p x fs ∷ ts) = HavePlainValues ts
-HavePlainValues (register p r ∷ ts) = HavePlainValues ts
-HavePlainValues (parser p d ∷ ts) = HavePlainValues ts
-HavePlainValues (control p c ∷ ts) = (AllByRecursion IsPlainValue c.locals × AllByRecursion IsPlain (names_in c.apply)) × HavePlainValues ts
 
 -- ---- runs
 

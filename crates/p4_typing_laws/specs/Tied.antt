@@ -31,7 +31,7 @@ use Rattle.p4_declaration_rules.specs.Parsers.{with_ways, in_states}
 use Rattle.p4_declaration_rules.specs.Controls.{after_local, after_top}
 use Rattle.p4_rules.specs.ProgramRules.{IsWellTyped}
 use Rattle.p4_typing_laws.specs.Soundness.{kind_width}
-use Rattle.p4_typing_laws.specs.Counted.{HavePlainNames}
+use Rattle.p4_typing_laws.specs.Plain.{HavePlainNames}
 
 -- ---- what a name has in the meaning
 

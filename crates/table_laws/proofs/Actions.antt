@@ -23,7 +23,7 @@ use Rattle.p4_declaration_rules.specs.Tables.{listed_tests, default_tests}
 use Rattle.p4_declaration_rules.specs.Parsers.{way_access, with_ways, ways_tests}
 use Rattle.p4_declaration_rules.specs.Controls.{after_local, locals_tests, part_in, after_top, tops_tests}
 use Rattle.p4_rules.specs.ProgramRules.{IsWellTyped}
-use Rattle.p4_typing_laws.specs.Counted.{HavePlainNames}
+use Rattle.p4_typing_laws.specs.Plain.{HavePlainNames}
 use Rattle.p4_typing_laws.specs.Tied.{HasIt, ActionIs, IsTied, LocalsPlaces, TopsPlaces}
 use Rattle.p4_typing_laws.proofs.Fine.{twice_not, typed_fine}
 use Rattle.p4_typing_laws.proofs.CallCounts.{text_is}

@@ -19,7 +19,7 @@ use Rattle.p4_tables.specs.Named.{action_name, named_act, tables_in, table_place
 use Rattle.p4_tables.specs.Programs.{action_place, action_shape, IsStateOf}
 use Rattle.p4_tables.specs.Carried.{same_number, renumbered, action_renumbered}
 use Rattle.p4_rules.specs.ProgramRules.{IsWellTyped}
-use Rattle.p4_typing_laws.specs.Counted.{HavePlainNames}
+use Rattle.p4_typing_laws.specs.Plain.{HavePlainNames}
 
 -- ---- actions of lists
 
