@@ -127,7 +127,7 @@ heavy =
 -- ---- none, and one
 
 -- the telemetry has 8 + 8 + 255 + 8 bits
-pub none_is_given : link_fault (program []) (light (bits 16 (codes "hdr" ∷ codes "eth" ∷ codes "kind" ∷ []) ∷ header (indus.one ty.Bool) true (codes "hdr" ∷ codes "eth" ∷ codes "isValid" ∷ []) ∷ bits 8 (codes "meta" ∷ codes "m" ∷ []) ∷ bits 9 (codes "standard_metadata" ∷ codes "ingress_port" ∷ []) ∷ [])) 35 ≡ None
+none_is_given : link_fault (program []) (light (bits 16 (codes "hdr" ∷ codes "eth" ∷ codes "kind" ∷ []) ∷ header (indus.one ty.Bool) true (codes "hdr" ∷ codes "eth" ∷ codes "isValid" ∷ []) ∷ bits 8 (codes "meta" ∷ codes "m" ∷ []) ∷ bits 9 (codes "standard_metadata" ∷ codes "ingress_port" ∷ []) ∷ [])) 35 ≡ None
 unfolding declare core
 none_is_given = refl
 

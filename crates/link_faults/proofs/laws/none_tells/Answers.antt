@@ -1,4 +1,3 @@
-use Rattle.link_faults.proofs.Rows.{none_is_given}
 use Rattle.link_faults.proofs.Taken.{none_tells}
 use Rattle.link_faults.proofs.laws.none_tells.Goals as goal
 
