@@ -9,9 +9,9 @@ use Rattle.p4_rule_laws.proofs.WiderLemmas.{old_is_other}
 use Rattle.own_programs.specs.OwnPrograms.{is_own}
 use Rattle.monitor_laws.specs.Names.{first_name, last_name, rejected_name}
 use Rattle.monitor_laws.specs.Monitor.{Monitor}
-use Rattle.linked_programs.specs.Gives.{GivesMonitor}
+use Rattle.linked_programs.specs.Gives.{AreOwnRoots, GivesMonitor}
 use Rattle.linked_programs.specs.Spells.{SpellsLowered}
-use Rattle.linked_programs.specs.Bare.{flag_local, bare, bare_monitor, no_halves, AreOwnRoots, PromisesCanBeKept}
+use Rattle.linked_programs.specs.Bare.{flag_local, bare, bare_monitor, no_halves, PromisesCanBeKept}
 
 module _ {T Z C : Type 0} (m : Monitor T Z C) (ingress egress : List ℕ) (r q : Roots) (own : AreOwnRoots q) where
   -- a name of the monitor's is none of the parameters
