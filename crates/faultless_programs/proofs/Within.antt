@@ -1,10 +1,8 @@
 -- Room and weight keep linked programs within the limits of a switch.
-use Rattle.std.proofs.Common.{◌≡◌, ℕ, ◌≤◌, ◌/◌, ◌+◌, min, List, [], ◌∷◌, ◌++◌, arith, refl, sym, ap, ◌∙◌, subst}
-use Rattle.indus_tree.specs.Tree.{Property}
+use Rattle.std.proofs.Common.{◌≡◌, ℕ, ◌≤◌, ◌/◌, ◌+◌, [], ◌∷◌, ◌++◌, arith, sym, subst}
 use Rattle.indus_types.specs.Sums.{property_bits, property_weight}
 use Rattle.tele_layout.specs.Telemetry.{whole_bytes}
 use Rattle.p4_parser_states.specs.Laws.{ReachesIsExact}
-use Rattle.p4_tree.specs.Tree.{Program}
 use Rattle.p4_rules.specs.Limits.{header_bytes, most_of_program, add_cells, tops_cells, cells}
 use Rattle.p4_rules.specs.ProgramRules.{program_scope}
 use Rattle.p4_rule_laws.proofs.LimitsGrow.{cells_add}
@@ -12,7 +10,7 @@ use Rattle.exit_rules.proofs.WellTyped.{bytes_same, cells_same, digests_same}
 use Rattle.linked_programs.specs.Lowered.{Lowered}
 use Rattle.linked_programs.specs.Linked.{front, switch_top}
 use Rattle.linked_rules.proofs.LinkedFine.{linked_within}
-use Rattle.faultless_programs.specs.Within.{LeavesRoom, RoomStays, IsCounted, IsWithin, RoomSuffices, LinkedInRoom}
+use Rattle.faultless_programs.specs.Within.{RoomStays, RoomSuffices, LinkedInRoom}
 
 pub room_stays : RoomStays
 room_stays p well given room =

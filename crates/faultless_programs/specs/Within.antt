@@ -1,6 +1,6 @@
 -- Room and weight keep linked programs within the limits of a switch. Read `Limits` of `p4_rules`, `Digests` of
 -- `linked_rules` and `Sums` of `indus_types` before it.
-use Rattle.std.specs.Prelude.{◌≡◌, ℕ, ◌<◌, ◌≤◌, ◌^◌, ◌/◌, ◌+◌, List}
+use Rattle.std.specs.Prelude.{ℕ, ◌<◌, ◌≤◌, ◌^◌, ◌/◌, ◌+◌, List}
 use Rattle.std.specs.List.{AllByRecursion}
 use Rattle.indus_tree.specs.Tree.{Property}
 use Rattle.indus_types.specs.Sums.{property_bits, property_weight}
