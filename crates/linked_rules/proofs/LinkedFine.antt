@@ -12,7 +12,7 @@ use Rattle.p4_meaning.specs.Under.{no_scope}
 use Rattle.p4_scopes.specs.Scopes.{add_up, Stands, typed, as_typed, typed_thing, is_missing, Scope, core}
 use Rattle.p4_scopes.specs.Uses.{header_bits, is_header, is_scalar}
 use Rattle.p4_scopes.specs.declared.thing.Thing.TheVariants.{Header, Struct}
-use Rattle.p4_declaration_rules.specs.Controls.{tops_tests, after_tops, most_of_tops}
+use Rattle.p4_declaration_rules.specs.Controls.{tops_tests, most_of_tops}
 use Rattle.p4_rules.specs.Mains.{all_fields}
 use Rattle.p4_rules.specs.Limits.{most_of_program, fields_bytes, header_bytes, add_cells, local_cells, locals_cells, top_cells, tops_cells, limit_tests}
 use Rattle.p4_rules.specs.ProgramRules.{program_scope, IsWellTyped}
