@@ -263,13 +263,13 @@ named_type type.Bool x h = broken (sym h)
 named_type (type.Named y) x h = ap type.Named (text_is y x h)
 
 module _ (r : Structs) where
-  core_wanted : (w : Way) (x : List ℕ) (q : Param) → not (is_wanted r (core_type w x) q) ≡ false → q.ty ≡ type.Named x
+  pub core_wanted : (w : Way) (x : List ℕ) (q : Param) → not (is_wanted r (core_type w x) q) ≡ false → q.ty ≡ type.Named x
   core_wanted w x q k = named_type q.ty x (both_hold (same_way w q.way) (is_named q.ty x) (twice_not _ k)).1
 
-  of_headers : (w : Way) (q : Param) → not (is_wanted r (headers_wanted w) q) ≡ false → q.ty ≡ type.Named r.headers_type
+  pub of_headers : (w : Way) (q : Param) → not (is_wanted r (headers_wanted w) q) ≡ false → q.ty ≡ type.Named r.headers_type
   of_headers w q k = named_type q.ty r.headers_type (both_hold (is_named q.ty r.headers_type) r.has_headers (both_hold (same_way w q.way) (is_named q.ty r.headers_type && r.has_headers) (twice_not _ k)).1).0
 
-  of_metadata : (w : Way) (q : Param) → not (is_wanted r (metadata_wanted w) q) ≡ false → q.ty ≡ type.Named r.metadata_type
+  pub of_metadata : (w : Way) (q : Param) → not (is_wanted r (metadata_wanted w) q) ≡ false → q.ty ≡ type.Named r.metadata_type
   of_metadata w q k = named_type q.ty r.metadata_type (both_hold (is_named q.ty r.metadata_type) r.has_metadata (both_hold (same_way w q.way) (is_named q.ty r.metadata_type && r.has_metadata) (twice_not _ k)).1).0
 
   -- one parameter of a known type

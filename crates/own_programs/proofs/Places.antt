@@ -66,7 +66,7 @@ pub unheld_header : (st : Stands) → is_held st ≡ false → is_held_header st
 unheld_header (held a t) h = broken h
 unheld_header _ h = refl
 
-read_held : (st : Stands) → is_missing st ≡ false → reads st ≡ true → is_held st ≡ true
+pub read_held : (st : Stands) → is_missing st ≡ false → reads st ≡ true → is_held st ≡ true
 read_held missing h r = broken h
 read_held (held a t) h r = refl
 read_held _ h r = r
@@ -135,7 +135,7 @@ place_declared s sc sd n w b names new one =
 
 -- ---- single values, actions, tables and registers
 
-single_value : (p : ℕ) (s : Scope) (a : Access) (t : PTy) → IsFlat s → IsFine (scalar_tests p s t) → IsSingle s (value a t)
+pub single_value : (p : ℕ) (s : Scope) (a : Access) (t : PTy) → IsFlat s → IsFine (scalar_tests p s t) → IsSingle s (value a t)
 single_value p s a t flat f = record { no_header = scalar_header (thing_in s t) (twice_not _ f.1); alone = λ x xs. missing_unheld _ (flat_type a s flat p t f x xs); flat = λ e. broken (sym e) }
 
 pub place_value : (p : ℕ) (s : Scope) (sc : meaning.Scope) (n : List ℕ) (a : Access) (t : PTy) → IsPlace s sc → not (is_missing (s (n ∷ []))) ≡ false → IsFine (scalar_tests p s t) → IsPlace (declare s n (value a t)) sc
@@ -157,7 +157,7 @@ pub place_locals : (h : Part) (ls : List Local) (s : Scope) (sc : meaning.Scope)
 place_locals h [] s sc b f = b
 place_locals h (l ∷ ls) s sc b f = place_locals h ls (after_local s l) (behind_local sc l) (place_local h s sc l b f.0) f.1
 
-place_params : (p : ℕ) (qs : List (PTy × List ℕ)) (s : Scope) (sc : meaning.Scope) → IsPlace s sc → IsFine (params_tests p s qs) → IsPlace (with_params s qs) sc
+pub place_params : (p : ℕ) (qs : List (PTy × List ℕ)) (s : Scope) (sc : meaning.Scope) → IsPlace s sc → IsFine (params_tests p s qs) → IsPlace (with_params s qs) sc
 place_params p [] s sc b f = b
 place_params p (q ∷ qs) s sc b f = place_params p qs (declare s q.1 (value Fixed q.0)) sc (place_value p s sc q.1 Fixed q.0 b f.0.0 f.0.1) f.1
 
@@ -167,16 +167,16 @@ module _ (h : Part) (s : Scope) (sc : meaning.Scope) (a : tree.Action) (outer : 
   abbrev inner_names : List (List ℕ)
   inner_names = params_in a.params ++ names_in a.body
 
-  unheld_inner : (x : List ℕ) (xs : List (List ℕ)) → is_among inner_names x ≡ true → is_held (s (x ∷ xs)) ≡ true → ⊥
+  pub unheld_inner : (x : List ℕ) (xs : List (List ℕ)) → is_among inner_names x ≡ true → is_held (s (x ∷ xs)) ≡ true → ⊥
   unheld_inner x xs i k = broken (sym k ∙ missing_unheld (s (x ∷ xs)) (b.rooted.behind x xs (inner_missing h s a f x i)))
 
-  outer_first : (x : List ℕ) → is_among inner_names x ≡ false → first_name (in_action sc a) x ≡ first_name sc x
+  pub outer_first : (x : List ℕ) → is_among inner_names x ≡ false → first_name (in_action sc a) x ≡ first_name sc x
   outer_first x i =
       ap (λ (c : Bool). cond c (inner_name (in_action sc a).inner sc.control x) (root_of sc.roots x)) i
       ∙ sym (ap (λ (o : Option Inner). cond (is_inner o x) (inner_name o sc.control x) (root_of sc.roots x)) outer)
 
   -- of what is held, each name stands for what it stands for outside
-  outside : (x : List ℕ) (xs : List (List ℕ)) → is_held (s (x ∷ xs)) ≡ true → first_name (in_action sc a) x ≡ first_name sc x
+  pub outside : (x : List ℕ) (xs : List (List ℕ)) → is_held (s (x ∷ xs)) ≡ true → first_name (in_action sc a) x ≡ first_name sc x
   outside x xs k = go (is_among inner_names x) refl
     where
       go : (c : Bool) → is_among inner_names x ≡ c → first_name (in_action sc a) x ≡ first_name sc x
@@ -189,7 +189,7 @@ module _ (h : Part) (s : Scope) (sc : meaning.Scope) (a : tree.Action) (outer : 
   inner_headers (x ∷ y ∷ []) k = outside x (y ∷ []) (header_held _ k) ∙ b.headers (x ∷ y ∷ []) k
   inner_headers (x ∷ y ∷ z ∷ rest) k = b.headers (x ∷ y ∷ z ∷ rest) k
 
-  place_inner : IsPlace s (in_action sc a)
+  pub place_inner : IsPlace s (in_action sc a)
   place_inner = record { rooted = b.rooted; keeps = b.keeps; flat = b.flat; headers = inner_headers; standard = λ x y rest k e. b.standard x y rest k (sym (outside x (y ∷ rest) k) ∙ e) }
 
   pub place_action : IsPlace (with_params s a.params) (in_action sc a)

@@ -81,7 +81,7 @@ none_is_no_action (parser p d ∷ ts) sc = none_is_no_action ts sc
 -- ---- a control of each part
 
 -- a control that has its one call alone declares nothing
-no_locals : (h : Part) → has_calls_alone h ≡ true → (ls : List Local) (s : Scope) → IsFine (locals_tests h s ls) → ls ≡ []
+pub no_locals : (h : Part) → has_calls_alone h ≡ true → (ls : List Local) (s : Scope) → IsFine (locals_tests h s ls) → ls ≡ []
 no_locals h alone [] s f = refl
 no_locals h alone (l ∷ ls) s f = broken (sym alone ∙ f.0.0)
 
@@ -97,10 +97,10 @@ module _ (p : Program) (well : IsWellTyped p) where
   abbrev R : Structs
   R = structs_of S p
 
-  headers_struct : is_struct (thing_in S (type.Named R.headers_type)) ≡ true
+  pub headers_struct : is_struct (thing_in S (type.Named R.headers_type)) ≡ true
   headers_struct = struct_if is_header S p.tops R.headers_type (parts_in_role.headers p well)
 
-  metadata_struct : is_struct (thing_in S (type.Named R.metadata_type)) ≡ true
+  pub metadata_struct : is_struct (thing_in S (type.Named R.metadata_type)) ≡ true
   metadata_struct = struct_if is_scalar S p.tops R.metadata_type (parts_in_role.metadata p well)
 
   -- what is known in front of declarations at top level
@@ -112,10 +112,10 @@ module _ (p : Program) (well : IsWellTyped p) where
     -- where the struct of metadata is not declared yet, its fields are single values behind all declarations
     pub fields : is_missing (s (R.metadata_type ∷ [])) ≡ true → all_fields is_scalar S (struct_fields ts R.metadata_type) ≡ true
 
-  goes_on : (ts : List Top) (s : Scope) (sc : meaning.Scope) → IsAt ts s sc → IsFine (tops_tests p.main s ts) → GoesOn s S
+  pub goes_on : (ts : List Top) (s : Scope) (sc : meaning.Scope) → IsAt ts s sc → IsFine (tops_tests p.main s ts) → GoesOn s S
   goes_on ts s sc b f = record { stays = λ x h. ap (λ (g : Scope). g (x ∷ [])) (sym b.all) ∙ stays p.main ts s f x h }
 
-  next_at : (t : Top) (ts : List Top) (s : Scope) (sc : meaning.Scope) → IsAt (t ∷ ts) s sc → IsFine (tops_tests p.main s (t ∷ ts)) → IsAt ts (after_top s t) (behind_top sc t)
+  pub next_at : (t : Top) (ts : List Top) (s : Scope) (sc : meaning.Scope) → IsAt (t ∷ ts) s sc → IsFine (tops_tests p.main s (t ∷ ts)) → IsAt ts (after_top s t) (behind_top sc t)
   next_at t ts s sc b f =
       record {
         types = types_top R.metadata_type s b.types S (goes_on (t ∷ ts) s sc b f) p.main t ts f.0 b.fields;
@@ -154,16 +154,16 @@ module _ (p : Program) (well : IsWellTyped p) where
   -- ---- at a control
 
   module _ (q : ℕ) (c : Control) (ts : List Top) (s : Scope) (sc : meaning.Scope) (b : IsAt (control q c ∷ ts) s sc) (f : IsFine (tops_tests p.main s (control q c ∷ ts))) (h : Part) (is : part_in p.main c.name ≡ h) where
-    fine : IsFine (control_tests h s c)
+    pub fine : IsFine (control_tests h s c)
     fine = subst (λ (g : Part). IsFine (control_tests g s c)) is f.0
 
-    wanted : IsFine (wanted_tests p.at R (wants_of h) c.params)
+    pub wanted : IsFine (wanted_tests p.at R (wants_of h) c.params)
     wanted = subst (λ (g : Part). IsFine (wanted_tests p.at R (wants_of g) c.params)) is (parts_in_role.control_params p well q c (b.within (control q c) (inl refl)))
 
-    before : (n m : List ℕ) → Holds R.headers_type R.metadata_type n m s
+    pub before : (n m : List ℕ) → Holds R.headers_type R.metadata_type n m s
     before n m = holds_before R.headers_type R.metadata_type n m s S b.types (goes_on (control q c ∷ ts) s sc b f) headers_struct metadata_struct
 
-    ways : IsFine (ways_tests s c.params)
+    pub ways : IsFine (ways_tests s c.params)
     ways = fine.1.0
 
   -- what is known of it: its names are own, nothing leaves it, and it tells no reports
@@ -181,13 +181,13 @@ module _ (p : Program) (well : IsWellTyped p) where
       record { old = o; locals_stay = l1.0; body_stays = l1.1; locals_quiet = t1.0; body_quiet = t1.1 })
 
   module _ (q : ℕ) (c : Control) (ts : List Top) (s : Scope) (sc : meaning.Scope) (b : IsAt (control q c ∷ ts) s sc) (f : IsFine (tops_tests p.main s (control q c ∷ ts))) where
-    apply_place : part_in p.main c.name ≡ place.Apply → IsPlace (with_ways s c.params) (under.in_control 0 1 2 sc c)
+    pub apply_place : part_in p.main c.name ≡ place.Apply → IsPlace (with_ways s c.params) (under.in_control 0 1 2 sc c)
     apply_place is = apply_holds R p.at s (before q c ts s sc b f place.Apply is) (under.in_control 0 1 2 sc c) b.outer c.params refl (wanted q c ts s sc b f place.Apply is) (ways q c ts s sc b f place.Apply is)
 
-    sums_place : (h : Part) → part_in p.main c.name ≡ h → wants_of h ≡ checksum_wants → IsPlace (with_ways s c.params) (under.in_control 0 1 9 sc c)
+    pub sums_place : (h : Part) → part_in p.main c.name ≡ h → wants_of h ≡ checksum_wants → IsPlace (with_ways s c.params) (under.in_control 0 1 9 sc c)
     sums_place h is w = checksum_holds R p.at s (before q c ts s sc b f h is) (under.in_control 0 1 9 sc c) b.outer c.params refl (subst (λ (ws : List Wanted). IsFine (wanted_tests p.at R ws c.params)) w (wanted q c ts s sc b f h is)) (ways q c ts s sc b f h is)
 
-    deparser_place : part_in p.main c.name ≡ place.Deparser → IsPlace (with_ways s c.params) (under.in_control 1 9 9 sc c)
+    pub deparser_place : part_in p.main c.name ≡ place.Deparser → IsPlace (with_ways s c.params) (under.in_control 1 9 9 sc c)
     deparser_place is = deparser_holds R p.at s (before q c ts s sc b f place.Deparser is) (under.in_control 1 9 9 sc c) b.outer c.params refl (wanted q c ts s sc b f place.Deparser is) (ways q c ts s sc b f place.Deparser is)
 
     module _ (k : Stands c) where

@@ -1,0 +1,9 @@
+pub mod RewrittenUnder
+pub mod WiderScopes
+pub mod LinkedTops
+pub mod LinkerCode
+pub mod LinkedControls
+pub mod Joined
+pub mod PartsLinked
+pub mod Spelled
+pub mod Bare
