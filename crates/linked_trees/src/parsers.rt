@@ -3,10 +3,10 @@
 
 ghost use Rattle.std.specs.Prelude.{◌≡◌, ◌∷◌, [], IfOk, codes, map};
 ghost use Rattle.p4_tree.specs.Tree as p4;
-ghost use Rattle.p4_tree.specs.View.{case_of, keyset_of, parser_of, state_of, stmt_of, transition_of};
+ghost use Rattle.p4_tree.specs.View.{case_of, expr_of, keyset_of, parser_of, state_of, stmt_of, transition_of};
 ghost use Rattle.p4_meaning.specs.Scope.{param_at, param_name};
 ghost use Rattle.p4_resolved.specs.Scopes.{roots_in};
-ghost use Rattle.linked_halves.specs.ParserStates.{own_name, renamed_case, renamed_transition};
+ghost use Rattle.linked_halves.specs.ParserStates.{link_cases, own_name, renamed_case, renamed_transition};
 ghost use Rattle.linked_programs.specs.Rewritten.{case_with, keyset_with, length_at, parse_with, transition_with};
 ghost use Rattle.linked_programs.specs.Linked.{first_state, linked_parser, own_state, packet_name, standard_at, taken_state};
 
