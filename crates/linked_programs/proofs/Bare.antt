@@ -1,5 +1,5 @@
 -- The promises can be kept: nearly all of a bare lowering is the monitor's by computation.
-use Rattle.std.proofs.Common.{◌≡◌, inl, ℕ, List, [], false, cond, Option, None, arith, refl, ap₂, ◌∙◌}
+use Rattle.std.proofs.Common.{◌≡◌, inl, ℕ, List, false, cond, Option, None, arith, refl, ap₂, ◌∙◌}
 use Rattle.p4_tree.specs.Tree.{var, done, next}
 use Rattle.p4_tree.specs.declared.statement.PTy.TheVariants as type
 use Rattle.p4_meaning.specs.Standard.{headers_root, metadata_root, standard_root}

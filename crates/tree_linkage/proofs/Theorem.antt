@@ -63,12 +63,12 @@ module _ {T Z C : Type 0} (m : Monitor T Z C) (Fit : T → Type 0) (Keeps : Z �
     host : IsLinkedHost m p net (λ s. declared m h (packet_name k.parser) (program_without p)) FitView
     host = record { program = can.program; fields = linked.host.fields; views = linked.host.views; network = wired; joins = linked.host.joins }
 
-    are : AreLinkedPrograms m p net (λ s. declared m h (packet_name k.parser) (program_without p)) (linked_trees l m h p k net)
+    are : AreLinkedPrograms m p net (λ s. declared m h (packet_name k.parser) (program_without p)) (linked_trees l m p net)
     are = record { parts = λ s known. linked.programs s }
 
     pub are_linked : AreLinkedTrees l m h p k net IsVariable IsFitContents
     are_linked =
         record {
-          linkage = of_given m Fit Keeps FitView IsVariable IsFitContents laws p net (λ s. declared m h (packet_name k.parser) (program_without p)) host (linked_trees l m h p k net) are;
+          linkage = of_given m Fit Keeps FitView IsVariable IsFitContents laws p net (λ s. declared m h (packet_name k.parser) (program_without p)) host (linked_trees l m p net) are;
           spelled = λ spells room s small. linked_is_spelled l _ s (ports_at net.links s) (program_without p) (is_given_without_exits p can) spells room small (low_ports net net.links s wired);
         }

@@ -32,6 +32,10 @@ pub record CanLink (p : Program) : Type 0 where
 abbrev pub IsGivenWithoutExits : Type 0
 IsGivenWithoutExits = (p : Program) → CanLink p → IsGiven (program_without p)
 
+-- the linked program of each switch of a network
+abbrev pub linked_trees : {T Z C : Type 0} → Lowered → Monitor T Z C → Program → Wiring → (switch : ℕ) → Program
+linked_trees l m p net s = linked l (suc m.room) s (ports_at net.links s) (program_without p)
+
 module _ {T Z C : Type 0} (l : Lowered) (m : Monitor T Z C) (h : Halves) (p : Program) (k : Linkable (program_without p)) (net : Wiring) where
   -- what is asked of a lowering: in the program's ingress and egress its trees are the monitor's parts, and where the
   -- program's fields hold words of their widths, header variables read what fits them
@@ -39,12 +43,8 @@ module _ {T Z C : Type 0} (l : Lowered) (m : Monitor T Z C) (h : Halves) (p : Pr
     pub gives : GivesMonitor l m h k.ingress.name k.egress.name (control_roots k.ingress) (control_roots k.egress)
     pub views : (s : Store) → HasWidths (parts_of (program_without p)) s → FitView (view_of m.views s)
 
-  -- the linked program of each switch
-  abbrev pub linked_trees : (switch : ℕ) → Program
-  linked_trees s = linked l (suc m.room) s (ports_at net.links s) (program_without p)
-
   pub record AreLinkedTrees (IsVariable : ℕ → Type 0) (IsFitContents : (variable : ℕ) → C → Type 0) : Type 0 where
     -- they are a linkage of the given program and the property
-    pub linkage : IsLinkageOfGiven m p net (λ s. declared m h (packet_name k.parser) (program_without p)) linked_trees IsVariable IsFitContents
+    pub linkage : IsLinkageOfGiven m p net (λ s. declared m h (packet_name k.parser) (program_without p)) (linked_trees l m p net) IsVariable IsFitContents
     -- and are texts, where the lowering's trees are
-    pub spelled : SpellsLowered l → suc m.room < 2 ^ 128 → (s : ℕ) → s < 2 ^ 128 → CanSpell (linked_trees s)
+    pub spelled : SpellsLowered l → suc m.room < 2 ^ 128 → (s : ℕ) → s < 2 ^ 128 → CanSpell (linked_trees l m p net s)

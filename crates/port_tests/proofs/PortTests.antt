@@ -9,7 +9,7 @@ use Rattle.p4_tree.specs.declared.statement.Expr as code
 use Rattle.p4_tree.specs.declared.statement.Op.TheVariants.{Either}
 use Rattle.p4_tree.specs.Height.{highest, expr_height}
 use Rattle.linked_halves.specs.Statements.{port_test, joined_pairs, joined, any_of}
-use Rattle.wire_linker.specs.Laws.{TestsAreLow}
+use Rattle.port_tests.specs.Laws.{TestsAreLow}
 
 -- the last test, joined to what stands behind it
 pub any_of-last : (xs : List code.Expr) (x : code.Expr) (e : Expr) → any_of (map expr_of xs ++ binary 0 Either (expr_of x) e ∷ []) ≡ any_of (map expr_of (xs ++ x ∷ []) ++ e ∷ [])

@@ -4,8 +4,8 @@ use Rattle.p4_tree.specs.Tree.{Expr}
 use Rattle.p4_tree.specs.View.{expr_of}
 use Rattle.p4_tree.specs.declared.statement.Expr as code
 use Rattle.linked_halves.specs.Statements.{any_of}
-use Rattle.wire_linker.proofs.PortTests.{any_of-last}
-use Rattle.wire_linker.proofs.ports.any_of.Goals as goal
+use Rattle.port_tests.proofs.PortTests.{any_of-last}
+use Rattle.port_tests.proofs.ports.any_of.Goals as goal
 
 pub loop-one-preserved : goal.loop-one-preserved
 loop-one-preserved c =

@@ -1,7 +1,7 @@
 use Rattle.std.proofs.Common.{◌≡◌, ◌++◌, [], ◌∷◌, length, map}
 use Rattle.p4_tree.specs.View.{expr_of}
 use Rattle.linked_halves.specs.Statements.{any_of}
-use Rattle.wire_linker.proofs.ports.any_of.Given as goal
+use Rattle.port_tests.proofs.ports.any_of.Given as goal
 
 abbrev pub decreases-loop-one : goal.decreases-loop-one
 decreases-loop-one l = length l.tests.items

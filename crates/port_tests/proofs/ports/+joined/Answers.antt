@@ -2,8 +2,8 @@
 use Rattle.std.proofs.Common.{◌≡◌, IfOk, List, map, subst, arith}
 use Rattle.p4_tree.specs.Tree.{Expr}
 use Rattle.p4_tree.specs.View.{expr_of}
-use Rattle.wire_linker.proofs.PortTests.{joined-less}
-use Rattle.wire_linker.proofs.ports.+joined.Goals as goal
+use Rattle.port_tests.proofs.PortTests.{joined-less}
+use Rattle.port_tests.proofs.ports.+joined.Goals as goal
 
 pub returns : goal.returns
 returns t c =

@@ -1,46 +1,51 @@
 //! Tests of ports. All places are 0.
 
-ghost use Rattle.std.specs.Prelude.{◌≡◌, ◌∷◌, IfOk, codes, map, []};
+ghost use Rattle.std.specs.Prelude.{◌≡◌, ◌∷◌, IfOk, map, []};
 ghost use Rattle.p4_tree.specs.View.{expr_of};
 ghost use Rattle.linked_halves.specs.Statements as around;
 
 use p4_tree::{Expr, Op};
+use small_trees::{at_path, binary, negated, number, two_names};
 use std::alloc::{AllocError, Global};
-use wire_program::trees::{at_path, binary, negated, number, two_names};
 
-/// Whether a field of the standard metadata holds none of some ports.
-pub fn none_of(alloc: Global, field: &str, ports: &[u16]) -> Result<Expr, AllocError>
-    ensures { IfOk result (λ e. expr_of e ≡ around.none_of (codes "standard_metadata" ∷ field.now ∷ []) ports.now) }
+/// Whether a field holds none of some ports.
+pub fn none_of(alloc: Global, root: &str, field: &str, ports: &[u16]) -> Result<Expr, AllocError>
+    ensures { IfOk result (λ e. expr_of e ≡ around.none_of (root.now ∷ field.now ∷ []) ports.now) }
 {
-    let here = is_port_of(alloc, field, ports)?;
+    let here = is_port_of(alloc, root, field, ports)?;
     negated(alloc, here)
 }
 
 /// Whether the field holds one of the ports: 511 tests are one when they are joined nine times.
-fn is_port_of(alloc: Global, field: &str, ports: &[u16]) -> Result<Expr, AllocError>
-    ensures { IfOk result (λ e. expr_of e ≡ around.is_port_of (codes "standard_metadata" ∷ field.now ∷ []) ports.now) }
+fn is_port_of(alloc: Global, root: &str, field: &str, ports: &[u16]) -> Result<Expr, AllocError>
+    ensures { IfOk result (λ e. expr_of e ≡ around.is_port_of (root.now ∷ field.now ∷ []) ports.now) }
 {
-    let tests = port_tests(alloc, field, ports)?;
+    let tests = port_tests(alloc, root, field, ports)?;
     let tests = joined(alloc, 9, tests)?;
     any_of(alloc, tests)
 }
 
 /// A test for each port.
-fn port_tests(alloc: Global, field: &str, ports: &[u16]) -> Result<Vec<Expr>, AllocError>
-    ensures { IfOk result (λ v. map expr_of v.items ≡ map (around.port_test (codes "standard_metadata" ∷ field.now ∷ [])) ports.now) }
+fn port_tests(
+    alloc: Global,
+    root: &str,
+    field: &str,
+    ports: &[u16],
+) -> Result<Vec<Expr>, AllocError>
+    ensures { IfOk result (λ v. map expr_of v.items ≡ map (around.port_test (root.now ∷ field.now ∷ [])) ports.now) }
 {
     let mut tests = Vec::new(alloc);
     for port in ports {
-        tests.push(port_test(alloc, field, *port)?)?;
+        tests.push(port_test(alloc, root, field, *port)?)?;
     }
     Ok(tests)
 }
 
 /// Whether the field holds a port.
-fn port_test(alloc: Global, field: &str, port: u16) -> Result<Expr, AllocError>
-    ensures { IfOk result (λ e. expr_of e ≡ around.port_test (codes "standard_metadata" ∷ field.now ∷ []) port) }
+fn port_test(alloc: Global, root: &str, field: &str, port: u16) -> Result<Expr, AllocError>
+    ensures { IfOk result (λ e. expr_of e ≡ around.port_test (root.now ∷ field.now ∷ []) port) }
 {
-    let path = two_names(alloc, "standard_metadata", field)?;
+    let path = two_names(alloc, root, field)?;
     binary(alloc, Op::Equal, at_path(path), number(0, u128::from(port)))
 }
 

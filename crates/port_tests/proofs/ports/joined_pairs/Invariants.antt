@@ -1,7 +1,7 @@
 use Rattle.std.proofs.Common.{◌≡◌, ◌++◌, length, map}
 use Rattle.p4_tree.specs.View.{expr_of}
 use Rattle.linked_halves.specs.Statements.{joined_pairs}
-use Rattle.wire_linker.proofs.ports.joined_pairs.Given as goal
+use Rattle.port_tests.proofs.ports.joined_pairs.Given as goal
 
 abbrev pub decreases-loop-one : goal.decreases-loop-one
 decreases-loop-one l = length l.rest.rest.items
