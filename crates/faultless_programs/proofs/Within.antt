@@ -28,7 +28,7 @@ front_cells l s = at (tops_cells (l.tops ++ switch_top s ∷ [])) (tops_cells l.
     at a b e = omega (arith, e)
 
 pub room_suffices : RoomSuffices
-room_suffices l bits e x s p property room leaves counted small fits light =
+room_suffices l bits e x s p leaves property room counted small fits light =
     record {
       bytes = sum (bits / 8) (whole_bytes (property_bits property)) (header_bytes (program_scope p) p) room counted.bytes fits small leaves.bytes;
       digests = few (e + x) (property_weight property) (most_of_program p) counted.digests light leaves.digests;
@@ -45,6 +45,6 @@ room_suffices l bits e x s p property room leaves counted small fits light =
     many a b c d h i j k = omega (arith, h, i, j, k)
 
 pub linked_in_room : ReachesIsExact → LinkedInRoom
-linked_in_room exact l p g leaves k passes low_tops low_entry low_exit e x tells property room counted small fits light size s links few =
-    let is = room_suffices l passes.bits e x s p property room leaves counted small fits light in
-    linked_within exact l p g k passes low_tops low_entry low_exit size s links few e x tells is.bytes is.digests is.cells
+linked_in_room exact l p g leaves k rules e x tells property room counted small fits light size s links few =
+    let is = room_suffices l rules.passes.bits e x s p leaves property room counted small fits light in
+    linked_within exact l p g k rules size s links few e x tells is.bytes is.digests is.cells

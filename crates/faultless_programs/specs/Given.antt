@@ -13,4 +13,5 @@ use Rattle.link_faults.specs.WrittenNames.{names_of_program, first_taken}
 -- linked: its linked trees are a linkage
 abbrev pub NoFaultCanLink : Type 0
 NoFaultCanLink =
-    (f : Program) → IsWellTyped f → CanSpell f → same_text (headers_type f) (metadata_type f) ≡ false → first_taken (names_of_program f) ≡ None → CanLink f
+    (f : Program) → IsWellTyped f → CanSpell f → same_text (headers_type f) (metadata_type f) ≡ false →
+    first_taken (names_of_program f) ≡ None → CanLink f

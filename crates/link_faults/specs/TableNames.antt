@@ -19,4 +19,6 @@ with_bare_tables p = record p { tops = map bare_top p.tops }
 
 -- without the parts of its tables a well-typed program has the same first name that is taken, or none as well
 abbrev pub TablesNameNothingNew : Type 0
-TablesNameNothingNew = (p : Program) → IsWellTyped p → first_taken (names_of_program (with_bare_tables p)) ≡ first_taken (names_of_program p)
+TablesNameNothingNew =
+    (p : Program) → IsWellTyped p →
+    first_taken (names_of_program (with_bare_tables p)) ≡ first_taken (names_of_program p)
