@@ -3,3 +3,4 @@ pub mod EndLemmas
 pub mod LinkLemmas
 pub mod NextLemmas
 pub mod Sound
+pub mod PortLemmas

@@ -1,5 +1,5 @@
 -- A network as the network's run sees it, and the links at a port. Read `Network` before it.
-use Rattle.std.specs.Prelude.{◌≡◌, ◌⊎◌, ℕ, length, All}
+use Rattle.std.specs.Prelude.{◌≡◌, ◌⊎◌, ◌++◌, ℕ, List, [], ◌∷◌, length, All, nat_eq, if◌then◌else◌}
 use Rattle.network_run.specs.Network.{Link, Wiring}
 use Rattle.network_file.specs.Network.{Network}
 
@@ -15,3 +15,9 @@ IsAt switch port l =
 -- no link has this port
 abbrev pub IsUnlinked : Network → (switch port : ℕ) → Type 0
 IsUnlinked n switch port = All (λ l. ¬ IsAt switch port l) n.links
+
+-- the ports of a switch that have a link, in the order of the links
+abbrev pub linked_ports : List Link → (switch : ℕ) → List ℕ
+linked_ports [] s = []
+linked_ports (l ∷ ls) s =
+    (if nat_eq s l.one then l.one_port ∷ [] else []) ++ ((if nat_eq s l.other then l.other_port ∷ [] else []) ++ linked_ports ls s)

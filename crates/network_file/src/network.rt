@@ -1,11 +1,11 @@
 //! A network.
 
-ghost use Rattle.std.specs.Prelude.{◌≡◌, ◌≢◌, ◌↔◌, ◌<◌, ◌≤◌, length, slice_get, Some, IsNone, All, AllPairs};
+ghost use Rattle.std.specs.Prelude.{◌≡◌, ◌≢◌, ◌↔◌, ◌<◌, ◌≤◌, length, slice_get, IfOk, Some, IsNone, All, AllPairs};
 ghost use Rattle.serde_json.specs.View.{view};
 ghost use Rattle.network_run.specs.Network.{far_end, IsWiring};
 ghost use Rattle.network_file.specs.Network as network;
 ghost use Rattle.network_file.specs.Views.{Gives};
-ghost use Rattle.network_file.specs.Wiring.{wiring_of, IsUnlinked};
+ghost use Rattle.network_file.specs.Wiring.{linked_ports, wiring_of, IsUnlinked};
 
 use crate::checks::{Ends, ends, ports_in_range, sized};
 use crate::fault::NetworkFault;
@@ -13,7 +13,7 @@ use crate::named::named_file;
 use crate::numbered::{all_numbered, different};
 use indexmap::IndexSet;
 use serde_json::Value;
-use std::alloc::Global;
+use std::alloc::{AllocError, Global};
 use std::marker::Model;
 
 /// The switches of a network and the links between them. Contracts see it as the names of the
@@ -95,5 +95,18 @@ impl Network {
             Some(&(far, far_port)) => Some((far as u16, far_port as u16)),
             None => None,
         }
+    }
+
+    /// The ports of a switch that have a link, in the order of the links.
+    pub fn linked_ports(&self, alloc: Global, switch: u16) -> Result<Vec<u16>, AllocError>
+        ensures { IfOk result (λ v. v.items ≡ linked_ports self.now.links switch) }
+    {
+        let mut ports = Vec::new(alloc);
+        for (end, _far) in self.ends.iter() {
+            if end.0 == switch as usize {
+                ports.push(end.1 as u16)?;
+            }
+        }
+        Ok(ports)
     }
 }

@@ -1,0 +1,2 @@
+pub mod CaseLists
+pub mod PortTests

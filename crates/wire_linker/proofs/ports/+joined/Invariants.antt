@@ -1,4 +1,0 @@
-use Rattle.wire_linker.proofs.ports.+joined.Given as goal
-
-abbrev pub decreases-joined : goal.decreases-joined
-decreases-joined l = l.times
