@@ -1,0 +1,16 @@
+pub mod Quiet
+pub mod Declares
+pub mod KindMaps
+pub mod ExprRules
+pub mod FreeRules
+pub mod FormRules
+pub mod IndexRules
+pub mod LeafRules
+pub mod StmtRules
+pub mod LocalRules
+pub mod FrontRules
+pub mod PartRules
+pub mod PassRules
+pub mod ToldRules
+pub mod TellRules
+pub mod FewTold
