@@ -12,7 +12,7 @@ use Rattle.p4_meaning.specs.Under.{no_scope}
 use Rattle.p4_scopes.specs.Scopes.{add_up, Stands, typed, as_typed, typed_thing, is_missing, Scope, core}
 use Rattle.p4_scopes.specs.Uses.{header_bits, is_header, is_scalar}
 use Rattle.p4_scopes.specs.declared.thing.Thing.TheVariants.{Header, Struct}
-use Rattle.p4_declaration_rules.specs.Controls.{tops_tests, after_tops, most_of_tops}
+use Rattle.p4_declaration_rules.specs.Controls.{tops_tests, most_of_tops}
 use Rattle.p4_rules.specs.Mains.{all_fields}
 use Rattle.p4_rules.specs.Limits.{most_of_program, fields_bytes, header_bytes, add_cells, local_cells, locals_cells, top_cells, tops_cells, limit_tests}
 use Rattle.p4_rules.specs.ProgramRules.{program_scope, IsWellTyped}
@@ -36,8 +36,8 @@ use Rattle.linked_programs.proofs.LinkedTops.{no_parser, no_struct as no_front_s
 use Rattle.linked_programs.proofs.PartsLinked.{fields_old}
 use Rattle.linked_hosts.specs.Linkable.{IsGiven, Linkable}
 use Rattle.linked_rules.specs.Passes.{front_scope, Passes}
-use Rattle.linked_rules.specs.Digests.{Tells, told, LinkedTells, LinkedWithin}
-use Rattle.linked_rules.specs.Fine.{LinkedIsWellTyped, Counts, LinkedCounts}
+use Rattle.linked_rules.specs.Digests.{Tells, told}
+use Rattle.linked_rules.specs.Fine.{LinkedIsWellTyped, Counts, LinkedCounts, LinkedTells, LinkedWithin}
 use Rattle.linked_hosts.proofs.Spots.{core_sum}
 use Rattle.linked_hosts.proofs.ReadyByRules.{names_struct, core_no_struct}
 use Rattle.linked_rules.proofs.Offered.{core_fixed}
@@ -225,25 +225,26 @@ module _ (exact : ReachesIsExact) (l : Lowered) (p : Program) (g : IsGiven p) (k
   tops_same [] = refl
   tops_same (t ∷ ts) = ap₂ add_cells (top_same t) (tops_same ts)
 
-  counts : Counts l p size s links passes.bits
+  counts : Counts l s p made passes.bits
   counts = record { bytes = bytes; cells = cells_add (front l s) behind ∙ ap (add_cells (tops_cells (front l s))) (tops_same p.tops) }
 
 pub linked_counts : ReachesIsExact → LinkedCounts
-linked_counts exact l p g k passes low_tops low_entry low_exit size s links small = counts exact l p g k passes low_tops low_entry low_exit size s links small
+linked_counts exact l p g k rules size s links small = counts exact l p g k rules.passes rules.tops rules.entry_locals rules.exit_locals size s links small
 
 pub linked_tells : ReachesIsExact → LinkedTells
-linked_tells exact l p g k passes low_tops low_entry low_exit size s links small e x tells =
-    subst (λ (n : ℕ). n ≤ add_up e (add_up x (most_of_program p))) (sym (tells_all exact l p g k passes low_tops low_entry low_exit size s links small e x tells)) (told_once p.main e x p.tops core (typed_fine p g.typed).0)
+linked_tells exact l p g k rules size s links small e x tells =
+    subst (λ (n : ℕ). n ≤ add_up e (add_up x (most_of_program p))) (sym (tells_all exact l p g k rules.passes rules.tops rules.entry_locals rules.exit_locals size s links small e x tells))
+    (told_once p.main e x p.tops core (typed_fine p g.typed).0)
 
 pub linked_is_well_typed : ReachesIsExact → LinkedIsWellTyped
-linked_is_well_typed exact l p g k passes low_tops low_entry low_exit size s links small limits = well exact l p g k passes low_tops low_entry low_exit size s links small limits
+linked_is_well_typed exact l p g k rules size s links small limits = well exact l p g k rules.passes rules.tops rules.entry_locals rules.exit_locals size s links small limits
 
 pub linked_within : ReachesIsExact → LinkedWithin
-linked_within exact l p g k passes low_tops low_entry low_exit size s links small e x tells bytes digests registers =
-    (let counts = linked_counts exact l p g k passes low_tops low_entry low_exit size s links small in
-    let told = linked_tells exact l p g k passes low_tops low_entry low_exit size s links small e x tells in
-    linked_is_well_typed exact l p g k passes low_tops low_entry low_exit size s links small (
-      subst (λ (n : ℕ). nat_lt 2304 n ≡ false) (sym counts.bytes) (low 2304 4294967295 (passes.bits / 8) (header_bytes (program_scope p) p) bytes),
+linked_within exact l p g k rules size s links small e x tells bytes digests registers =
+    (let counts = linked_counts exact l p g k rules size s links small in
+    let told = linked_tells exact l p g k rules size s links small e x tells in
+    linked_is_well_typed exact l p g k rules size s links small (
+      subst (λ (n : ℕ). nat_lt 2304 n ≡ false) (sym counts.bytes) (low 2304 4294967295 (rules.passes.bits / 8) (header_bytes (program_scope p) p) bytes),
       (
         few (most_of_program (linked l size s links p)) e x (most_of_program p) told digests,
         subst (λ (n : ℕ). nat_lt 4210689 n ≡ false) (sym counts.cells) (low 4210689 18446744073709551615 (tops_cells (front l s)) (tops_cells p.tops) registers),

@@ -1,8 +1,7 @@
 //! What holds of linked programs, by the rules of P4.
 
 ghost use Rattle.linked_rules.specs.BareRules.{RulesCanBeKept};
-ghost use Rattle.linked_rules.specs.Digests.{LinkedTells, LinkedWithin};
-ghost use Rattle.linked_rules.specs.Fine.{LinkedCounts, LinkedIsWellTyped};
+ghost use Rattle.linked_rules.specs.Fine.{LinkedCounts, LinkedIsWellTyped, LinkedTells, LinkedWithin};
 ghost use Rattle.linked_rules.specs.Form.{LinkedNamesStand, TablesStand};
 
 use monitor_laws::LoweredMonitor;
