@@ -10,7 +10,12 @@ use Rattle.exit_rules.proofs.WellTyped.{bytes_same, cells_same, digests_same}
 use Rattle.linked_programs.specs.Lowered.{Lowered}
 use Rattle.linked_programs.specs.Linked.{front, switch_top}
 use Rattle.linked_rules.proofs.LinkedFine.{linked_within}
-use Rattle.faultless_programs.specs.Within.{RoomStays, RoomSuffices, LinkedInRoom}
+use Rattle.exit_programs.specs.Programs.{program_without}
+use Rattle.tree_linkage.proofs.Theorem.{is_given_without_exits}
+use Rattle.link_faults.proofs.Taken.{none_is_taken}
+use Rattle.link_faults.proofs.NoFault.{no_fault_says}
+use Rattle.faultless_programs.specs.Within.{RoomStays, RoomSuffices, LinkedInRoom, FaultlessIsWellTyped}
+use Rattle.faultless_programs.proofs.Given.{no_fault_can_link}
 
 pub room_stays : RoomStays
 room_stays p well given room =
@@ -48,3 +53,10 @@ pub linked_in_room : ReachesIsExact → LinkedInRoom
 linked_in_room exact l p g leaves k rules e x tells property room counted small fits light size s links few =
     let is = room_suffices l rules.passes.bits e x s p leaves property room counted small fits light in
     linked_within exact l p g k rules size s links few e x tells is.bytes is.digests is.cells
+
+pub faultless_is_well_typed : ReachesIsExact → FaultlessIsWellTyped
+faultless_is_well_typed exact f well spelled two leaves property room small none l k rules e x tells counted size s links few =
+    let no = (no_fault_says f property room).0 none in
+    let given = none_is_taken f no.names in
+    linked_in_room exact l (program_without f) (is_given_without_exits f (no_fault_can_link f well spelled two no.names)) (room_stays f well given leaves)
+    k rules e x tells property room counted small no.room no.weight size s links few

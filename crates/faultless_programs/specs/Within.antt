@@ -1,6 +1,7 @@
 -- Room and weight keep linked programs within the limits of a switch. Read `Limits` of `p4_rules`, `Fine` of
 -- `linked_rules` and `Sums` of `indus_types` before it.
-use Rattle.std.specs.Prelude.{ℕ, ◌<◌, ◌≤◌, ◌^◌, ◌/◌, ◌+◌, List}
+use Rattle.std.specs.Prelude.{◌≡◌, ℕ, ◌<◌, ◌≤◌, ◌^◌, ◌/◌, ◌+◌, List, false, None}
+use Rattle.lex_text.specs.Names.{same_text}
 use Rattle.indus_tree.specs.Tree.{Property}
 use Rattle.indus_types.specs.Sums.{property_bits, property_weight}
 use Rattle.tele_layout.specs.Telemetry.{whole_bytes}
@@ -8,12 +9,14 @@ use Rattle.lower_lists.specs.FlatProperty.{greatest_weight}
 use Rattle.p4_tree.specs.Tree.{Program}
 use Rattle.p4_rules.specs.Limits.{header_bytes, most_of_program, tops_cells, cells}
 use Rattle.p4_rules.specs.ProgramRules.{program_scope, IsWellTyped}
+use Rattle.p4_printer.specs.CanSpell.{CanSpell}
 use Rattle.exit_programs.specs.Programs.{program_without}
 use Rattle.exit_programs.specs.Names.{HasGivenNames}
 use Rattle.linked_programs.specs.Lowered.{Lowered}
-use Rattle.linked_programs.specs.Linked.{front, linked}
+use Rattle.linked_programs.specs.Linked.{headers_type, metadata_type, front, linked}
 use Rattle.linked_hosts.specs.Linkable.{IsGiven, Linkable}
 use Rattle.linked_rules.specs.Promises.{KeepsRules, TellsIn}
+use Rattle.link_faults.specs.Faults.{link_fault}
 
 -- a forwarding program leaves room for a monitor: bytes of headers, digests of a passage, and cells of registers
 pub record LeavesRoom (p : Program) : Type 0 where
@@ -54,3 +57,12 @@ LinkedInRoom =
     (property : Property) (room : ℕ) → IsCounted l rules.passes.bits e x property →
     room ≤ 256 → whole_bytes (property_bits property) ≤ room → property_weight property ≤ greatest_weight →
     (size s : ℕ) (links : List ℕ) → s < 2 ^ 16 → IsWellTyped (linked l size s links p)
+
+-- so it is of each program without fault, what is linked of it having no exits
+abbrev pub FaultlessIsWellTyped : Type 0
+FaultlessIsWellTyped =
+    (f : Program) → IsWellTyped f → CanSpell f → same_text (headers_type f) (metadata_type f) ≡ false → LeavesRoom f →
+    (property : Property) (room : ℕ) → room ≤ 256 → link_fault f property room ≡ None →
+    (l : Lowered) (k : Linkable (program_without f)) (rules : KeepsRules l (program_without f) k) (e x : ℕ) →
+    TellsIn l (program_without f) k e x → IsCounted l rules.passes.bits e x property →
+    (size s : ℕ) (links : List ℕ) → s < 2 ^ 16 → IsWellTyped (linked l size s links (program_without f))

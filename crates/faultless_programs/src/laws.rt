@@ -3,7 +3,7 @@
 ghost use Rattle.faultless_programs.specs.FieldPaths.{FoundFieldsAreDeclared};
 ghost use Rattle.faultless_programs.specs.FoundViews.{FoundViewsAreOwn, FoundViewsFit};
 ghost use Rattle.faultless_programs.specs.Given.{NoFaultCanLink};
-ghost use Rattle.faultless_programs.specs.Within.{LinkedInRoom, RoomStays, RoomSuffices};
+ghost use Rattle.faultless_programs.specs.Within.{FaultlessIsWellTyped, LinkedInRoom, RoomStays, RoomSuffices};
 
 use p4_parser_states::laws::reaches_is_exact;
 
@@ -41,6 +41,13 @@ pub fn room_suffices()
 /// So each linked program is well typed.
 pub fn linked_in_room()
     ensures { LinkedInRoom }
+{
+    reaches_is_exact();
+}
+
+/// Each linked program of a program without fault is well typed.
+pub fn faultless_is_well_typed()
+    ensures { FaultlessIsWellTyped }
 {
     reaches_is_exact();
 }

@@ -12,6 +12,6 @@
 mod laws;
 
 pub use laws::{
-    found_fields_are_declared, found_views_are_own, found_views_fit, linked_in_room,
-    no_fault_can_link, room_stays, room_suffices,
+    faultless_is_well_typed, found_fields_are_declared, found_views_are_own, found_views_fit,
+    linked_in_room, no_fault_can_link, room_stays, room_suffices,
 };

@@ -12,7 +12,7 @@ use Rattle.p4_meaning.specs.Under.{no_scope}
 use Rattle.p4_scopes.specs.Scopes.{add_up, Stands, typed, as_typed, typed_thing, is_missing, Scope, core}
 use Rattle.p4_scopes.specs.Uses.{header_bits, is_header, is_scalar}
 use Rattle.p4_scopes.specs.declared.thing.Thing.TheVariants.{Header, Struct}
-use Rattle.p4_declaration_rules.specs.Controls.{tops_tests, most_of_tops}
+use Rattle.p4_declaration_rules.specs.Controls.{tops_tests, after_tops, most_of_tops}
 use Rattle.p4_rules.specs.Mains.{all_fields}
 use Rattle.p4_rules.specs.Limits.{most_of_program, fields_bytes, header_bytes, add_cells, local_cells, locals_cells, top_cells, tops_cells, limit_tests}
 use Rattle.p4_rules.specs.ProgramRules.{program_scope, IsWellTyped}
@@ -42,7 +42,8 @@ use Rattle.linked_hosts.proofs.Spots.{core_sum}
 use Rattle.linked_hosts.proofs.ReadyByRules.{names_struct, core_no_struct}
 use Rattle.linked_rules.proofs.Offered.{core_fixed}
 use Rattle.linked_rules.proofs.Told.{told_once}
-use Rattle.linked_rules.proofs.TopsFine.{tops_told, Pair, more_of, struct_own, tops_grow, new, more_H, more_M}
+use Rattle.linked_rules.specs.Held.{tops_hold, LinkedHolds}
+use Rattle.linked_rules.proofs.TopsFine.{tops_told, tops_same_hold, Pair, more_of, struct_own, tops_grow, new, more_H, more_M}
 
 -- ---- what stands in front
 
@@ -163,6 +164,23 @@ module _ (exact : ReachesIsExact) (l : Lowered) (p : Program) (g : IsGiven p) (k
       digests_add p.main core (front l s) behind ∙ ap (λ (n : ℕ). add_up n (most_of_tops p.main u behind)) (ap (add_up 0) (front_quiet l.tops _ low_tops)) ∙ sym (digests_add p.main u [] behind)
       ∙ tops_told exact p g.typed parts g.two own_H own_M l k.ingress k.egress passes low_entry low_exit s small size links e x tells p.tops core no_scope u pair k.ready.names.tops g.spelled.tops k.ready.ones sees
 
+  -- ---- what tables and actions hold
+
+  behind_front : (zs ts : List Top) (a : Scope) → NewInFront is_own zs → tops_hold a (zs ++ ts) ≡ tops_hold (after_tops a zs) ts
+  behind_front [] ts a h = refl
+  behind_front (constant q y x v ∷ zs) ts a h = behind_front zs ts _ h.2
+  behind_front (typedef q y x ∷ zs) ts a h = behind_front zs ts _ h.2
+  behind_front (header_type q x fs ∷ zs) ts a h = behind_front zs ts _ h.2
+  behind_front (struct_type q x fs ∷ zs) ts a h = behind_front zs ts _ h.2
+  behind_front (register q d ∷ zs) ts a h = behind_front zs ts _ h.2
+  behind_front (parser q d ∷ zs) ts a h = behind_front zs ts _ h.2
+  behind_front (control q c ∷ zs) ts a h = broken h.0
+
+  same_hold : tops_hold core made.tops ≡ tops_hold core p.tops
+  same_hold =
+      behind_front (front l s) behind core in_front
+      ∙ tops_same_hold exact p g.typed parts g.two own_H own_M l k.ingress k.egress passes low_entry low_exit s small size links p.tops core no_scope u pair k.ready.names.tops g.spelled.tops k.ready.ones sees
+
   -- ---- counts
 
   parser_whole : parser_in made ≡ Some (linked_parser size links k.parser)
@@ -230,6 +248,9 @@ module _ (exact : ReachesIsExact) (l : Lowered) (p : Program) (g : IsGiven p) (k
 
 pub linked_counts : ReachesIsExact → LinkedCounts
 linked_counts exact l p g k rules size s links small = counts exact l p g k rules.passes rules.tops rules.entry_locals rules.exit_locals size s links small
+
+pub linked_holds : ReachesIsExact → LinkedHolds
+linked_holds exact l p g k rules size s links small = same_hold exact l p g k rules.passes rules.tops rules.entry_locals rules.exit_locals size s links small
 
 pub linked_tells : ReachesIsExact → LinkedTells
 linked_tells exact l p g k rules size s links small e x tells =

@@ -39,7 +39,7 @@ LinkedNamesStand =
     is_among (tops_names (linked l size s links p).tops) x ≡ is_among (tops_names p.tops) x
 
 -- the program's actions and tables stand there under their names, with their parameters, and their keys but for reads of
--- the packet's length, lists, and defaults; and its registers behind the monitor's
+-- the packet's length, lists, and defaults, `const` or not; and its registers behind the monitor's
 pub record Stand {T Z C : Type 0} (m : Monitor T Z C) (p q : Program) : Type 0 where
   pub actions :
       (x : List ℕ) → is_mine x ≡ false →
@@ -47,6 +47,13 @@ pub record Stand {T Z C : Type 0} (m : Monitor T Z C) (p q : Program) : Type 0 w
   pub tables :
       (x : List ℕ) → is_mine x ≡ false →
       table_named (parts_of q).tables x ≡ option_map plain_table (table_named (parts_of p).tables x)
+  -- the others are the monitor's
+  pub monitor_actions :
+      (x : List ℕ) → is_mine x ≡ true →
+      action_named (parts_of q).actions x ≡ option_map plain_action (action_named m.actions x)
+  pub monitor_tables :
+      (x : List ℕ) → is_mine x ≡ true →
+      table_named (parts_of q).tables x ≡ option_map plain_table (table_named m.tables x)
   pub registers : (parts_of q).registers ≡ rejects_cells ∷ (m.registers ++ registers_of no_scope p.tops)
 
 abbrev pub TablesStand : (T Z C : Type 0) → Type 0
