@@ -14,3 +14,4 @@ pub mod PassRules
 pub mod ToldRules
 pub mod TellRules
 pub mod FewTold
+pub mod CountRules

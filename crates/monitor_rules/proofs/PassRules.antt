@@ -304,13 +304,13 @@ module _ (g : Given) (i : IsGiven g) where
   abbrev T3 : Scope
   T3 = declare T2 switch_name (value Constant (type.Bit 16))
 
-  front_is : (r s : Roots) (n : ℕ) → front_scope (trees_of g r s) n ≡ T3
+  pub front_is : (r s : Roots) (n : ℕ) → front_scope (trees_of g r s) n ≡ T3
   front_is r s n = tops_append T1 (registers_of ps) (switch_top n ∷ [])
 
   no_sensor : (x : List ℕ) → ((d : Decl) → same_text (sensor_name d.name) x ≡ false) → NoSensor x ps
   no_sensor x f = all_given (λ d. same_text (sensor_name d.name) x ≡ false) f ps
 
-  at_tele : (xs : List (List ℕ)) → T3 (codes "hydra_tele_t" ∷ xs) ≡ behind T0 Tele_type xs
+  pub at_tele : (xs : List (List ℕ)) → T3 (codes "hydra_tele_t" ∷ xs) ≡ behind T0 Tele_type xs
   at_tele xs = declare_other T2 switch_name (value Constant (type.Bit 16)) (codes "hydra_tele_t") xs refl ∙ registers_others T1 ps (codes "hydra_tele_t") xs (no_sensor (codes "hydra_tele_t") (λ d. refl)) ∙ declare_here T0 (codes "hydra_tele_t") Tele_type xs
 
   at_rejects : T3 (rejects_register ∷ []) ≡ cells (t.Number 32)

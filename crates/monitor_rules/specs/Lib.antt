@@ -3,3 +3,4 @@ pub mod Declared
 pub mod Fields
 pub mod Rules
 pub mod Told
+pub mod Counted

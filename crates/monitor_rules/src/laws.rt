@@ -1,5 +1,6 @@
 //! Laws of the trees of whole properties, by the rules of P4.
 
+ghost use Rattle.monitor_rules.specs.Counted.{TreesAreCounted};
 ghost use Rattle.monitor_rules.specs.Declared.{TreesDeclareTheirOwn};
 ghost use Rattle.monitor_rules.specs.Rules.{TreesPass};
 ghost use Rattle.monitor_rules.specs.Told.{TreesTell, TreesTellFew};
@@ -22,4 +23,9 @@ pub fn trees_tell()
 /// A property tells no more digests than it weighs.
 pub fn trees_tell_few()
     ensures { TreesTellFew }
+{}
+
+/// The bytes of their telemetry and the cells of their registers are what the property's sums say.
+pub fn trees_are_counted()
+    ensures { TreesAreCounted }
 {}
