@@ -121,17 +121,21 @@ fn fits(d: &Decl, st: &Stands) -> bool
 }
 
 /// A path as it is written.
+#[tactic(auto, using(crate::proofs::Dots::dotted_tail))]
 fn dotted(alloc: Global, path: &[Name]) -> Result<Name, AllocError>
     ensures { IfOk result (λ x. x ≡ dotted path.now) }
 {
-    let mut text = String::new(alloc);
-    for (i, name) in path.iter().enumerate() {
-        if i > 0 {
-            text.push_str(".")?;
+    match path {
+        [] => Name::new(alloc, ""),
+        [first, rest @ ..] => {
+            let mut text = String::from_str(alloc, first.as_str())?;
+            for name in rest {
+                text.push_str(".")?;
+                text.push_str(name.as_str())?;
+            }
+            Name::new(alloc, text.as_str())
         }
-        text.push_str(name.as_str())?;
     }
-    Name::new(alloc, text.as_str())
 }
 
 /// Whether what stands there serves the declaration.

@@ -10,7 +10,7 @@ use p4_values::same_text;
 
 /// The first that is there.
 pub(crate) fn first<'a>(a: Option<&'a str>, b: Option<&'a str>) -> Option<&'a str>
-    ensures { text_of result ≡ or_else (text_of a) (text_of b) }
+    ensures { text_of result ≡ or_else (text_of a.entry) (text_of b.entry) }
 {
     match a {
         Some(_) => a,

@@ -1,9 +1,9 @@
-//! Whether a program can be linked with a property: the refusals that a program and its text can give.
+//! Whether a program can be linked with a property: the five refusals.
 //!
-//! The layer above gets `check_fields`, which looks up what header variables read, and `check_names`,
-//! which looks for names that are taken. `specs/Refusals` of `link_faults` says which refusal is which.
+//! The layer above gets `check_link`, which answers the layout and the flat code of a property where there
+//! is no refusal. `specs/Refusals` and `Faults` of `link_faults` say which refusal there is.
 //!
-//! Both calls walk the program once.
+//! A call walks the program twice, once for what header variables read and once for its names.
 //!
 //! Follows: "Hydra: Effective Runtime Network Verification", SIGCOMM 2023; the names that are taken are
 //! this project's.
@@ -13,8 +13,8 @@ mod fault;
 mod fields;
 mod first;
 mod names;
+mod refusals;
 mod text;
 
 pub use fault::LinkFault;
-pub use fields::check_fields;
-pub use text::check_names;
+pub use refusals::check_link;

@@ -117,7 +117,7 @@ fn in_args(args: &[Arg]) -> Option<&str>
 /// A variable or a constant.
 #[tactic(auto, using(crate::proofs::Firsts::taken_both))]
 pub(crate) fn in_var<'a>(ty: &'a PTy, x: &'a Name, start: Option<&'a str>) -> Option<&'a str>
-    ensures { text_of result ≡ or_else (first_taken (names_of_type ty.now)) (or_else (first_taken (x.now ∷ [])) (text_of start)) }
+    ensures { text_of result ≡ or_else (first_taken (names_of_type ty.now)) (or_else (first_taken (x.now ∷ [])) (text_of start.entry)) }
 {
     first(in_type(ty), first(in_name(x), start))
 }

@@ -6,15 +6,16 @@ ghost use Rattle.p4_tree.specs.View.{control_of, local_of, stmt_of, stmts_of};
 ghost use Rattle.p4_resolved.specs.Scopes.{roots_in};
 ghost use Rattle.linked_programs.specs.Rewritten.{stmts_with};
 ghost use Rattle.linked_programs.specs.Linked as linked;
-ghost use Rattle.linked_programs.specs.Linked.{control_at, control_roots, emit_call, place_in};
+ghost use Rattle.linked_programs.specs.Linked.{control_at, emit_call, place_in};
 ghost use Rattle.linked_trees.specs.View.{lowered_of, place_of};
 
 use crate::around::{entry_stmt, exit_stmt};
 use crate::declarations::Parts;
 use crate::locals::locals_with;
+use crate::roots::control_roots;
 use crate::statements::stmts_with;
 use lex_text::Name;
-use p4_resolved::{Roots, in_control, named_in, no_scope};
+use p4_resolved::{Roots, named_in};
 use p4_tree::{Control, Local, Stmt, copy_params};
 use p4_values::same_text;
 use small_trees::{at_path, both, call, one_arg, single, two_names};
@@ -69,9 +70,8 @@ fn deparser_apply(alloc: Global, c: &Control) -> Result<Vec<Stmt>, AllocError>
     ensures { IfOk result (λ v. stmts_of v.items
         ≡ p4.next (emit_call (control_of c.now)) (stmts_of c.now.apply.items)) }
 {
-    let scope = in_control(alloc, 0, 1, 9, &no_scope(alloc)?, c)?;
-    let packet = scope.roots.headers.as_str();
-    let first = emit_call(alloc, packet, scope.roots.metadata.as_str())?;
+    let roots = control_roots(alloc, c)?;
+    let first = emit_call(alloc, roots.headers.as_str(), roots.metadata.as_str())?;
     both(single(alloc, first)?, copy_stmts(alloc, &c.apply)?)
 }
 
@@ -124,12 +124,12 @@ fn linked_ingress(
     ensures { IfOk result (λ k. control_of k
         ≡ control_at (lowered_of parts.now) linked_ports.now linked.is_ingress (control_of c.now)) }
 {
-    let scope = in_control(alloc, 0, 1, 2, &no_scope(alloc)?, c)?;
+    let roots = control_roots(alloc, c)?;
     let entry = copy_stmts(alloc, &parts.entry)?;
-    let first = entry_stmt(alloc, &scope.roots, linked_ports, parts.mark, entry)?;
+    let first = entry_stmt(alloc, &roots, linked_ports, parts.mark, entry)?;
     let first = single(alloc, first)?;
-    let apply = both_with(alloc, &scope.roots, &first, &c.apply)?;
-    let locals = locals_with(alloc, &scope.roots, &parts.entry_locals, &c.locals)?;
+    let apply = both_with(alloc, &roots, &first, &c.apply)?;
+    let locals = locals_with(alloc, &roots, &parts.entry_locals, &c.locals)?;
     control_with(alloc, c, locals, apply)
 }
 
@@ -143,12 +143,12 @@ fn linked_egress(
     ensures { IfOk result (λ k. control_of k
         ≡ control_at (lowered_of parts.now) linked_ports.now linked.is_egress (control_of c.now)) }
 {
-    let scope = in_control(alloc, 0, 1, 2, &no_scope(alloc)?, c)?;
+    let roots = control_roots(alloc, c)?;
     let exit = copy_stmts(alloc, &parts.exit)?;
-    let last = exit_stmt(alloc, &scope.roots, linked_ports, exit)?;
+    let last = exit_stmt(alloc, &roots, linked_ports, exit)?;
     let last = single(alloc, last)?;
-    let apply = both_with(alloc, &scope.roots, &c.apply, &last)?;
-    let locals = locals_with(alloc, &scope.roots, &parts.exit_locals, &c.locals)?;
+    let apply = both_with(alloc, &roots, &c.apply, &last)?;
+    let locals = locals_with(alloc, &roots, &parts.exit_locals, &c.locals)?;
     control_with(alloc, c, locals, apply)
 }
 
@@ -175,9 +175,9 @@ fn linked_other(
     ensures { IfOk result (λ k. control_of k
         ≡ control_at (lowered_of parts.now) linked_ports.now linked.is_other (control_of c.now)) }
 {
-    let scope = in_control(alloc, 0, 1, 2, &no_scope(alloc)?, c)?;
+    let roots = control_roots(alloc, c)?;
     let copy = c.copy(alloc)?;
-    let apply = stmts_with(alloc, &scope.roots, &c.apply)?;
+    let apply = stmts_with(alloc, &roots, &c.apply)?;
     control_with(alloc, c, copy.locals, apply)
 }
 

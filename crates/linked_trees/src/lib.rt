@@ -13,6 +13,8 @@ mod declarations;
 mod lengths;
 mod locals;
 mod parsers;
+mod roots;
 mod statements;
 
 pub use declarations::{Parts, linked};
+pub use roots::control_roots;

@@ -8,11 +8,12 @@ ghost use Rattle.p4_meaning.specs.Scope.{param_at, param_name};
 ghost use Rattle.p4_resolved.specs.Scopes.{roots_in};
 ghost use Rattle.linked_halves.specs.ParserStates.{link_cases, own_name, renamed_case, renamed_transition};
 ghost use Rattle.linked_programs.specs.Rewritten.{case_with, keyset_with, length_at, parse_with, transition_with};
-ghost use Rattle.linked_programs.specs.Linked.{first_state, linked_parser, own_state, packet_name, standard_at, taken_state};
+ghost use Rattle.linked_programs.specs.Linked.{first_state, linked_parser, own_state, standard_at, taken_state};
 
 use crate::lengths::{expr_with, exprs_with, length_at};
+use crate::roots::parser_roots;
 use lex_text::Name;
-use p4_resolved::{Roots, in_parser, no_scope};
+use p4_resolved::Roots;
 use p4_tree::{Expr, Keyset, Op, Param, Parser, ParserState, Stmt, Transition, copy_params};
 use p4_values::{copy_path, same_text};
 use port_tests::link_cases;
@@ -227,13 +228,36 @@ fn taken_state(
 }
 
 /// The name of the first parameter.
-pub(crate) fn first_name(params: &[Param]) -> &str
+fn first_name(params: &[Param]) -> &str
     ensures { result.now ≡ param_name (param_at params.now 0) }
 {
     match params.first() {
         None => "",
         Some(p) => p.name.as_str(),
     }
+}
+
+/// How the frame arrived, the telemetry where it stands, and the program's own states.
+fn linked_states(
+    alloc: Global,
+    packet: &str,
+    roots: &Roots,
+    size: u16,
+    linked_ports: &[u16],
+    list: &[ParserState],
+) -> Result<Vec<ParserState>, AllocError>
+    ensures { IfOk result (λ v. map state_of v.items
+        ≡ first_state (roots_in roots.now) linked_ports.now
+        ∷ taken_state packet.now (roots_in roots.now) size
+        ∷ map (own_state (roots_in roots.now)) (map state_of list.now)) }
+{
+    let mut states = Vec::new(alloc);
+    states.push(first_state(alloc, roots, linked_ports)?)?;
+    states.push(taken_state(alloc, packet, roots, size)?)?;
+    for s in list {
+        states.push(own_state(alloc, roots, s)?)?;
+    }
+    Ok(states)
 }
 
 /// The parser of a linked program.
@@ -245,14 +269,9 @@ pub(crate) fn linked_parser(
 ) -> Result<Parser, AllocError>
     ensures { IfOk result (λ p. parser_of p ≡ linked_parser size linked_ports.now (parser_of d.now)) }
 {
-    let scope = in_parser(alloc, &no_scope(alloc)?, d)?;
-    let roots = &scope.roots;
-    let mut states = Vec::new(alloc);
-    states.push(first_state(alloc, roots, linked_ports)?)?;
-    states.push(taken_state(alloc, first_name(&d.params), roots, size)?)?;
-    for s in &d.states {
-        states.push(own_state(alloc, roots, s)?)?;
-    }
+    let roots = parser_roots(alloc, d)?;
+    let packet = first_name(&d.params);
+    let states = linked_states(alloc, packet, &roots, size, linked_ports, &d.states)?;
     Ok(Parser {
         at: d.at,
         name: d.name.copy(alloc)?,
