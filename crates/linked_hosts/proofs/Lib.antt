@@ -1,0 +1,5 @@
+pub mod Spots
+pub mod ReadyParams
+pub mod FieldsSound
+pub mod ReadyByRules
+pub mod NamesThere

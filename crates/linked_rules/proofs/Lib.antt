@@ -1,0 +1,14 @@
+pub mod LengthFine
+pub mod LocalsFine
+pub mod StatesFine
+pub mod Offered
+pub mod LinkerFine
+pub mod ControlsFine
+pub mod ParserFine
+pub mod OthersFine
+pub mod DigestsGrow
+pub mod TopsFine
+pub mod Told
+pub mod LinkedFine
+pub mod NamesStand
+pub mod BareRules

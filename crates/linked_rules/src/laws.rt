@@ -1,0 +1,52 @@
+//! What holds of linked programs, by the rules of P4.
+
+ghost use Rattle.linked_rules.specs.BareRules.{RulesCanBeKept};
+ghost use Rattle.linked_rules.specs.Digests.{LinkedTells, LinkedWithin};
+ghost use Rattle.linked_rules.specs.Fine.{LinkedCounts, LinkedIsWellTyped};
+ghost use Rattle.linked_rules.specs.Form.{LinkedNamesStand, TablesStand};
+
+use monitor_laws::LoweredMonitor;
+use p4_parser_states::laws::reaches_is_exact;
+
+/// The linked program of a well-typed program is well typed within the limits.
+pub fn linked_is_well_typed()
+    ensures { LinkedIsWellTyped }
+{
+    reaches_is_exact();
+}
+
+/// Its headers' bytes and its registers' cells are the program's and the monitor's.
+pub fn linked_counts()
+    ensures { LinkedCounts }
+{
+    reaches_is_exact();
+}
+
+/// The digests that it tells are the program's and the lowering's.
+pub fn linked_tells()
+    ensures { LinkedTells }
+{
+    reaches_is_exact();
+}
+
+/// It is well typed where the program's numbers and the lowering's are within the limits.
+pub fn linked_within()
+    ensures { LinkedWithin }
+{
+    reaches_is_exact();
+}
+
+/// It declares the names that the given program declares, and other names of the monitor's only.
+pub fn linked_names_stand()
+    ensures { LinkedNamesStand }
+{}
+
+/// The program's actions and tables stand in it, and its registers behind the monitor's.
+pub fn tables_stand<L: LoweredMonitor>()
+    ensures { TablesStand L.Tele L.Sensors L.Contents }
+{}
+
+/// The promises can be kept.
+pub fn rules_can_be_kept()
+    ensures { RulesCanBeKept }
+{}
