@@ -1,2 +1,7 @@
+pub mod FreeNames
 pub mod Taken
+pub mod Causes
+pub mod NoFault
+pub mod CleanScopes
+pub mod TableNames
 mod Rows

@@ -3,3 +3,4 @@ pub mod ReadyParams
 pub mod FieldsSound
 pub mod ReadyByRules
 pub mod NamesThere
+pub mod OwnRoots

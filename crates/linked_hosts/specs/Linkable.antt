@@ -9,7 +9,7 @@ use Rattle.own_programs.specs.OwnPrograms.{HasOwnNames}
 use Rattle.monitor_laws.specs.Monitor.{Monitor}
 use Rattle.linked_programs.specs.Lowered.{Lowered}
 use Rattle.linked_programs.specs.Linked.{control_roots, packet_name, headers_type, metadata_type, linked}
-use Rattle.linked_programs.specs.Gives.{Halves, GivesMonitor}
+use Rattle.linked_programs.specs.Gives.{AreOwnRoots, Halves, GivesMonitor}
 use Rattle.linked_programs.specs.Ready.{IsReady}
 use Rattle.linked_programs.specs.Woven.{declared, HasLinkedParts}
 use Rattle.network_run.specs.Network.{Wiring, IsWiring}
@@ -38,6 +38,14 @@ pub record IsGiven (p : Program) : Type 0 where
 
 abbrev pub WellTypedIsLinkable : Type 0
 WellTypedIsLinkable = (p : Program) → IsGiven p → Linkable p
+
+-- the names that the two controls give their parameters are the program's own
+pub record HasOwnRoots (p : Program) (k : Linkable p) : Type 0 where
+  pub ingress : AreOwnRoots (control_roots k.ingress)
+  pub egress : AreOwnRoots (control_roots k.egress)
+
+abbrev pub LinkableHasOwnRoots : Type 0
+LinkableHasOwnRoots = (p : Program) (k : Linkable p) → HasOwnRoots p k
 
 -- the parts of its linked program are the linked parts, for every monitor that a lowering gives for its controls
 abbrev pub LinkedHasParts : (T Z C : Type 0) → Type 0

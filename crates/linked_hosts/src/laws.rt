@@ -1,6 +1,6 @@
 //! What holds of the linked programs of a well-typed program, for any lowering.
 
-ghost use Rattle.linked_hosts.specs.Linkable.{LinkedHasParts, LinkedIsHost, WellTypedIsLinkable};
+ghost use Rattle.linked_hosts.specs.Linkable.{LinkableHasOwnRoots, LinkedHasParts, LinkedIsHost, WellTypedIsLinkable};
 ghost use Rattle.linked_hosts.specs.Spelled.{LinkedIsSpelled};
 
 use monitor_laws::LoweredMonitor;
@@ -9,6 +9,11 @@ use monitor_laws::LoweredMonitor;
 /// metadata, is ready to be linked.
 pub fn well_typed_is_linkable()
     ensures { WellTypedIsLinkable }
+{}
+
+/// The names that ingress and egress give their parameters are the program's own.
+pub fn linkable_has_own_roots()
+    ensures { LinkableHasOwnRoots }
 {}
 
 /// The parts of its linked program are the linked parts.

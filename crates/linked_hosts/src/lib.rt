@@ -12,4 +12,7 @@
 
 mod laws;
 
-pub use laws::{linked_has_parts, linked_is_host, linked_is_spelled, well_typed_is_linkable};
+pub use laws::{
+    linkable_has_own_roots, linked_has_parts, linked_is_host, linked_is_spelled,
+    well_typed_is_linkable,
+};

@@ -1,5 +1,5 @@
 -- The promises can be kept: nearly all of a bare lowering is the monitor's by computation.
-use Rattle.std.proofs.Common.{◌≡◌, inl, ℕ, List, [], false, cond, Option, None, arith, refl, ap₂, ◌∙◌}
+use Rattle.std.proofs.Common.{◌≡◌, inl, ℕ, List, false, cond, Option, None, arith, refl, ap₂, ◌∙◌}
 use Rattle.p4_tree.specs.Tree.{var, done, next}
 use Rattle.p4_tree.specs.declared.statement.PTy.TheVariants as type
 use Rattle.p4_meaning.specs.Standard.{headers_root, metadata_root, standard_root}
@@ -9,9 +9,9 @@ use Rattle.p4_rule_laws.proofs.WiderLemmas.{old_is_other}
 use Rattle.own_programs.specs.OwnPrograms.{is_own}
 use Rattle.monitor_laws.specs.Names.{first_name, last_name, rejected_name}
 use Rattle.monitor_laws.specs.Monitor.{Monitor}
-use Rattle.linked_programs.specs.Gives.{GivesMonitor}
+use Rattle.linked_programs.specs.Gives.{AreOwnRoots, GivesMonitor}
 use Rattle.linked_programs.specs.Spells.{SpellsLowered}
-use Rattle.linked_programs.specs.Bare.{flag_local, bare, bare_monitor, no_halves, AreOwnRoots, PromisesCanBeKept}
+use Rattle.linked_programs.specs.Bare.{flag_local, bare, bare_monitor, no_halves, PromisesCanBeKept}
 
 module _ {T Z C : Type 0} (m : Monitor T Z C) (ingress egress : List ℕ) (r q : Roots) (own : AreOwnRoots q) where
   -- a name of the monitor's is none of the parameters

@@ -1,15 +1,14 @@
 -- A lowering with nothing but the mark and the flags, of a monitor without anything of its own: it keeps all that is asked
 -- of a lowering's trees, so that no promise contradicts another. Read `Gives` and `Spells` before it.
-use Rattle.std.specs.Prelude.{◌≡◌, codes, ℕ, List, [], ◌∷◌, map, true, None}
+use Rattle.std.specs.Prelude.{codes, ℕ, List, [], ◌∷◌, map, None}
 use Rattle.p4_tree.specs.Tree.{done, Local, local_var, header_type}
 use Rattle.p4_tree.specs.declared.statement.PTy.{PTy}
 use Rattle.p4_tree.specs.declared.statement.PTy.TheVariants as type
 use Rattle.p4_meaning.specs.Scope.{Roots}
-use Rattle.own_programs.specs.OwnPrograms.{is_own}
 use Rattle.monitor_laws.specs.Names.{mark_name}
 use Rattle.monitor_laws.specs.Monitor.{Monitor, flag_locals}
 use Rattle.linked_programs.specs.Lowered.{Lowered}
-use Rattle.linked_programs.specs.Gives.{Halves, GivesMonitor}
+use Rattle.linked_programs.specs.Gives.{AreOwnRoots, Halves, GivesMonitor}
 use Rattle.linked_programs.specs.Spells.{SpellsLowered}
 
 abbrev pub flag_local : PTy × List ℕ → Local
@@ -31,12 +30,6 @@ bare_monitor m = record m { mark = 72; fields = []; room = 0; registers = []; ac
 
 abbrev pub no_halves : Halves
 no_halves = record { entry_actions = []; exit_actions = []; entry_tables = []; exit_tables = [] }
-
--- names of a control's parameters that are the program's own
-pub record AreOwnRoots (r : Roots) : Type 0 where
-  pub headers : is_own r.headers ≡ true
-  pub metadata : is_own r.metadata ≡ true
-  pub standard : is_own r.standard ≡ true
 
 pub record KeepsPromises {T Z C : Type 0} (m : Monitor T Z C) (ingress egress : List ℕ) (r q : Roots) : Type 0 where
   pub gives : GivesMonitor bare (bare_monitor m) no_halves ingress egress r q

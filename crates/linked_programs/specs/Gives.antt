@@ -16,6 +16,7 @@ use Rattle.p4_meaning.specs.Actions.{Action, action_named, actions_in}
 use Rattle.p4_meaning.specs.Tables.{Table, table_named, tables_in}
 use Rattle.p4_meaning.specs.Parts.{Cells, field_of, header_fields, registers_of}
 use Rattle.own_code.specs.Regions.{is_mine}
+use Rattle.own_programs.specs.OwnPrograms.{is_own}
 use Rattle.monitor_laws.specs.Trees.{number}
 use Rattle.monitor_laws.specs.Names.{rejects_register}
 use Rattle.monitor_laws.specs.Telemetry.{mark_field}
@@ -25,7 +26,7 @@ use Rattle.linked_programs.specs.Lowered.{Lowered}
 use Rattle.linked_programs.specs.Linked.{switch_name}
 use Rattle.linked_programs.specs.Reads.{StmtsReadIn, LocalsReadIn}
 
--- the word of a switch's number
+-- the word that a switch's number is
 abbrev pub switch_word : ℕ → Word
 switch_word s = start_of (type.Bit 16) (Some (number 16 s)) blank
 
@@ -35,7 +36,8 @@ pub record Sees (s : ℕ) (around : List ℕ) (r : Roots) (names : List (List �
   pub control : sc.control ≡ around
   pub roots : sc.roots ≡ r
   pub outer : sc.inner ≡ None
-  -- of the monitor's names the control declares these alone, and neither what tells reports nor what a miss runs
+  -- of the monitor's names the control declares these alone. It declares no `digest`, by which reports are told, and no
+  -- `NoAction`, which a table runs where no other default is written
   pub own : (x : List ℕ) → is_mine x ≡ true → is_among sc.own x ≡ is_among names x
   pub digest : is_among sc.own (codes "digest") ≡ false
   pub no_action : is_among sc.own (codes "NoAction") ≡ false
@@ -48,6 +50,12 @@ pub record StandForRoots (r : Roots) (sc : Scope) : Type 0 where
   pub headers : first_name sc r.headers ≡ headers_root
   pub metadata : first_name sc r.metadata ≡ metadata_root
   pub standard : first_name sc r.standard ≡ standard_root
+
+-- these names are the program's own
+pub record AreOwnRoots (r : Roots) : Type 0 where
+  pub headers : is_own r.headers ≡ true
+  pub metadata : is_own r.metadata ≡ true
+  pub standard : is_own r.standard ≡ true
 
 -- a header type or a register, of a name of the monitor's
 abbrev pub IsLoweredTop : Top → Type 0
@@ -88,7 +96,7 @@ module _ {T Z C : Type 0} (l : Lowered) (m : Monitor T Z C) (h : Halves) (ingres
     pub registers : (sc : Scope) → sc.own ≡ [] → registers_of sc l.tops ≡ m.registers
     pub entry_locals : AllByRecursion IsLoweredLocal l.entry_locals
     pub exit_locals : AllByRecursion IsLoweredLocal l.exit_locals
-    -- the register of the linker's is none of them
+    -- the register that counts rejected packets is the linker's
     pub no_rejects : is_among (own_names l.exit_locals) rejects_register ≡ false
     -- statements and variables
     pub entry : (s : ℕ) (sc : Scope) → AtEntry s sc → stmts_under sc l.entry ≡ m.entry s

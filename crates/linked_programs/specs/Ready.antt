@@ -16,7 +16,7 @@ use Rattle.linked_programs.specs.Gives.{StandForRoots}
 -- ingress or egress, before which this scope stands
 pub record ReadyApply (sc : Scope) (c : Control) : Type 0 where
   pub roots : StandForRoots (control_roots c) (in_control 0 1 2 sc c)
-  -- no constant hides the standard metadata, and no declaration what the architecture calls so
+  -- no constant hides the standard metadata, and the control declares no name of the architecture's
   pub standard : constant_named (behind_locals (in_control 0 1 2 sc c) c.locals).constants (control_roots c).standard ≡ None
   pub mark_to_drop : is_among (own_names c.locals) (codes "mark_to_drop") ≡ false
   pub digest : is_among (own_names c.locals) (codes "digest") ≡ false

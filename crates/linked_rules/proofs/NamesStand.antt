@@ -225,7 +225,7 @@ module _ (x : List ℕ) (own : is_own x ≡ true) where
           tops_joined (front l s) (map (linked_top l size links p) p.tops) ∙ ap (λ (b : Bool). b || is_among (tops_names (map (linked_top l size links p) p.tops)) x) (front_none s) ∙ tops_stand p.tops h
 
 pub linked_names_stand : LinkedNamesStand
-linked_names_stand l low p g size s links x own = all_stand x own l low links size p s (all_start p.main p.tops core core_own (typed_fine p g.typed).0)
+linked_names_stand l low p g size s links x own = all_stand x own l low links size p s (all_start p.main p.tops core (typed_fine p g.typed).0)
 
 -- ---- tables, actions, registers
 

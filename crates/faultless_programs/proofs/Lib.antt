@@ -1,0 +1,5 @@
+pub mod Given
+pub mod FieldsFound
+pub mod OwnFields
+pub mod FoundViews
+pub mod Within

@@ -1,0 +1,52 @@
+-- Room and weight keep linked programs within the limits of a switch.
+use Rattle.std.proofs.Common.{◌≡◌, ℕ, ◌≤◌, ◌/◌, ◌+◌, min, List, [], ◌∷◌, ◌++◌, arith, refl, sym, ap, ◌∙◌, subst}
+use Rattle.indus_tree.specs.Tree.{Property}
+use Rattle.indus_types.specs.Sums.{property_bits, property_weight}
+use Rattle.tele_layout.specs.Telemetry.{whole_bytes}
+use Rattle.p4_parser_states.specs.Laws.{ReachesIsExact}
+use Rattle.p4_tree.specs.Tree.{Program}
+use Rattle.p4_rules.specs.Limits.{header_bytes, most_of_program, add_cells, tops_cells, cells}
+use Rattle.p4_rules.specs.ProgramRules.{program_scope}
+use Rattle.p4_rule_laws.proofs.LimitsGrow.{cells_add}
+use Rattle.exit_rules.proofs.WellTyped.{bytes_same, cells_same, digests_same}
+use Rattle.linked_programs.specs.Lowered.{Lowered}
+use Rattle.linked_programs.specs.Linked.{front, switch_top}
+use Rattle.linked_rules.proofs.LinkedFine.{linked_within}
+use Rattle.faultless_programs.specs.Within.{LeavesRoom, RoomStays, IsCounted, IsWithin, RoomSuffices, LinkedInRoom}
+
+pub room_stays : RoomStays
+room_stays p well given room =
+    record {
+      bytes = subst (λ (n : ℕ). n ≤ 2048) (sym (bytes_same p)) room.bytes;
+      digests = subst (λ (n : ℕ). n ≤ 4096) (sym (digests_same p well given)) room.digests;
+      cells = subst (λ (n : ℕ). n ≤ 4194304) (sym (cells_same p)) room.cells;
+    }
+
+-- the register of rejected packets, and the lowering's
+front_cells : (l : Lowered) (s : ℕ) → tops_cells (front l s) ≤ 1 + tops_cells l.tops
+front_cells l s = at (tops_cells (l.tops ++ switch_top s ∷ [])) (tops_cells l.tops) (cells_add l.tops (switch_top s ∷ []))
+  where
+    at : (a b : ℕ) → a ≡ add_cells b 0 → add_cells 1 a ≤ 1 + b
+    at a b e = omega (arith, e)
+
+pub room_suffices : RoomSuffices
+room_suffices l bits e x s p property room leaves counted small fits light =
+    record {
+      bytes = sum (bits / 8) (whole_bytes (property_bits property)) (header_bytes (program_scope p) p) room counted.bytes fits small leaves.bytes;
+      digests = few (e + x) (property_weight property) (most_of_program p) counted.digests light leaves.digests;
+      cells = many (tops_cells (front l s)) (tops_cells l.tops) (property_weight property) (cells p) (front_cells l s) counted.cells light leaves.cells;
+    }
+  where
+    sum : (a b c r : ℕ) → a ≤ b → b ≤ r → r ≤ 256 → c ≤ 2048 → a + c ≤ 2304
+    sum a b c r h i j k = omega (arith, h, i, j, k)
+
+    few : (a b c : ℕ) → a ≤ b → b ≤ 16384 → c ≤ 4096 → a + c ≤ 20480
+    few a b c h i k = omega (arith, h, i, k)
+
+    many : (a b c d : ℕ) → a ≤ 1 + b → b ≤ c → c ≤ 16384 → d ≤ 4194304 → a + d ≤ 4210689
+    many a b c d h i j k = omega (arith, h, i, j, k)
+
+pub linked_in_room : ReachesIsExact → LinkedInRoom
+linked_in_room exact l p g leaves k passes low_tops low_entry low_exit e x tells property room counted small fits light size s links few =
+    let is = room_suffices l passes.bits e x s p property room leaves counted small fits light in
+    linked_within exact l p g k passes low_tops low_entry low_exit size s links few e x tells is.bytes is.digests is.cells

@@ -1,0 +1,5 @@
+use Rattle.faultless_programs.proofs.FoundViews.{found_views_fit}
+use Rattle.faultless_programs.proofs.laws.found_views_fit.Goals as goal
+
+pub returns : goal.returns
+returns c = found_views_fit
