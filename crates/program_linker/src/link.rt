@@ -40,6 +40,44 @@ fn typed(alloc: Global, program: Program) -> Result<TypedProgram, AllocError>
     match check_program(alloc, program) {
         Ok(program) => Ok(program),
         Err(ProgramTypeFault::NoMemory) => Err(AllocError),
-        Err(ProgramTypeFault::Broken { .. }) => unreachable!(),
+        Err(ProgramTypeFault::Type_ { .. }) => unreachable!(),
     }
+}
+
+/// The linked program of a switch.
+fn linked_switch(
+    alloc: Global,
+    parts: &Parts,
+    size: u16,
+    net: &Network,
+    switch: u16,
+    program: &Program,
+) -> Result<TypedProgram, AllocError>
+    requires { IsWellTyped (linked (lowered_of parts.now) size switch (linked_ports net.now.links switch) (program_of program.now)) }
+    ensures { IfOk result (λ t. program_of t
+        ≡ linked (lowered_of parts.now) size switch (linked_ports net.now.links switch) (program_of program.now)) }
+{
+    let ports = net.linked_ports(alloc, switch)?;
+    let tree = linked(alloc, parts, size, switch, &ports, program)?;
+    typed(alloc, tree)
+}
+
+/// The linked programs of all switches.
+fn linked_switches(
+    alloc: Global,
+    parts: &Parts,
+    size: u16,
+    net: &Network,
+    program: &Program,
+) -> Result<Vec<TypedProgram>, AllocError>
+    requires { (s : ℕ) → s < 256 →
+        IsWellTyped (linked (lowered_of parts.now) size s (linked_ports net.now.links s) (program_of program.now)) }
+    ensures { IfOk result (λ v. map program_of v.items
+        ≡ map (λ s. linked (lowered_of parts.now) size s (linked_ports net.now.links s) (program_of program.now)) (range (length net.now.names))) }
+{
+    let mut programs = Vec::new(alloc);
+    for switch in 0..net.count() {
+        programs.push(linked_switch(alloc, parts, size, net, switch, program)?)?;
+    }
+    Ok(programs)
 }
