@@ -1,0 +1,3 @@
+pub mod BlockLists
+pub mod RootLemmas
+pub mod Built

@@ -1,0 +1,12 @@
+use Rattle.std.proofs.Common.{◌≡◌, ◌∷◌, map, take}
+use Rattle.p4_tree.specs.View.{state_of}
+use Rattle.p4_resolved.specs.Scopes.{roots_in}
+use Rattle.linked_programs.specs.Linked.{first_state, own_state, taken_state}
+use Rattle.linked_trees.proofs.parsers.linked_states.Given as goal
+
+abbrev pub invariant-loop-s : goal.invariant-loop-s
+invariant-loop-s l =
+    map state_of l.states.items
+    ≡ first_state (roots_in l.roots) l.linked_ports
+    ∷ taken_state l.packet (roots_in l.roots) l.size
+    ∷ map (own_state (roots_in l.roots)) (map state_of (take l.s-index l.list))

@@ -1,0 +1,281 @@
+//! The parser of a linked program: it asks how the frame arrived, takes the telemetry where it stands,
+//! and goes on with the program's own states. All new places are 0.
+
+ghost use Rattle.std.specs.Prelude.{◌≡◌, ◌∷◌, [], IfOk, codes, map};
+ghost use Rattle.p4_tree.specs.Tree as p4;
+ghost use Rattle.p4_tree.specs.View.{case_of, expr_of, keyset_of, parser_of, state_of, stmt_of, transition_of};
+ghost use Rattle.p4_meaning.specs.Scope.{param_at, param_name};
+ghost use Rattle.p4_resolved.specs.Scopes.{roots_in};
+ghost use Rattle.linked_halves.specs.ParserStates.{link_cases, own_name, renamed_case, renamed_transition};
+ghost use Rattle.linked_programs.specs.Rewritten.{case_with, keyset_with, length_at, parse_with, transition_with};
+ghost use Rattle.linked_programs.specs.Linked.{first_state, linked_parser, own_state, standard_at, taken_state};
+
+use crate::lengths::{expr_with, exprs_with, length_at};
+use crate::roots::parser_roots;
+use lex_text::Name;
+use p4_resolved::Roots;
+use p4_tree::{Expr, Keyset, Op, Param, Parser, ParserState, Stmt, Transition, copy_params};
+use p4_values::{copy_path, same_text};
+use port_tests::link_cases;
+use small_trees::{assign, at_path, binary, call, number, one_arg, two_names};
+use std::alloc::{AllocError, Global};
+
+/// The program's own first state has another name.
+fn own_name(alloc: Global, x: &Name) -> Result<Name, AllocError>
+    ensures { IfOk result (λ n. n ≡ own_name x.now) }
+{
+    if same_text(x.as_str(), "start") {
+        Name::new(alloc, "hydra_start")
+    } else {
+        x.copy(alloc)
+    }
+}
+
+fn keyset_with(alloc: Global, roots: &Roots, k: &Keyset) -> Result<Keyset, AllocError>
+    ensures { IfOk result (λ t. keyset_of t ≡ keyset_with (roots_in roots.now) (keyset_of k.now)) }
+{
+    match k {
+        Keyset::Any(at) => Ok(Keyset::Any(*at)),
+        Keyset::One(at, e) => Ok(Keyset::One(*at, expr_with(alloc, roots, e)?)),
+        Keyset::Masked(at, e, m) => {
+            let e = expr_with(alloc, roots, e)?;
+            let m = expr_with(alloc, roots, m)?;
+            Ok(Keyset::Masked(*at, e, m))
+        }
+    }
+}
+
+fn keysets_with(alloc: Global, roots: &Roots, list: &[Keyset]) -> Result<Vec<Keyset>, AllocError>
+    ensures { IfOk result (λ v. map keyset_of v.items ≡ map (keyset_with (roots_in roots.now)) (map keyset_of list.now)) }
+{
+    let mut copies = Vec::new(alloc);
+    for k in list {
+        copies.push(keyset_with(alloc, roots, k)?)?;
+    }
+    Ok(copies)
+}
+
+fn own_case(
+    alloc: Global,
+    roots: &Roots,
+    case: &(Vec<Keyset>, Name),
+) -> Result<(Vec<Keyset>, Name), AllocError>
+    ensures { IfOk result (λ c. case_of c ≡ renamed_case (case_with (roots_in roots.now) (case_of case.now))) }
+{
+    let keys = keysets_with(alloc, roots, &case.0)?;
+    let next = own_name(alloc, &case.1)?;
+    Ok((keys, next))
+}
+
+fn own_cases(
+    alloc: Global,
+    roots: &Roots,
+    list: &[(Vec<Keyset>, Name)],
+) -> Result<Vec<(Vec<Keyset>, Name)>, AllocError>
+    ensures { IfOk result (λ v. map case_of v.items
+        ≡ map renamed_case (map (case_with (roots_in roots.now)) (map case_of list.now))) }
+{
+    let mut copies = Vec::new(alloc);
+    for case in list {
+        copies.push(own_case(alloc, roots, case)?)?;
+    }
+    Ok(copies)
+}
+
+fn own_transition(alloc: Global, roots: &Roots, next: &Transition) -> Result<Transition, AllocError>
+    ensures { IfOk result (λ t. transition_of t
+        ≡ renamed_transition (transition_with (roots_in roots.now) (transition_of next.now))) }
+{
+    match next {
+        Transition::None(at) => Ok(Transition::None(*at)),
+        Transition::To(at, name) => Ok(Transition::To(*at, own_name(alloc, name)?)),
+        Transition::Select(at, list, cases) => {
+            let list = exprs_with(alloc, roots, list)?;
+            let cases = own_cases(alloc, roots, cases)?;
+            Ok(Transition::Select(*at, list, cases))
+        }
+    }
+}
+
+/// A statement of a state. What an extract names stays.
+fn parse_with(alloc: Global, roots: &Roots, s: &Stmt) -> Result<Stmt, AllocError>
+    ensures { IfOk result (λ t. stmt_of t ≡ parse_with (roots_in roots.now) (stmt_of s.now)) }
+{
+    match s {
+        Stmt::Assign(at, path, e) => {
+            let path = copy_path(alloc, path)?;
+            let e = expr_with(alloc, roots, e)?;
+            Ok(Stmt::Assign(*at, path, e))
+        }
+        Stmt::Nothing(_) => s.copy(alloc),
+        Stmt::Block(_, _) => s.copy(alloc),
+        Stmt::Var(_, _, _, _) => s.copy(alloc),
+        Stmt::If(_, _, _, _) => s.copy(alloc),
+        Stmt::Return(_) => s.copy(alloc),
+        Stmt::Exit(_) => s.copy(alloc),
+        Stmt::Call(_, _, _) => s.copy(alloc),
+    }
+}
+
+fn body_with(alloc: Global, roots: &Roots, list: &[Stmt]) -> Result<Vec<Stmt>, AllocError>
+    ensures { IfOk result (λ v. map stmt_of v.items ≡ map (parse_with (roots_in roots.now)) (map stmt_of list.now)) }
+{
+    let mut copies = Vec::new(alloc);
+    for s in list {
+        copies.push(parse_with(alloc, roots, s)?)?;
+    }
+    Ok(copies)
+}
+
+/// A state of the program's own.
+fn own_state(alloc: Global, roots: &Roots, s: &ParserState) -> Result<ParserState, AllocError>
+    ensures { IfOk result (λ t. state_of t ≡ own_state (roots_in roots.now) (state_of s.now)) }
+{
+    Ok(ParserState {
+        at: s.at,
+        name: own_name(alloc, &s.name)?,
+        body: body_with(alloc, roots, &s.body)?,
+        next: own_transition(alloc, roots, &s.next)?,
+    })
+}
+
+/// What the packet's length holds, with its telemetry.
+fn whole_length(alloc: Global, roots: &Roots) -> Result<Expr, AllocError>
+    ensures { IfOk result (λ e. expr_of e ≡ p4.path 0 (standard_at (roots_in roots.now) (codes "packet_length"))) }
+{
+    Ok(at_path(two_names(alloc, roots.standard.as_str(), "packet_length")?))
+}
+
+/// The length without telemetry is kept.
+fn length_kept(alloc: Global, roots: &Roots, value: Expr) -> Result<Stmt, AllocError>
+    ensures { IfOk result (λ s. stmt_of s ≡ p4.assign 0 (length_at (roots_in roots.now)) (expr_of value)) }
+{
+    Ok(assign(length_at(alloc, roots)?, value))
+}
+
+/// The port by which the frame came says what follows.
+fn by_port(alloc: Global, roots: &Roots, linked_ports: &[u16]) -> Result<Transition, AllocError>
+    ensures { IfOk result (λ t. transition_of t
+        ≡ p4.select 0 (p4.path 0 (standard_at (roots_in roots.now) (codes "ingress_port")) ∷ []) (link_cases linked_ports.now)) }
+{
+    let mut keys = Vec::new(alloc);
+    keys.push(at_path(two_names(alloc, roots.standard.as_str(), "ingress_port")?))?;
+    let cases = link_cases(alloc, linked_ports)?;
+    Ok(Transition::Select(0, keys, cases))
+}
+
+/// How the frame arrived.
+fn first_state(
+    alloc: Global,
+    roots: &Roots,
+    linked_ports: &[u16],
+) -> Result<ParserState, AllocError>
+    ensures { IfOk result (λ s. state_of s ≡ first_state (roots_in roots.now) linked_ports.now) }
+{
+    let name = Name::new(alloc, "start")?;
+    let mut body = Vec::new(alloc);
+    body.push(length_kept(alloc, roots, whole_length(alloc, roots)?)?)?;
+    let next = by_port(alloc, roots, linked_ports)?;
+    Ok(ParserState {
+        at: 0,
+        name,
+        body,
+        next,
+    })
+}
+
+/// The telemetry, of so many bytes, is taken off the frame, and the length is less by them.
+fn taken_body(
+    alloc: Global,
+    packet: &str,
+    roots: &Roots,
+    size: u16,
+) -> Result<Vec<Stmt>, AllocError>
+    ensures { IfOk result (λ v. map stmt_of v.items ≡ (taken_state packet.now (roots_in roots.now) size).body) }
+{
+    let header = at_path(two_names(alloc, roots.headers.as_str(), "hydra_tele")?);
+    let path = two_names(alloc, packet, "extract")?;
+    let mut body = Vec::new(alloc);
+    body.push(call(path, one_arg(alloc, header)?))?;
+    let less = binary(
+        alloc,
+        Op::Sub,
+        whole_length(alloc, roots)?,
+        number(0, u128::from(size)),
+    )?;
+    body.push(length_kept(alloc, roots, less)?)?;
+    Ok(body)
+}
+
+/// The state that takes the telemetry.
+fn taken_state(
+    alloc: Global,
+    packet: &str,
+    roots: &Roots,
+    size: u16,
+) -> Result<ParserState, AllocError>
+    ensures { IfOk result (λ s. state_of s ≡ taken_state packet.now (roots_in roots.now) size) }
+{
+    let name = Name::new(alloc, "hydra_taken")?;
+    let body = taken_body(alloc, packet, roots, size)?;
+    let next = Transition::To(0, Name::new(alloc, "hydra_start")?);
+    Ok(ParserState {
+        at: 0,
+        name,
+        body,
+        next,
+    })
+}
+
+/// The name of the first parameter.
+fn first_name(params: &[Param]) -> &str
+    ensures { result.now ≡ param_name (param_at params.now 0) }
+{
+    match params.first() {
+        None => "",
+        Some(p) => p.name.as_str(),
+    }
+}
+
+/// How the frame arrived, the telemetry where it stands, and the program's own states.
+fn linked_states(
+    alloc: Global,
+    packet: &str,
+    roots: &Roots,
+    size: u16,
+    linked_ports: &[u16],
+    list: &[ParserState],
+) -> Result<Vec<ParserState>, AllocError>
+    ensures { IfOk result (λ v. map state_of v.items
+        ≡ first_state (roots_in roots.now) linked_ports.now
+        ∷ taken_state packet.now (roots_in roots.now) size
+        ∷ map (own_state (roots_in roots.now)) (map state_of list.now)) }
+{
+    let mut states = Vec::new(alloc);
+    states.push(first_state(alloc, roots, linked_ports)?)?;
+    states.push(taken_state(alloc, packet, roots, size)?)?;
+    for s in list {
+        states.push(own_state(alloc, roots, s)?)?;
+    }
+    Ok(states)
+}
+
+/// The parser of a linked program.
+pub(crate) fn linked_parser(
+    alloc: Global,
+    size: u16,
+    linked_ports: &[u16],
+    d: &Parser,
+) -> Result<Parser, AllocError>
+    ensures { IfOk result (λ p. parser_of p ≡ linked_parser size linked_ports.now (parser_of d.now)) }
+{
+    let roots = parser_roots(alloc, d)?;
+    let packet = first_name(&d.params);
+    let states = linked_states(alloc, packet, &roots, size, linked_ports, &d.states)?;
+    Ok(Parser {
+        at: d.at,
+        name: d.name.copy(alloc)?,
+        params: copy_params(alloc, &d.params)?,
+        states,
+    })
+}

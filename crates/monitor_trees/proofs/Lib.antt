@@ -1,0 +1,10 @@
+pub mod Expressions
+pub mod ReadsUnder
+pub mod BlockUnder
+pub mod LocalsUnder
+pub mod Staged
+pub mod Choices
+pub mod LengthReads
+pub mod Property
+pub mod Rooted
+pub mod Promised

@@ -1,0 +1,5 @@
+-- What callers rest on. To be read in this order.
+pub mod Trees
+-- What serves the proof: scopes in which trees stand, and the law of the code of a block.
+pub mod Stage
+pub mod Code

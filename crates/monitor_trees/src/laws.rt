@@ -1,0 +1,15 @@
+//! Laws of the trees of whole properties.
+
+ghost use Rattle.monitor_trees.specs.Code.{CodeIsWhatRuns};
+ghost use Rattle.monitor_trees.specs.Trees.{TreesAreTheMonitor};
+
+/// Code as it is written is, under a scope in which a control of a linked program stands, the code that
+/// runs.
+pub fn code_is_what_runs()
+    ensures { CodeIsWhatRuns }
+{}
+
+/// The trees of a property are, under the scopes of a linked program's controls, the parts of its monitor.
+pub fn trees_are_the_monitor()
+    ensures { TreesAreTheMonitor }
+{}

@@ -1,0 +1,16 @@
+//! The linker: the linked programs of a network's switches, which are a forwarding program with the
+//! monitor of a property in it.
+//!
+//! The layer above gets `link`, which answers a program for each switch, with the tables of control
+//! variables and the telemetry's layout, or the first of five refusals.
+//!
+//! Follows: "Hydra: Effective Runtime Network Verification", SIGCOMM 2023; P4_16 and v1model, this
+//! project's subset.
+#![tactic(auto)]
+
+mod given;
+mod link;
+mod parts;
+
+pub use link::{Linked, link};
+pub use link_checks::LinkFault;
