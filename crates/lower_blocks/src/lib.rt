@@ -12,5 +12,6 @@ mod lowered;
 mod numbered;
 mod property;
 
+pub use lower_code::Roots;
 pub use lowered::Lowered;
 pub use property::lower;
