@@ -1,16 +1,14 @@
 -- What the rules' scope says of a field is what the program's parts declare.
-use Rattle.std.proofs.Common.{codes, ◌≡◌, ◌⊎◌, inl, inr, ℕ, List, [], ◌∷◌, ◌++◌, map, Bool, true, false, cond, not, ◌||◌, ◌&&◌, refl, sym, ap, ap₂, ◌∙◌, subst, arith}
-use Rattle.std.specs.Prelude.{nat_eq, if◌then◌else◌}
+use Rattle.std.proofs.Common.{codes, ◌≡◌, inl, inr, ℕ, List, [], ◌∷◌, ◌++◌, map, Bool, true, false, cond, not, ◌||◌, refl, sym, ap, ◌∙◌, subst, arith}
 use Rattle.std.proofs.lemmas.Bool.Decides.{nat_tests}
 use Rattle.bit_values.specs.Widths.{sound_width}
-use Rattle.lex_text.specs.Names.{same_text, same_path}
+use Rattle.lex_text.specs.Names.{same_text}
 use Rattle.rule_tests.specs.Tests.{IsFine}
 use Rattle.p4_tree.specs.Tree.{Top, constant, typedef, header_type, struct_type, register, parser, control, Program}
 use Rattle.p4_tree.specs.declared.statement.PTy.{PTy}
 use Rattle.p4_tree.specs.declared.statement.PTy.TheVariants as type
 use Rattle.p4_meaning.specs.Standard.{headers_root, metadata_root, standard_root}
 use Rattle.p4_meaning.specs.Value.{width_of}
-use Rattle.p4_meaning.specs.Parsing.{Field}
 use Rattle.p4_meaning.specs.Scope as meaning
 use Rattle.p4_meaning.specs.Scope.{type_name, type_named, type_under}
 use Rattle.p4_meaning.specs.Under.{no_scope, behind_top, behind_tops}
@@ -18,12 +16,10 @@ use Rattle.p4_meaning.specs.Parts.{types_of, field_of, header_of, struct_fields,
 use Rattle.p4_scopes.specs.Scopes as scope
 use Rattle.p4_scopes.specs.Scopes.{Stands, missing, typed, held, cells, act, rows, state, function, algorithm, other, is_missing, typed_thing, as_typed, scalar_at, type_at, thing_in, field_at, fields_bits, What, alias, fields, value, part, behind, declare, standard_at, Scope, core}
 use Rattle.p4_scopes.specs.Uses.{is_scalar, is_header}
-use Rattle.p4_scopes.specs.declared.kind.Kind.{Kind}
 use Rattle.p4_scopes.specs.declared.kind.Kind.TheVariants.{Number, Truth, Error, Unknown}
 use Rattle.p4_scopes.specs.declared.thing.Thing.{Thing}
 use Rattle.p4_scopes.specs.declared.thing.Thing.TheVariants.{Scalar, Header, Struct, Standard, PacketIn, PacketOut}
 use Rattle.p4_scopes.specs.declared.thing.Access.TheVariants.{Constant}
-use Rattle.p4_scopes.specs.declared.thing.Function.TheVariants.{MarkToDrop, Digest, VerifyChecksum, UpdateChecksum}
 use Rattle.p4_declaration_rules.specs.Declarations.{is_no_field, is_no_number}
 use Rattle.p4_declaration_rules.specs.Controls.{tops_tests, after_top, after_tops}
 use Rattle.p4_rules.specs.Mains.{is_struct, all_fields}
@@ -34,7 +30,7 @@ use Rattle.p4_rule_laws.proofs.RoleFacts.{parts_in_role}
 use Rattle.p4_typing_laws.proofs.Fine.{typed_fine}
 use Rattle.own_code.proofs.Apart.{text_decides}
 use Rattle.own_programs.proofs.Params.{both_hold}
-use Rattle.own_programs.proofs.Programs.{IsAt, first_at, headers_struct, metadata_struct}
+use Rattle.own_programs.proofs.Programs.{first_at, headers_struct, metadata_struct}
 use Rattle.monitor_laws.proofs.Fields.{same_below}
 use Rattle.linked_halves.specs.Widths.{fields_width, headers_width, standard_width, width_at}
 use Rattle.link_faults.specs.HeaderFields.{field_in, is_field_of}

@@ -3,8 +3,6 @@ use Rattle.std.proofs.Common.{◌≡◌, ℕ, List, [], ◌∷◌, ◌++◌, Boo
 use Rattle.std.specs.List.{AllByRecursion}
 use Rattle.bit_values.specs.Widths.{sound_width}
 use Rattle.lex_text.specs.Names.{same_text, parent}
-use Rattle.lex_text.specs.Comments.{begins}
-use Rattle.rule_tests.specs.Tests.{IsFine}
 use Rattle.indus_tree.specs.Tree.{Shape, one, list, set, dict, Decl, Property}
 use Rattle.indus_tree.specs.State.{shape_width}
 use Rattle.indus_tree.specs.Hops.{same_kind}
@@ -19,29 +17,26 @@ use Rattle.indus_types.specs.Views.{header_widths}
 use Rattle.indus_types.proofs.SoundSights.{good_bits}
 use Rattle.indus_types.proofs.Checked.{each_fine}
 use Rattle.flat_laws.proofs.Typed.{IsFineDecl}
-use Rattle.p4_tree.specs.Tree.{Expr, path, valid, Top, Program}
-use Rattle.p4_tree.specs.declared.statement.PTy.{PTy}
-use Rattle.p4_tree.specs.declared.statement.PTy.TheVariants as type
+use Rattle.p4_tree.specs.Tree.{path, valid, Program}
 use Rattle.p4_meaning.specs.Standard.{headers_root, metadata_root, standard_root}
 use Rattle.p4_meaning.specs.Store.{Store}
-use Rattle.p4_meaning.specs.Parts.{struct_fields, parser_type, parser_in, parts_of}
+use Rattle.p4_meaning.specs.Parts.{parts_of}
 use Rattle.p4_meaning.proofs.Words.{sound}
-use Rattle.p4_scopes.specs.Scopes.{Scope, Stands, is_missing, type_at, field_at, standard_at, core}
+use Rattle.p4_scopes.specs.Scopes.{Scope, Stands, is_missing}
 use Rattle.p4_rules.specs.ProgramRules.{program_scope, IsWellTyped}
-use Rattle.own_code.specs.Regions.{is_mine, is_free}
+use Rattle.own_code.specs.Regions.{is_free}
 use Rattle.own_code.proofs.Apart.{text_decides}
-use Rattle.exit_programs.specs.Programs.{program_without}
 use Rattle.exit_programs.specs.Without.{parts_without}
 use Rattle.exit_programs.proofs.Agreed.{parts_agree}
 use Rattle.exit_lowering.proofs.Places.{verify_stays, compute_stays, deparser_stays}
 use Rattle.monitor_laws.specs.Names.{is_long}
 use Rattle.monitor_laws.specs.MonitorLaws.{IsView}
-use Rattle.linked_halves.specs.Widths.{HasWidths, width_at, IsViewOf, AreViewsOf}
+use Rattle.linked_halves.specs.Widths.{HasWidths, IsViewOf, AreViewsOf}
 use Rattle.lowered_code.specs.Environment.{view_of}
 use Rattle.whole_properties.specs.Whole.{view_in, views_in}
 use Rattle.whole_monitor.proofs.Views.{fields_give_views}
 use Rattle.link_faults.specs.Refusals.{Refusal, or_else}
-use Rattle.link_faults.specs.HeaderFields.{field_in, header_path, asked_path, is_field_of, fits, field_fault, decl_fault, fields_fault}
+use Rattle.link_faults.specs.HeaderFields.{field_in, header_path, asked_path, is_field_of, fits, field_fault, fields_fault}
 use Rattle.faultless_programs.specs.FieldPaths.{IsFieldPath}
 use Rattle.faultless_programs.specs.FoundViews.{FoundViewsFit, FoundViewsAreOwn}
 use Rattle.link_faults.proofs.Taken.{none_is_taken}

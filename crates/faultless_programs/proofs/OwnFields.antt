@@ -1,17 +1,17 @@
 -- What is found in a program in which no name is taken are its own fields and headers.
-use Rattle.std.proofs.Common.{◌≡◌, ℕ, List, [], ◌∷◌, Bool, true, false, not, cond, ◌&&◌, ◌||◌, ◌⊎◌, codes, inl, inr, refl, sym, ap, ap₂, ◌∙◌, subst}
+use Rattle.std.proofs.Common.{◌≡◌, ℕ, List, [], ◌∷◌, Bool, true, false, not, cond, ◌&&◌, ◌||◌, codes, inl, inr, refl, sym, ap, ap₂, ◌∙◌, subst}
 use Rattle.lex_text.specs.Names.{same_text}
 use Rattle.lex_text.specs.Comments.{begins}
 use Rattle.p4_tree.specs.Tree.{Top, constant, typedef, header_type, struct_type, register, parser, control, Program}
 use Rattle.p4_tree.specs.declared.statement.PTy.{PTy}
 use Rattle.p4_meaning.specs.Standard.{headers_root, metadata_root, standard_root}
 use Rattle.p4_meaning.specs.Parts.{struct_fields, parser_type, parser_in}
-use Rattle.p4_scopes.specs.Scopes.{Stands, missing, typed, Scope, is_missing, type_at, field_at, standard_at, core}
+use Rattle.p4_scopes.specs.Scopes.{missing, typed, Scope, is_missing, type_at, field_at, standard_at, core}
 use Rattle.p4_scopes.specs.declared.kind.Kind.TheVariants.{Number, Error}
 use Rattle.p4_scopes.specs.declared.thing.Thing.TheVariants.{Scalar}
 use Rattle.p4_declaration_rules.specs.Controls.{after_tops}
 use Rattle.p4_rules.specs.ProgramRules.{program_scope, IsWellTyped}
-use Rattle.p4_rule_laws.specs.Old.{Names, OldFields}
+use Rattle.p4_rule_laws.specs.Old.{OldFields}
 use Rattle.p4_rule_laws.specs.OldPrograms.{OldTops}
 use Rattle.p4_rule_laws.proofs.KeepsLemmas.{after_tops_keeps}
 use Rattle.p4_typing_laws.proofs.Fine.{typed_fine}

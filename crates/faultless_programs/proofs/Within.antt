@@ -1,10 +1,8 @@
 -- Room and weight keep linked programs within the limits of a switch.
-use Rattle.std.proofs.Common.{◌≡◌, ℕ, ◌≤◌, ◌/◌, ◌+◌, min, List, [], ◌∷◌, ◌++◌, arith, refl, sym, ap, ◌∙◌, subst}
-use Rattle.indus_tree.specs.Tree.{Property}
+use Rattle.std.proofs.Common.{◌≡◌, ℕ, ◌≤◌, ◌/◌, ◌+◌, [], ◌∷◌, ◌++◌, arith, sym, subst}
 use Rattle.indus_types.specs.Sums.{property_bits, property_weight}
 use Rattle.tele_layout.specs.Telemetry.{whole_bytes}
 use Rattle.p4_parser_states.specs.Laws.{ReachesIsExact}
-use Rattle.p4_tree.specs.Tree.{Program}
 use Rattle.p4_rules.specs.Limits.{header_bytes, most_of_program, add_cells, tops_cells, cells}
 use Rattle.p4_rules.specs.ProgramRules.{program_scope}
 use Rattle.p4_rule_laws.proofs.LimitsGrow.{cells_add}
@@ -12,7 +10,12 @@ use Rattle.exit_rules.proofs.WellTyped.{bytes_same, cells_same, digests_same}
 use Rattle.linked_programs.specs.Lowered.{Lowered}
 use Rattle.linked_programs.specs.Linked.{front, switch_top}
 use Rattle.linked_rules.proofs.LinkedFine.{linked_within}
-use Rattle.faultless_programs.specs.Within.{LeavesRoom, RoomStays, IsCounted, IsWithin, RoomSuffices, LinkedInRoom}
+use Rattle.exit_programs.specs.Programs.{program_without}
+use Rattle.tree_linkage.proofs.Theorem.{is_given_without_exits}
+use Rattle.link_faults.proofs.Taken.{none_is_taken}
+use Rattle.link_faults.proofs.NoFault.{no_fault_says}
+use Rattle.faultless_programs.specs.Within.{RoomStays, RoomSuffices, LinkedInRoom, FaultlessIsWellTyped}
+use Rattle.faultless_programs.proofs.Given.{no_fault_can_link}
 
 pub room_stays : RoomStays
 room_stays p well given room =
@@ -30,7 +33,7 @@ front_cells l s = at (tops_cells (l.tops ++ switch_top s ∷ [])) (tops_cells l.
     at a b e = omega (arith, e)
 
 pub room_suffices : RoomSuffices
-room_suffices l bits e x s p property room leaves counted small fits light =
+room_suffices l bits e x s p leaves property room counted small fits light =
     record {
       bytes = sum (bits / 8) (whole_bytes (property_bits property)) (header_bytes (program_scope p) p) room counted.bytes fits small leaves.bytes;
       digests = few (e + x) (property_weight property) (most_of_program p) counted.digests light leaves.digests;
@@ -47,6 +50,13 @@ room_suffices l bits e x s p property room leaves counted small fits light =
     many a b c d h i j k = omega (arith, h, i, j, k)
 
 pub linked_in_room : ReachesIsExact → LinkedInRoom
-linked_in_room exact l p g leaves k passes low_tops low_entry low_exit e x tells property room counted small fits light size s links few =
-    let is = room_suffices l passes.bits e x s p property room leaves counted small fits light in
-    linked_within exact l p g k passes low_tops low_entry low_exit size s links few e x tells is.bytes is.digests is.cells
+linked_in_room exact l p g leaves k rules e x tells property room counted small fits light size s links few =
+    let is = room_suffices l rules.passes.bits e x s p leaves property room counted small fits light in
+    linked_within exact l p g k rules size s links few e x tells is.bytes is.digests is.cells
+
+pub faultless_is_well_typed : ReachesIsExact → FaultlessIsWellTyped
+faultless_is_well_typed exact f well spelled two leaves property room small none l k rules e x tells counted size s links few =
+    let no = (no_fault_says f property room).0 none in
+    let given = none_is_taken f no.names in
+    linked_in_room exact l (program_without f) (is_given_without_exits f (no_fault_can_link f well spelled two no.names)) (room_stays f well given leaves)
+    k rules e x tells property room counted small no.room no.weight size s links few

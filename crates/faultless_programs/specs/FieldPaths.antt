@@ -18,5 +18,5 @@ IsFieldPath _ = ⊥
 -- a number of w bits is found where the program declares a field of w bits
 abbrev pub FoundFieldsAreDeclared : Type 0
 FoundFieldsAreDeclared =
-    (p : Program) → IsWellTyped p → (w : ℕ) → sound_width w ≡ w → (q : List (List ℕ)) → IsFieldPath q
-    → is_field_of w (field_in (program_scope p) p q) ≡ true → width_at (parts_of p) q ≡ w
+    (p : Program) → IsWellTyped p → (w : ℕ) → sound_width w ≡ w → (q : List (List ℕ)) → IsFieldPath q →
+    is_field_of w (field_in (program_scope p) p q) ≡ true → width_at (parts_of p) q ≡ w

@@ -20,11 +20,13 @@ use Rattle.link_faults.specs.WrittenNames.{names_of_program, first_taken}
 -- keeps to what it declares, as the law of linkage asks
 abbrev pub FoundViewsFit : Type 0
 FoundViewsFit =
-    (g : Given) → indus.IsWellTyped g.property → (f : Program) → IsWellTyped f → fields_fault (program_scope f) f g.property.decls ≡ None
-    → first_taken (names_of_program f) ≡ None → (s : Store) → HasWidths (parts_of (program_without f)) s → FitsView g (view_of (lower_monitor g).views s)
+    (g : Given) → indus.IsWellTyped g.property → (f : Program) → IsWellTyped f →
+    fields_fault (program_scope f) f g.property.decls ≡ None → first_taken (names_of_program f) ≡ None →
+    (s : Store) → HasWidths (parts_of (program_without f)) s → FitsView g (view_of (lower_monitor g).views s)
 
 -- and they read the program's own fields and headers, none that a monitor adds
 abbrev pub FoundViewsAreOwn : Type 0
 FoundViewsAreOwn =
-    (g : Given) → indus.IsWellTyped g.property → (f : Program) → IsWellTyped f → fields_fault (program_scope f) f g.property.decls ≡ None
-    → first_taken (names_of_program f) ≡ None → AllByRecursion IsView (lower_monitor g).views
+    (g : Given) → indus.IsWellTyped g.property → (f : Program) → IsWellTyped f →
+    fields_fault (program_scope f) f g.property.decls ≡ None → first_taken (names_of_program f) ≡ None →
+    AllByRecursion IsView (lower_monitor g).views

@@ -1,7 +1,7 @@
--- Room and weight keep linked programs within the limits of a switch. Read `Limits` of `p4_rules`, `Digests` of
+-- Room and weight keep linked programs within the limits of a switch. Read `Limits` of `p4_rules`, `Fine` of
 -- `linked_rules` and `Sums` of `indus_types` before it.
-use Rattle.std.specs.Prelude.{◌≡◌, ℕ, ◌<◌, ◌≤◌, ◌^◌, ◌/◌, ◌+◌, List}
-use Rattle.std.specs.List.{AllByRecursion}
+use Rattle.std.specs.Prelude.{◌≡◌, ℕ, ◌<◌, ◌≤◌, ◌^◌, ◌/◌, ◌+◌, List, false, None}
+use Rattle.lex_text.specs.Names.{same_text}
 use Rattle.indus_tree.specs.Tree.{Property}
 use Rattle.indus_types.specs.Sums.{property_bits, property_weight}
 use Rattle.tele_layout.specs.Telemetry.{whole_bytes}
@@ -9,14 +9,14 @@ use Rattle.lower_lists.specs.FlatProperty.{greatest_weight}
 use Rattle.p4_tree.specs.Tree.{Program}
 use Rattle.p4_rules.specs.Limits.{header_bytes, most_of_program, tops_cells, cells}
 use Rattle.p4_rules.specs.ProgramRules.{program_scope, IsWellTyped}
+use Rattle.p4_printer.specs.CanSpell.{CanSpell}
 use Rattle.exit_programs.specs.Programs.{program_without}
 use Rattle.exit_programs.specs.Names.{HasGivenNames}
 use Rattle.linked_programs.specs.Lowered.{Lowered}
-use Rattle.linked_programs.specs.Linked.{control_roots, headers_type, metadata_type, front, linked}
-use Rattle.linked_programs.specs.Gives.{IsLoweredTop, IsLoweredLocal}
+use Rattle.linked_programs.specs.Linked.{headers_type, metadata_type, front, linked}
 use Rattle.linked_hosts.specs.Linkable.{IsGiven, Linkable}
-use Rattle.linked_rules.specs.Passes.{Passes}
-use Rattle.linked_rules.specs.Digests.{Tells}
+use Rattle.linked_rules.specs.Promises.{KeepsRules, TellsIn}
+use Rattle.link_faults.specs.Faults.{link_fault}
 
 -- a forwarding program leaves room for a monitor: bytes of headers, digests of a passage, and cells of registers
 pub record LeavesRoom (p : Program) : Type 0 where
@@ -44,14 +44,25 @@ pub record IsWithin (l : Lowered) (bits e x s : ℕ) (p : Program) : Type 0 wher
 -- where the property fits a room of at most 256 bytes and is not too large
 abbrev pub RoomSuffices : Type 0
 RoomSuffices =
-    (l : Lowered) (bits e x s : ℕ) (p : Program) (property : Property) (room : ℕ) → LeavesRoom p → IsCounted l bits e x property
-    → room ≤ 256 → whole_bytes (property_bits property) ≤ room → property_weight property ≤ greatest_weight → IsWithin l bits e x s p
+    (l : Lowered) (bits e x s : ℕ) (p : Program) → LeavesRoom p →
+    (property : Property) (room : ℕ) → IsCounted l bits e x property →
+    room ≤ 256 → whole_bytes (property_bits property) ≤ room → property_weight property ≤ greatest_weight →
+    IsWithin l bits e x s p
 
 -- and so each linked program is well typed
 abbrev pub LinkedInRoom : Type 0
 LinkedInRoom =
-    (l : Lowered) (p : Program) → IsGiven p → LeavesRoom p → (k : Linkable p) (passes : Passes l (program_scope p) (headers_type p) (metadata_type p) (control_roots k.ingress) (control_roots k.egress))
-    → AllByRecursion IsLoweredTop l.tops → AllByRecursion IsLoweredLocal l.entry_locals → AllByRecursion IsLoweredLocal l.exit_locals
-    → (e x : ℕ) → Tells l (program_scope p) (headers_type p) (metadata_type p) (control_roots k.ingress) (control_roots k.egress) e x
-    → (property : Property) (room : ℕ) → IsCounted l passes.bits e x property → room ≤ 256 → whole_bytes (property_bits property) ≤ room → property_weight property ≤ greatest_weight
-    → (size s : ℕ) (links : List ℕ) → s < 2 ^ 16 → IsWellTyped (linked l size s links p)
+    (l : Lowered) (p : Program) → IsGiven p → LeavesRoom p →
+    (k : Linkable p) (rules : KeepsRules l p k) (e x : ℕ) → TellsIn l p k e x →
+    (property : Property) (room : ℕ) → IsCounted l rules.passes.bits e x property →
+    room ≤ 256 → whole_bytes (property_bits property) ≤ room → property_weight property ≤ greatest_weight →
+    (size s : ℕ) (links : List ℕ) → s < 2 ^ 16 → IsWellTyped (linked l size s links p)
+
+-- so it is of each program without fault, what is linked of it having no exits
+abbrev pub FaultlessIsWellTyped : Type 0
+FaultlessIsWellTyped =
+    (f : Program) → IsWellTyped f → CanSpell f → same_text (headers_type f) (metadata_type f) ≡ false → LeavesRoom f →
+    (property : Property) (room : ℕ) → room ≤ 256 → link_fault f property room ≡ None →
+    (l : Lowered) (k : Linkable (program_without f)) (rules : KeepsRules l (program_without f) k) (e x : ℕ) →
+    TellsIn l (program_without f) k e x → IsCounted l rules.passes.bits e x property →
+    (size s : ℕ) (links : List ℕ) → s < 2 ^ 16 → IsWellTyped (linked l size s links (program_without f))

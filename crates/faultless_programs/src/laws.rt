@@ -2,14 +2,14 @@
 
 ghost use Rattle.faultless_programs.specs.FieldPaths.{FoundFieldsAreDeclared};
 ghost use Rattle.faultless_programs.specs.FoundViews.{FoundViewsAreOwn, FoundViewsFit};
-ghost use Rattle.faultless_programs.specs.Given.{NoFaultIsGiven};
-ghost use Rattle.faultless_programs.specs.Within.{LinkedInRoom, RoomStays, RoomSuffices};
+ghost use Rattle.faultless_programs.specs.Given.{NoFaultCanLink};
+ghost use Rattle.faultless_programs.specs.Within.{FaultlessIsWellTyped, LinkedInRoom, RoomStays, RoomSuffices};
 
 use p4_parser_states::laws::reaches_is_exact;
 
-/// Of a program in which no name is taken, the one without exits is linked, and forwarding.
-pub fn no_fault_is_given()
-    ensures { NoFaultIsGiven }
+/// A program in which no name is taken can be linked.
+pub fn no_fault_can_link()
+    ensures { NoFaultCanLink }
 {}
 
 /// A field that is found with a width is one that the program declares with it.
@@ -41,6 +41,13 @@ pub fn room_suffices()
 /// So each linked program is well typed.
 pub fn linked_in_room()
     ensures { LinkedInRoom }
+{
+    reaches_is_exact();
+}
+
+/// Each linked program of a program without fault is well typed.
+pub fn faultless_is_well_typed()
+    ensures { FaultlessIsWellTyped }
 {
     reaches_is_exact();
 }

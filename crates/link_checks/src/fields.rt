@@ -1,11 +1,13 @@
 //! Whether a program has what header variables read.
 
-ghost use Rattle.std.specs.Prelude.{◌≡◌, ◌∷◌, [], IfErr, IfOk, None, map};
+ghost use Rattle.std.specs.Prelude.{◌≡◌, ◌∷◌, [], codes, if◌then◌else◌, IfErr, IfOk, None, map};
 ghost use Rattle.indus_tree.specs.Hops.{same_kind};
 ghost use Rattle.indus_tree.specs.View.{decl_of};
 ghost use Rattle.indus_tree.specs.declared.tree.DeclKind.TheVariants as decl_kind;
 ghost use Rattle.p4_tree.specs.View.{program_of};
 ghost use Rattle.p4_meaning.specs.Parts.{parser_in, parser_type};
+ghost use Rattle.lex_text.specs.Names.{same_text};
+ghost use Rattle.p4_scopes.specs.Scopes.{missing};
 ghost use Rattle.p4_scopes.specs.View.{scope_of, stands_of};
 ghost use Rattle.p4_rules.specs.ProgramRules.{program_scope};
 ghost use Rattle.link_faults.specs.HeaderFields.{asked_path, decl_fault, dotted, field_fault, field_in, fields_fault, fits, is_field_of, is_header, is_number_of};
@@ -51,6 +53,23 @@ fn found_in<'s>(
     Ok(scope.find(&whole))
 }
 
+/// What stands in the standard metadata, where that is the root.
+fn standard_field<'s>(
+    alloc: Global,
+    scope: &'s Scope,
+    root: &Name,
+    path: &[Name],
+) -> Result<Stands<'s>, AllocError>
+    ensures { IfOk result (λ st. stands_of st
+        ≡ if same_text root.now (codes "standard_metadata") then scope_of scope.now (codes "standard_metadata_t" ∷ path.now) else missing) }
+{
+    if same_text(root.as_str(), "standard_metadata") {
+        found_in(alloc, scope, "standard_metadata_t", path)
+    } else {
+        Ok(Stands::Missing)
+    }
+}
+
 /// What the program has at a path of a property.
 fn field_in<'s>(
     alloc: Global,
@@ -68,10 +87,8 @@ fn field_in<'s>(
                 found_in(alloc, scope, struct_at(program, 1), rest)
             } else if same_text(root.as_str(), "meta") {
                 found_in(alloc, scope, struct_at(program, 2), rest)
-            } else if same_text(root.as_str(), "standard_metadata") {
-                found_in(alloc, scope, "standard_metadata_t", rest)
             } else {
-                Ok(Stands::Missing)
+                standard_field(alloc, scope, root, rest)
             }
         }
     }
@@ -120,21 +137,26 @@ fn fits(d: &Decl, st: &Stands) -> bool
     }
 }
 
-/// A path as it is written.
+/// A name, and then each other behind a point.
 #[tactic(auto, using(crate::proofs::Dots::dotted_tail))]
+fn dotted_from(alloc: Global, first: &Name, rest: &[Name]) -> Result<Name, AllocError>
+    ensures { IfOk result (λ x. x ≡ dotted (first.now ∷ rest.now)) }
+{
+    let mut text = String::from_str(alloc, first.as_str())?;
+    for name in rest {
+        text.push_str(".")?;
+        text.push_str(name.as_str())?;
+    }
+    Name::new(alloc, text.as_str())
+}
+
+/// A path as it is written.
 fn dotted(alloc: Global, path: &[Name]) -> Result<Name, AllocError>
     ensures { IfOk result (λ x. x ≡ dotted path.now) }
 {
     match path {
         [] => Name::new(alloc, ""),
-        [first, rest @ ..] => {
-            let mut text = String::from_str(alloc, first.as_str())?;
-            for name in rest {
-                text.push_str(".")?;
-                text.push_str(name.as_str())?;
-            }
-            Name::new(alloc, text.as_str())
-        }
+        [first, rest @ ..] => dotted_from(alloc, first, rest),
     }
 }
 

@@ -1,16 +1,17 @@
 //! Which name of some is taken, the first.
 
-ghost use Rattle.std.specs.Prelude.{◌≡◌, ◌∷◌, []};
-ghost use Rattle.link_faults.specs.Refusals.{or_else};
-ghost use Rattle.link_faults.specs.WrittenNames.{first_taken};
+ghost use Rattle.std.specs.Prelude.{◌≡◌, ◌∷◌, ◌++◌, []};
+ghost use Rattle.link_faults.specs.WrittenNames.{Names, first_taken};
 ghost use Rattle.link_checks.specs.View.{text_of};
 
 use lex_text::Name;
 use p4_values::same_text;
 
-/// The first that is there.
+/// The first that is there. So of the names of two parts it is the first that is taken, where the two are
+/// those of the parts.
 pub(crate) fn first<'a>(a: Option<&'a str>, b: Option<&'a str>) -> Option<&'a str>
-    ensures { text_of result ≡ or_else (text_of a.entry) (text_of b.entry) }
+    ensures { (x y : Names) → text_of a.entry ≡ first_taken x → text_of b.entry ≡ first_taken y
+        → text_of result ≡ first_taken (x ++ y) }
 {
     match a {
         Some(_) => a,

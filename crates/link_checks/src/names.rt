@@ -1,11 +1,11 @@
 //! Taken names of types, expressions and statements.
 
-ghost use Rattle.std.specs.Prelude.{◌≡◌, ◌∷◌, [], map};
+ghost use Rattle.std.specs.Prelude.{◌≡◌, ◌∷◌, ◌++◌, [], codes, map};
 ghost use Rattle.std.specs.Option.{option_map};
+ghost use Rattle.p4_tree.specs.Tree.{one};
 ghost use Rattle.p4_tree.specs.View.{arg_of, else_of, expr_of, stmt_of, stmts_of};
 ghost use Rattle.p4_meaning.specs.Statements.{receiver_of};
-ghost use Rattle.link_faults.specs.Refusals.{or_else};
-ghost use Rattle.link_faults.specs.WrittenNames.{first_taken, names_of_arg, names_of_args, names_of_else, names_of_expr, names_of_exprs, names_of_start, names_of_stmt, names_of_stmts, names_of_type, receiver_names};
+ghost use Rattle.link_faults.specs.WrittenNames.{Names, first_taken, names_of_arg, names_of_args, names_of_else, names_of_expr, names_of_exprs, names_of_start, names_of_stmt, names_of_stmts, names_of_type, receiver_names};
 ghost use Rattle.link_checks.specs.View.{text_of};
 
 use crate::first::{first, in_name, in_names};
@@ -24,7 +24,6 @@ pub(crate) fn in_type(ty: &PTy) -> Option<&str>
     }
 }
 
-#[tactic(auto, using(crate::proofs::Firsts::taken_both))]
 pub(crate) fn in_expr(e: &Expr) -> Option<&str>
     ensures { text_of result ≡ first_taken (names_of_expr (expr_of e.now)) }
 {
@@ -74,22 +73,54 @@ fn receiver_of(n: &Literal) -> u32
     number.cast(32).value as u32
 }
 
+/// The digits of the receiver of reports, where the expression is that number.
+fn receiver_in(e: &Expr) -> Option<&'static str>
+    ensures { text_of result ≡ first_taken (receiver_names (codes "digest" ∷ []) (one 0 (expr_of e.now) ∷ [])) }
+{
+    match e {
+        Expr::Num(_, n) => {
+            if receiver_of(n) == 1_213_809_746 {
+                Some("1213809746")
+            } else {
+                None
+            }
+        }
+        Expr::Flag(_, _) | Expr::Path(_, _) | Expr::Valid(_, _) | Expr::Applied(_, _, _) => None,
+        Expr::ErrorName(_, _) | Expr::Not(_, _) | Expr::Invert(_, _) | Expr::Negate(_, _) => None,
+        Expr::Bin(_, _, _, _) | Expr::Choice(_, _, _, _) => None,
+        Expr::Slice(_, _, _, _) | Expr::Cast(_, _, _) => None,
+    }
+}
+
+/// The same of the first argument of `digest`.
+fn receiver_of_digest(args: &[Arg]) -> Option<&'static str>
+    ensures { text_of result ≡ first_taken (receiver_names (codes "digest" ∷ []) (map arg_of args.now)) }
+{
+    match args {
+        [] => None,
+        [first, _rest @ ..] => match first {
+            Arg::One(_, e) => receiver_in(e),
+            Arg::Many(_, _) => None,
+        },
+    }
+}
+
 /// The digits of the receiver of reports, where a call tells it a digest.
 fn receiver(callee: &[Name], args: &[Arg]) -> Option<&'static str>
     ensures { text_of result ≡ first_taken (receiver_names callee.now (map arg_of args.now)) }
 {
     match callee {
-        [x] => match args {
-            [Arg::One(_, Expr::Num(_, n)), ..] => {
-                if same_text(x.as_str(), "digest") && receiver_of(n) == 1_213_809_746 {
-                    Some("1213809746")
+        [] => None,
+        [x, more @ ..] => match more {
+            [] => {
+                if same_text(x.as_str(), "digest") {
+                    receiver_of_digest(args)
                 } else {
                     None
                 }
             }
-            _ => None,
+            [_second, _others @ ..] => None,
         },
-        _ => None,
     }
 }
 
@@ -115,15 +146,14 @@ fn in_args(args: &[Arg]) -> Option<&str>
 }
 
 /// A variable or a constant.
-#[tactic(auto, using(crate::proofs::Firsts::taken_both))]
 pub(crate) fn in_var<'a>(ty: &'a PTy, x: &'a Name, start: Option<&'a str>) -> Option<&'a str>
-    ensures { text_of result ≡ or_else (first_taken (names_of_type ty.now)) (or_else (first_taken (x.now ∷ [])) (text_of start.entry)) }
+    ensures { (ns : Names) → text_of start.entry ≡ first_taken ns
+        → text_of result ≡ first_taken (names_of_type ty.now ++ x.now ∷ ns) }
 {
     first(in_type(ty), first(in_name(x), start))
 }
 
 #[cycle(in_stmts)]
-#[tactic(auto, using(crate::proofs::Firsts::taken_both))]
 fn in_stmt(s: &Stmt) -> Option<&str>
     ensures { text_of result ≡ first_taken (names_of_stmt (stmt_of s.now)) }
 {

@@ -49,6 +49,7 @@ fn check_weight(alloc: Global, p: &TypedProperty) -> Result<FlatProperty, LinkFa
 /// # Errors
 ///
 /// The refusal that there is, and none where there is none; else `NoMemory` alone.
+#[tactic(auto, using(crate::proofs::Orders::refused_first, crate::proofs::Orders::refused_then, crate::proofs::Orders::none_then))]
 pub fn check_link(
     alloc: Global,
     f: &Program,

@@ -19,7 +19,6 @@ use p4_tree::{
 };
 use std::alloc::Global;
 
-#[tactic(auto, using(crate::proofs::Firsts::taken_both))]
 fn in_fields(fields: &[(PTy, Name)]) -> Option<&str>
     ensures { text_of result ≡ first_taken (names_of_fields fields.now) }
 {
@@ -32,7 +31,6 @@ fn in_fields(fields: &[(PTy, Name)]) -> Option<&str>
     None
 }
 
-#[tactic(auto, using(crate::proofs::Firsts::taken_both))]
 fn in_params(params: &[Param]) -> Option<&str>
     ensures { text_of result ≡ first_taken (names_of_params params.now) }
 {
@@ -45,7 +43,6 @@ fn in_params(params: &[Param]) -> Option<&str>
     None
 }
 
-#[tactic(auto, using(crate::proofs::Firsts::taken_both))]
 fn in_keyset(k: &Keyset) -> Option<&str>
     ensures { text_of result ≡ first_taken (names_of_keyset (keyset_of k.now)) }
 {
@@ -68,7 +65,6 @@ fn in_keysets(list: &[Keyset]) -> Option<&str>
     None
 }
 
-#[tactic(auto, using(crate::proofs::Firsts::taken_both))]
 fn in_cases(list: &[(Vec<Keyset>, Name)]) -> Option<&str>
     ensures { text_of result ≡ first_taken (names_of_cases (map case_of list.now)) }
 {
@@ -81,7 +77,6 @@ fn in_cases(list: &[(Vec<Keyset>, Name)]) -> Option<&str>
     None
 }
 
-#[tactic(auto, using(crate::proofs::Firsts::taken_both))]
 fn in_transition(next: &Transition) -> Option<&str>
     ensures { text_of result ≡ first_taken (names_of_transition (transition_of next.now)) }
 {
@@ -92,7 +87,6 @@ fn in_transition(next: &Transition) -> Option<&str>
     }
 }
 
-#[tactic(auto, using(crate::proofs::Firsts::taken_both))]
 fn in_state(s: &ParserState) -> Option<&str>
     ensures { text_of result ≡ first_taken (names_of_states (state_of s.now ∷ [])) }
 {
@@ -114,7 +108,6 @@ fn in_states(list: &[ParserState]) -> Option<&str>
     None
 }
 
-#[tactic(auto, using(crate::proofs::Firsts::taken_both))]
 fn in_keys(keys: &[(Expr, Name)]) -> Option<&str>
     ensures { text_of result ≡ first_taken (names_of_keys (map key_of keys.now)) }
 {
@@ -127,7 +120,6 @@ fn in_keys(keys: &[(Expr, Name)]) -> Option<&str>
     None
 }
 
-#[tactic(auto, using(crate::proofs::Firsts::taken_both))]
 fn in_default(default: &Option<(Name, Vec<Expr>)>) -> Option<&str>
     ensures { text_of result ≡ first_taken (names_of_default (option_map default_of default.now)) }
 {
@@ -137,7 +129,6 @@ fn in_default(default: &Option<(Name, Vec<Expr>)>) -> Option<&str>
     }
 }
 
-#[tactic(auto, using(crate::proofs::Firsts::taken_both))]
 fn in_action(a: &Action) -> Option<&str>
     ensures { text_of result ≡ first_taken (names_of_local (local_action 0 (action_of a.now))) }
 {
@@ -147,7 +138,6 @@ fn in_action(a: &Action) -> Option<&str>
     )
 }
 
-#[tactic(auto, using(crate::proofs::Firsts::taken_both))]
 fn in_table(t: &Table) -> Option<&str>
     ensures { text_of result ≡ first_taken (names_of_local (local_table 0 (table_of t.now))) }
 {
@@ -158,7 +148,6 @@ fn in_table(t: &Table) -> Option<&str>
     first(in_name(&t.name), lists)
 }
 
-#[tactic(auto, using(crate::proofs::Firsts::taken_both))]
 fn in_register(r: &Register) -> Option<&str>
     ensures { text_of result ≡ first_taken (names_of_local (local_register 0 r.now)) }
 {
@@ -189,7 +178,6 @@ fn in_locals(list: &[Local]) -> Option<&str>
     None
 }
 
-#[tactic(auto, using(crate::proofs::Firsts::taken_both))]
 fn in_parser(d: &Parser) -> Option<&str>
     ensures { text_of result ≡ first_taken (names_of_top (parser 0 (parser_of d.now))) }
 {
@@ -199,7 +187,6 @@ fn in_parser(d: &Parser) -> Option<&str>
     )
 }
 
-#[tactic(auto, using(crate::proofs::Firsts::taken_both))]
 fn in_control(c: &Control) -> Option<&str>
     ensures { text_of result ≡ first_taken (names_of_top (control 0 (control_of c.now))) }
 {
@@ -207,7 +194,6 @@ fn in_control(c: &Control) -> Option<&str>
     first(in_name(&c.name), first(in_params(&c.params), body))
 }
 
-#[tactic(auto, using(crate::proofs::Firsts::taken_both))]
 fn in_top(top: &Top) -> Option<&str>
     ensures { text_of result ≡ first_taken (names_of_top (top_of top.now)) }
 {
@@ -235,7 +221,6 @@ fn in_tops(tops: &[Top]) -> Option<&str>
 }
 
 /// The first name of a program that is taken, in the order of its text.
-#[tactic(auto, using(crate::proofs::Firsts::taken_both))]
 fn taken_name(program: &Program) -> Option<&str>
     ensures { text_of result ≡ first_taken (names_of_program (program_of program.now)) }
 {

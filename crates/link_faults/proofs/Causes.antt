@@ -1,5 +1,5 @@
 -- Each refusal is given exactly where it has its cause.
-use Rattle.std.proofs.Common.{◌≡◌, ◌↔◌, ◌⊎◌, inl, inr, ℕ, ◌<◌, ◌≤◌, List, [], ◌∷◌, ◌++◌, Bool, true, false, cond, Option, Some, None, nat_lt, le-ltb, refl, sym, ap, ◌∙◌, subst}
+use Rattle.std.proofs.Common.{◌≡◌, ◌⊎◌, inl, inr, ℕ, List, [], ◌∷◌, ◌++◌, Bool, true, false, cond, Option, Some, None, nat_lt, le-ltb, refl, sym, ap, ◌∙◌, subst}
 use Rattle.std.proofs.lemmas.Bool.{ltb-true, ltb-false, lt-ltb}
 use Rattle.std.specs.List.{AllByRecursion}
 use Rattle.std.specs.Option.{option_map}
@@ -16,7 +16,7 @@ use Rattle.link_faults.specs.Refusals.{Refusal, no_such_field, field_width, name
 use Rattle.link_faults.specs.HeaderFields.{fits, dotted, decl_fault, fields_fault}
 use Rattle.link_faults.specs.WrittenNames.{Names, names_of_program, is_taken, first_taken}
 use Rattle.link_faults.specs.Faults.{taken_fault, room_fault, weight_fault, link_fault}
-use Rattle.link_faults.specs.Causes.{found, IsUnknown, IsMisfit, Fits, IsFirst, IsFirstTaken, AllFit, NoneTaken, IsShort, IsLarge, HasCause, FaultsHaveCauses}
+use Rattle.link_faults.specs.Causes.{found, IsUnknown, IsMisfit, Fits, IsFirst, IsFirstTaken, AllFit, NoneTaken, HasCause, FaultsHaveCauses}
 
 no_case : {A : Type 0} → true ≡ false → A
 no_case e = absurd (cc)

@@ -1,5 +1,5 @@
 -- What is in sight where no name before is taken: paths of names that are not taken.
-use Rattle.std.proofs.Common.{◌≡◌, ℕ, List, [], ◌∷◌, Bool, true, false, cond, not, ◌&&◌, ◌||◌, codes, refl, sym, ap, ◌∙◌, subst}
+use Rattle.std.proofs.Common.{◌≡◌, ℕ, List, [], ◌∷◌, Bool, true, false, cond, not, ◌&&◌, ◌||◌, codes, refl, sym, ap, ◌∙◌}
 use Rattle.lex_text.specs.Names.{same_text}
 use Rattle.p4_tree.specs.Tree.{Local, local_action, local_table, local_register, local_const, local_var, Top, constant, typedef, header_type, struct_type, register, parser, control}
 use Rattle.p4_tree.specs.declared.statement.PTy.{PTy}
@@ -7,15 +7,13 @@ use Rattle.p4_tree.specs.declared.statement.PTy.TheVariants as type
 use Rattle.p4_tree.specs.declared.program.Param.{Param}
 use Rattle.p4_scopes.specs.Scopes.{Stands, missing, typed, held, cells, act, rows, state, function, algorithm, other, is_missing, as_held, as_typed, scalar_at, type_at, field_at, fields_bits, What, alias, fields, value, action, table, parser_state, part, behind, declare, standard_at, core_name, core_field, Scope, core}
 use Rattle.p4_scopes.specs.Scopes as scope
-use Rattle.p4_scopes.specs.declared.kind.Kind.{Kind}
-use Rattle.p4_scopes.specs.declared.kind.Kind.TheVariants.{Number, Truth, Error}
-use Rattle.p4_scopes.specs.declared.thing.Thing.TheVariants.{Scalar, Header, Struct}
+use Rattle.p4_scopes.specs.declared.thing.Thing.TheVariants.{Header, Struct}
 use Rattle.p4_scopes.specs.declared.thing.Access.{Access}
 use Rattle.p4_scopes.specs.declared.thing.Access.TheVariants.{Writable, Constant}
 use Rattle.p4_declaration_rules.specs.Digests.{most_of}
 use Rattle.p4_declaration_rules.specs.Parsers.{way_access, with_ways}
 use Rattle.p4_declaration_rules.specs.Controls.{after_local, after_top}
-use Rattle.p4_rule_laws.specs.Old.{OldPath, OldType, OldFields, OldWhat}
+use Rattle.p4_rule_laws.specs.Old.{OldPath, OldFields, OldWhat}
 use Rattle.p4_rule_laws.specs.OldPrograms.{OldWays, OldLocal, OldTop}
 use Rattle.own_code.proofs.Apart.{text_decides}
 use Rattle.link_faults.specs.WrittenNames.{is_taken}

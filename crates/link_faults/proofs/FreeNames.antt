@@ -1,21 +1,12 @@
 -- In a program in which no name is taken all names are old, for any old names that are not taken.
-use Rattle.std.proofs.Common.{codes, ◌≡◌, ℕ, List, [], ◌∷◌, ◌++◌, map, Bool, true, false, cond, not, ◌||◌, Option, Some, None, nat_eq, refl, ap, ◌∙◌, subst}
-use Rattle.std.specs.List.{list_any}
-use Rattle.lex_text.specs.Names.{same_text}
-use Rattle.lex_text.specs.Comments.{begins}
-use Rattle.p4_tree.specs.Tree.{Expr, num, flag, path, valid, applied, error_name, negation, inversion, opposite, binary, conditional, slice, cast, Arg, one, many, Stmt, Stmts, MaybeStmt, nothing, block, var, assign, choice, return_, exit_, call, done, next, stmts_from, without, otherwise, Keyset, any, only, masked, Case, Transition, nowhere, to, select, ParserState, Local, local_action, local_table, local_register, local_const, local_var, Parser, Top, constant, typedef, header_type, struct_type, register, parser, control}
+use Rattle.std.proofs.Common.{codes, ◌≡◌, ℕ, List, [], ◌∷◌, ◌++◌, Bool, true, false, cond, Option, Some, None, refl}
+use Rattle.p4_tree.specs.Tree.{Expr, num, flag, path, valid, applied, error_name, negation, inversion, opposite, binary, conditional, slice, cast, Arg, one, many, Stmt, Stmts, MaybeStmt, nothing, block, var, assign, choice, return_, exit_, call, done, next, stmts_from, without, otherwise, Keyset, any, only, masked, Case, Transition, nowhere, to, select, ParserState, Local, local_action, local_table, local_register, local_const, local_var, Top, constant, typedef, header_type, struct_type, register, parser, control}
 use Rattle.p4_tree.specs.declared.statement.PTy.{PTy}
 use Rattle.p4_tree.specs.declared.statement.PTy.TheVariants as type
 use Rattle.p4_tree.specs.declared.program.Param.{Param}
-use Rattle.p4_meaning.specs.Statements.{receiver_of, makes, drops, applies, runs, idle, read_of, write_of, digest_of, sum_of, values_in, act_named, act_on, act_of}
 use Rattle.p4_rule_laws.specs.Old.{OldPath, OldType, OldFields, OldExpr, OldExprs, OldStart, OldArg, OldArgs, OldStmt, OldStmts, OldElse}
 use Rattle.p4_rule_laws.specs.OldPrograms.{OldKeys, OldDefault, OldWays, OldKeyset, OldKeysets, OldCases, OldTransition, OldStates, OldLocal, OldLocals, OldTop, OldTops}
-use Rattle.p4_typing_laws.proofs.CallCounts.{text_is}
-use Rattle.linkage.specs.Linkage.{report_receiver}
-use Rattle.own_programs.specs.OwnPrograms.{act_tells_report, stmt_tells_reports, else_tells_reports, stmts_tell_reports, local_tells_reports, top_tells_reports}
-use Rattle.exit_programs.specs.Names.{is_given}
-use Rattle.link_faults.specs.WrittenNames.{Names, names_of_type, names_of_expr, names_of_exprs, names_of_start, report_digits, receiver_names, names_of_arg, names_of_args, names_of_stmt, names_of_stmts, names_of_else, names_of_fields, names_of_params, names_of_keyset, names_of_keysets, names_of_cases, names_of_transition, names_of_states, names_of_keys, names_of_default, names_of_local, names_of_locals, names_of_top, names_of_tops, is_taken, first_taken}
-use Rattle.link_faults.specs.Taken.{NoneIsTaken, NoneTells}
+use Rattle.link_faults.specs.WrittenNames.{Names, names_of_type, names_of_expr, names_of_exprs, names_of_start, receiver_names, names_of_arg, names_of_args, names_of_stmt, names_of_stmts, names_of_else, names_of_fields, names_of_params, names_of_keyset, names_of_keysets, names_of_cases, names_of_transition, names_of_states, names_of_keys, names_of_default, names_of_local, names_of_locals, names_of_top, names_of_tops, is_taken, first_taken}
 
 abbrev pub IsFree : Names → Type 0
 IsFree xs = first_taken xs ≡ None

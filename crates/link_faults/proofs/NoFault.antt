@@ -1,14 +1,12 @@
 -- What it says that a program has no fault.
-use Rattle.std.proofs.Common.{◌≡◌, ◌↔◌, ℕ, ◌≤◌, List, [], ◌∷◌, map, Bool, true, false, cond, Option, Some, None, nat_lt, le-ltb, refl, sym, ap, ◌∙◌}
+use Rattle.std.proofs.Common.{◌≡◌, Bool, true, false, cond, Option, Some, None, nat_lt, le-ltb, refl, ap}
 use Rattle.std.proofs.lemmas.Bool.{ltb-false}
 use Rattle.std.specs.Option.{option_map}
-use Rattle.indus_tree.specs.Tree.{Property}
 use Rattle.indus_types.specs.Sums.{cut, cut_wide, property_bits, property_weight}
 use Rattle.tele_layout.specs.Telemetry.{whole_bytes}
 use Rattle.lower_lists.specs.FlatProperty.{greatest_weight}
-use Rattle.p4_tree.specs.Tree.{Program}
 use Rattle.p4_rules.specs.ProgramRules.{program_scope}
-use Rattle.link_faults.specs.Refusals.{Refusal, name_taken, room_short, too_large, or_else}
+use Rattle.link_faults.specs.Refusals.{name_taken, room_short, too_large, or_else}
 use Rattle.link_faults.specs.HeaderFields.{fields_fault}
 use Rattle.link_faults.specs.WrittenNames.{names_of_program, first_taken}
 use Rattle.link_faults.specs.Faults.{taken_fault, room_fault, weight_fault, link_fault}

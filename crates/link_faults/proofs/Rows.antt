@@ -1,12 +1,12 @@
 -- Worked rows: each refusal alone, each two of them in one case, and none.
-use Rattle.std.proofs.Common.{◌≡◌, ℕ, List, [], ◌∷◌, ◌++◌, Bool, true, false, Option, Some, None, refl, codes}
+use Rattle.std.proofs.Common.{◌≡◌, ℕ, List, [], ◌∷◌, Bool, true, false, Some, None, refl, codes}
 use Rattle.lex_text.specs.declared.literal.Literal.{Literal}
 use Rattle.indus_tree.specs.Tree as indus
 use Rattle.indus_tree.specs.Tree.{Decl, Property}
 use Rattle.indus_tree.specs.declared.tree.Op.TheVariants as op
 use Rattle.indus_tree.specs.declared.tree.DeclKind.TheVariants.{Tele, Header}
 use Rattle.indus_tree.specs.declared.tree.Ty.TheVariants as ty
-use Rattle.p4_tree.specs.Tree.{num, path, one, many, Stmt, stmts_from, var, call, nowhere, ParserState, Local, local_table, Table, Control, Parser, header_type, struct_type, parser, control, Program}
+use Rattle.p4_tree.specs.Tree.{num, path, one, many, Stmt, stmts_from, var, call, nowhere, Control, Parser, header_type, struct_type, parser, control, Program}
 use Rattle.p4_tree.specs.declared.statement.PTy.TheVariants.{Bit, Bool as Bool_, Named}
 use Rattle.p4_tree.specs.declared.program.Way.{Way}
 use Rattle.p4_tree.specs.declared.program.Way.TheVariants as way

@@ -1,28 +1,24 @@
 -- The parts of a table name what was written before.
-use Rattle.std.proofs.Common.{◌≡◌, ℕ, List, [], ◌∷◌, ◌++◌, map, Bool, true, false, cond, not, ◌&&◌, ◌||◌, codes, Option, Some, None, refl, sym, ap, ◌∙◌, subst}
+use Rattle.std.proofs.Common.{◌≡◌, ℕ, List, [], ◌∷◌, ◌++◌, map, Bool, true, false, cond, not, ◌&&◌, ◌||◌, codes, Option, Some, None, refl, sym, ap, ◌∙◌}
 use Rattle.lex_text.specs.Names.{same_text}
 use Rattle.rule_tests.specs.Tests.{IsFine}
-use Rattle.p4_tree.specs.Tree.{Expr, num, flag, path, valid, applied, error_name, negation, inversion, opposite, binary, conditional, slice, cast, Table, Local, local_action, local_table, local_register, local_const, local_var, Top, constant, typedef, header_type, struct_type, register, parser, control, Program}
-use Rattle.p4_tree.specs.declared.statement.PTy.{PTy}
+use Rattle.p4_tree.specs.Tree.{Expr, num, flag, path, valid, applied, error_name, negation, inversion, opposite, binary, conditional, slice, cast, Table, Local, local_action, local_table, local_register, local_const, local_var, Top, constant, typedef, header_type, struct_type, register, parser, control}
 use Rattle.p4_tree.specs.declared.statement.PTy.TheVariants as type
-use Rattle.p4_scopes.specs.Kinds.{as_value}
-use Rattle.p4_scopes.specs.Scopes.{Stands, missing, act, is_missing, Scope, own, core}
+use Rattle.p4_scopes.specs.Scopes.{Stands, act, is_missing, Scope, core}
 use Rattle.p4_scopes.specs.declared.kind.Kind.{Kind}
-use Rattle.p4_statement_rules.specs.Expressions.{is_error, expr_tests, free_tests}
+use Rattle.p4_statement_rules.specs.Expressions.{is_error, expr_tests}
 use Rattle.p4_statement_rules.specs.Calls.{as_many}
 use Rattle.p4_statement_rules.specs.declared.rule.Part.{Part}
-use Rattle.p4_parser_states.specs.Cycles.{is_among}
 use Rattle.p4_declaration_rules.specs.Parsers.{with_ways}
-use Rattle.p4_declaration_rules.specs.Tables.{is_key_kind, all_key_kinds, ill_matched, keys_tests, listed_tests, known_args, default_args, default_tests, table_tests}
-use Rattle.p4_declaration_rules.specs.Controls.{local_tests, locals_tests, after_local, control_tests, part_in, top_tests, tops_tests, after_top}
-use Rattle.p4_rules.specs.ProgramRules.{IsWellTyped}
+use Rattle.p4_declaration_rules.specs.Tables.{is_key_kind, all_key_kinds, keys_tests, listed_tests, known_args, default_args, default_tests, table_tests}
+use Rattle.p4_declaration_rules.specs.Controls.{local_tests, locals_tests, after_local, part_in, top_tests, tops_tests, after_top}
 use Rattle.p4_rule_laws.specs.Old.{OldPath}
 use Rattle.p4_typing_laws.proofs.Fine.{typed_fine}
 use Rattle.own_code.proofs.Apart.{text_decides}
 use Rattle.link_faults.specs.Refusals.{or_else}
-use Rattle.link_faults.specs.WrittenNames.{Names, names_of_type, names_of_expr, names_of_exprs, names_of_keys, names_of_default, names_of_local, names_of_locals, names_of_params, names_of_stmts, names_of_top, names_of_tops, is_taken, first_taken}
+use Rattle.link_faults.specs.WrittenNames.{Names, names_of_expr, names_of_exprs, names_of_keys, names_of_default, names_of_local, names_of_locals, names_of_params, names_of_stmts, names_of_top, names_of_tops, is_taken, first_taken}
 use Rattle.link_faults.specs.TableNames.{bare_local, bare_top, TablesNameNothingNew}
-use Rattle.link_faults.proofs.FreeNames.{IsFree, none_found, ways_free, local_free, top_free}
+use Rattle.link_faults.proofs.FreeNames.{IsFree, ways_free, local_free, top_free}
 use Rattle.link_faults.proofs.CleanScopes.{is_free, untaken_is_free, IsClean, ways_clean, local_clean, top_clean, core_clean}
 
 -- ---- lists of names

@@ -89,4 +89,5 @@ module _ (f : Program) (p : Property) (room : ℕ) where
 
 -- a refusal is given exactly where it has its cause
 abbrev pub FaultsHaveCauses : Type 0
-FaultsHaveCauses = (f : Program) (p : Property) (room : ℕ) (r : Refusal) → link_fault f p room ≡ Some r ↔ HasCause f p room r
+FaultsHaveCauses =
+    (f : Program) (p : Property) (room : ℕ) (r : Refusal) → link_fault f p room ≡ Some r ↔ HasCause f p room r

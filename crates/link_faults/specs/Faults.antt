@@ -19,7 +19,9 @@ taken_fault p = option_map name_taken (first_taken (names_of_program p))
 -- the number that is named is reckoned from bits that stop at the greatest number of 64 bits
 abbrev pub room_fault : Property → (room : ℕ) → Option Refusal
 room_fault p room =
-    if nat_lt room (whole_bytes (property_bits p)) then Some (room_short (whole_bytes (cut_wide (property_bits p))) room) else None
+    if nat_lt room (whole_bytes (property_bits p))
+    then Some (room_short (whole_bytes (cut_wide (property_bits p))) room)
+    else None
 
 -- and this one stops at the greatest of 32 bits
 abbrev pub weight_fault : Property → Option Refusal
@@ -28,4 +30,7 @@ weight_fault p = if nat_lt greatest_weight (property_weight p) then Some (too_la
 -- f: the program as it is written, with its exits
 abbrev pub link_fault : (f : Program) → Property → (room : ℕ) → Option Refusal
 link_fault f p room =
-    or_else (fields_fault (program_scope f) f p.decls) (or_else (taken_fault f) (or_else (room_fault p room) (weight_fault p)))
+    or_else (fields_fault (program_scope f) f p.decls)
+    (or_else (taken_fault f)
+    (or_else (room_fault p room)
+    (weight_fault p)))

@@ -50,7 +50,10 @@ report_digits = codes "1213809746"
 
 -- what stands for the receiver of a call's digest
 abbrev pub receiver_names : (callee : List (List ℕ)) → List Arg → Names
-receiver_names (x ∷ []) (one p (num q n) ∷ rest) = if same_text x (codes "digest") then (if nat_eq (receiver_of n) report_receiver then report_digits ∷ [] else []) else []
+receiver_names (x ∷ []) (one p (num q n) ∷ rest) =
+    if same_text x (codes "digest")
+    then (if nat_eq (receiver_of n) report_receiver then report_digits ∷ [] else [])
+    else []
 receiver_names _ _ = []
 
 abbrev pub names_of_arg : Arg → Names
@@ -112,7 +115,8 @@ names_of_transition (select p es cs) = names_of_exprs es ++ names_of_cases cs
 
 abbrev pub names_of_states : List ParserState → Names
 names_of_states [] = []
-names_of_states (s ∷ ss) = s.name ∷ (names_of_stmts (stmts_from s.body) ++ (names_of_transition s.next ++ names_of_states ss))
+names_of_states (s ∷ ss) =
+    s.name ∷ (names_of_stmts (stmts_from s.body) ++ (names_of_transition s.next ++ names_of_states ss))
 
 -- ---- controls
 
@@ -147,7 +151,8 @@ names_of_top (header_type p x fs) = x ∷ names_of_fields fs
 names_of_top (struct_type p x fs) = x ∷ names_of_fields fs
 names_of_top (register p r) = names_of_type r.ty ++ r.name ∷ []
 names_of_top (parser p d) = d.name ∷ (names_of_params d.params ++ names_of_states d.states)
-names_of_top (control p c) = c.name ∷ (names_of_params c.params ++ (names_of_locals c.locals ++ names_of_stmts c.apply))
+names_of_top (control p c) =
+    c.name ∷ (names_of_params c.params ++ (names_of_locals c.locals ++ names_of_stmts c.apply))
 
 abbrev pub names_of_tops : List Top → Names
 names_of_tops [] = []

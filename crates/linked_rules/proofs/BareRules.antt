@@ -1,5 +1,5 @@
 -- The promises of the rules can be kept: a lowering with nothing but the mark and the flags keeps them.
-use Rattle.std.proofs.Common.{◌≡◌, ℕ, ◌<◌, ◌^◌, List, [], ◌∷◌, not, arith, refl, ap}
+use Rattle.std.proofs.Common.{ℕ, ◌<◌, ◌^◌, List, not, arith, refl, ap}
 use Rattle.rule_tests.specs.Tests.{IsFine}
 use Rattle.p4_meaning.specs.Scope.{Roots}
 use Rattle.p4_scopes.specs.Scopes.{Scope, declare, core}

@@ -62,7 +62,7 @@ has_length r u z o = record { standard = ap is_missing o.standard; metadata = o.
 
 -- ---- the lowering's declarations, with other reads
 
-after_with : (r : Roots) (t : Scope) (l : Local) → after_local t (local_with r l) ≡ after_local t l
+pub after_with : (r : Roots) (t : Scope) (l : Local) → after_local t (local_with r l) ≡ after_local t l
 after_with r t (local_action p a) = ap (λ (m : ℕ). declare t a.name (action a.params m)) (stmts_most r t a.body)
 after_with r t (local_table p b) = refl
 after_with r t (local_register p d) = refl
@@ -82,7 +82,7 @@ local_fine r h t has (local_const p y x e) f = f
 local_fine r h t has (local_var p y x None) f = f
 local_fine r h t has (local_var p y x (Some e)) f = (f.0, (f.1.0, (f.1.1.0, ((expr_replaced r t has e).wherever (kind_in t y) f.1.1.1).fine)))
 
-locals_fine : (r : Roots) (h : Part) (t : Scope) → HasLength r t → (ls : List Local) → IsFine (locals_tests h t ls) → IsFine (locals_tests h t (map (local_with r) ls))
+pub locals_fine : (r : Roots) (h : Part) (t : Scope) → HasLength r t → (ls : List Local) → IsFine (locals_tests h t ls) → IsFine (locals_tests h t (map (local_with r) ls))
 locals_fine r h t has [] f = tt
 locals_fine r h t has (l ∷ ls) f = (
   local_fine r h t has l f.0,
@@ -90,7 +90,7 @@ locals_fine r h t has (l ∷ ls) f = (
 )
 
 -- their names are the monitor's
-new_name : (r : Roots) (l : Local) → IsLoweredLocal l → is_own (local_name (local_with r l)) ≡ false
+pub new_name : (r : Roots) (l : Local) → IsLoweredLocal l → is_own (local_name (local_with r l)) ≡ false
 new_name r (local_action p a) m = ap not m
 new_name r (local_table p t) m = ap not m
 new_name r (local_var p ty x e) m = ap not m
@@ -101,7 +101,7 @@ new_locals : (r : Roots) (h : Part) (v s t : Scope) (a ls ms : List Local) → A
 new_locals r h v s t [] ls ms m f g = g
 new_locals r h v s t (l ∷ a) ls ms m f g = new_local (local_with r l) (new_name r l m.0) (λ k. f.0) (new_locals r h v s (after_local t (local_with r l)) a ls ms m.1 f.1 g)
 
-map_both : (r : Roots) (a b : List Local) → map (local_with r) (a ++ b) ≡ map (local_with r) a ++ map (local_with r) b
+pub map_both : (r : Roots) (a b : List Local) → map (local_with r) (a ++ b) ≡ map (local_with r) a ++ map (local_with r) b
 map_both r [] b = refl
 map_both r (l ∷ a) b = ap (λ (xs : List Local). local_with r l ∷ xs) (map_both r a b)
 

@@ -7,6 +7,7 @@ pub mod ControlsFine
 pub mod ParserFine
 pub mod OthersFine
 pub mod DigestsGrow
+pub mod LocalsHold
 pub mod TopsFine
 pub mod Told
 pub mod LinkedFine

@@ -36,13 +36,14 @@ use Rattle.linked_programs.proofs.LinkedTops.{no_parser, no_struct as no_front_s
 use Rattle.linked_programs.proofs.PartsLinked.{fields_old}
 use Rattle.linked_hosts.specs.Linkable.{IsGiven, Linkable}
 use Rattle.linked_rules.specs.Passes.{front_scope, Passes}
-use Rattle.linked_rules.specs.Digests.{Tells, told, LinkedTells, LinkedWithin}
-use Rattle.linked_rules.specs.Fine.{LinkedIsWellTyped, Counts, LinkedCounts}
+use Rattle.linked_rules.specs.Digests.{Tells, told}
+use Rattle.linked_rules.specs.Fine.{LinkedIsWellTyped, Counts, LinkedCounts, LinkedTells, LinkedWithin}
 use Rattle.linked_hosts.proofs.Spots.{core_sum}
 use Rattle.linked_hosts.proofs.ReadyByRules.{names_struct, core_no_struct}
 use Rattle.linked_rules.proofs.Offered.{core_fixed}
 use Rattle.linked_rules.proofs.Told.{told_once}
-use Rattle.linked_rules.proofs.TopsFine.{tops_told, Pair, more_of, struct_own, tops_grow, new, more_H, more_M}
+use Rattle.linked_rules.specs.Held.{tops_hold, LinkedHolds}
+use Rattle.linked_rules.proofs.TopsFine.{tops_told, tops_same_hold, Pair, more_of, struct_own, tops_grow, new, more_H, more_M}
 
 -- ---- what stands in front
 
@@ -163,6 +164,23 @@ module _ (exact : ReachesIsExact) (l : Lowered) (p : Program) (g : IsGiven p) (k
       digests_add p.main core (front l s) behind ∙ ap (λ (n : ℕ). add_up n (most_of_tops p.main u behind)) (ap (add_up 0) (front_quiet l.tops _ low_tops)) ∙ sym (digests_add p.main u [] behind)
       ∙ tops_told exact p g.typed parts g.two own_H own_M l k.ingress k.egress passes low_entry low_exit s small size links e x tells p.tops core no_scope u pair k.ready.names.tops g.spelled.tops k.ready.ones sees
 
+  -- ---- what tables and actions hold
+
+  behind_front : (zs ts : List Top) (a : Scope) → NewInFront is_own zs → tops_hold a (zs ++ ts) ≡ tops_hold (after_tops a zs) ts
+  behind_front [] ts a h = refl
+  behind_front (constant q y x v ∷ zs) ts a h = behind_front zs ts _ h.2
+  behind_front (typedef q y x ∷ zs) ts a h = behind_front zs ts _ h.2
+  behind_front (header_type q x fs ∷ zs) ts a h = behind_front zs ts _ h.2
+  behind_front (struct_type q x fs ∷ zs) ts a h = behind_front zs ts _ h.2
+  behind_front (register q d ∷ zs) ts a h = behind_front zs ts _ h.2
+  behind_front (parser q d ∷ zs) ts a h = behind_front zs ts _ h.2
+  behind_front (control q c ∷ zs) ts a h = broken h.0
+
+  same_hold : tops_hold core made.tops ≡ tops_hold core p.tops
+  same_hold =
+      behind_front (front l s) behind core in_front
+      ∙ tops_same_hold exact p g.typed parts g.two own_H own_M l k.ingress k.egress passes low_entry low_exit s small size links p.tops core no_scope u pair k.ready.names.tops g.spelled.tops k.ready.ones sees
+
   -- ---- counts
 
   parser_whole : parser_in made ≡ Some (linked_parser size links k.parser)
@@ -225,25 +243,29 @@ module _ (exact : ReachesIsExact) (l : Lowered) (p : Program) (g : IsGiven p) (k
   tops_same [] = refl
   tops_same (t ∷ ts) = ap₂ add_cells (top_same t) (tops_same ts)
 
-  counts : Counts l p size s links passes.bits
+  counts : Counts l s p made passes.bits
   counts = record { bytes = bytes; cells = cells_add (front l s) behind ∙ ap (add_cells (tops_cells (front l s))) (tops_same p.tops) }
 
 pub linked_counts : ReachesIsExact → LinkedCounts
-linked_counts exact l p g k passes low_tops low_entry low_exit size s links small = counts exact l p g k passes low_tops low_entry low_exit size s links small
+linked_counts exact l p g k rules size s links small = counts exact l p g k rules.passes rules.tops rules.entry_locals rules.exit_locals size s links small
+
+pub linked_holds : ReachesIsExact → LinkedHolds
+linked_holds exact l p g k rules size s links small = same_hold exact l p g k rules.passes rules.tops rules.entry_locals rules.exit_locals size s links small
 
 pub linked_tells : ReachesIsExact → LinkedTells
-linked_tells exact l p g k passes low_tops low_entry low_exit size s links small e x tells =
-    subst (λ (n : ℕ). n ≤ add_up e (add_up x (most_of_program p))) (sym (tells_all exact l p g k passes low_tops low_entry low_exit size s links small e x tells)) (told_once p.main e x p.tops core (typed_fine p g.typed).0)
+linked_tells exact l p g k rules size s links small e x tells =
+    subst (λ (n : ℕ). n ≤ add_up e (add_up x (most_of_program p))) (sym (tells_all exact l p g k rules.passes rules.tops rules.entry_locals rules.exit_locals size s links small e x tells))
+    (told_once p.main e x p.tops core (typed_fine p g.typed).0)
 
 pub linked_is_well_typed : ReachesIsExact → LinkedIsWellTyped
-linked_is_well_typed exact l p g k passes low_tops low_entry low_exit size s links small limits = well exact l p g k passes low_tops low_entry low_exit size s links small limits
+linked_is_well_typed exact l p g k rules size s links small limits = well exact l p g k rules.passes rules.tops rules.entry_locals rules.exit_locals size s links small limits
 
 pub linked_within : ReachesIsExact → LinkedWithin
-linked_within exact l p g k passes low_tops low_entry low_exit size s links small e x tells bytes digests registers =
-    (let counts = linked_counts exact l p g k passes low_tops low_entry low_exit size s links small in
-    let told = linked_tells exact l p g k passes low_tops low_entry low_exit size s links small e x tells in
-    linked_is_well_typed exact l p g k passes low_tops low_entry low_exit size s links small (
-      subst (λ (n : ℕ). nat_lt 2304 n ≡ false) (sym counts.bytes) (low 2304 4294967295 (passes.bits / 8) (header_bytes (program_scope p) p) bytes),
+linked_within exact l p g k rules size s links small e x tells bytes digests registers =
+    (let counts = linked_counts exact l p g k rules size s links small in
+    let told = linked_tells exact l p g k rules size s links small e x tells in
+    linked_is_well_typed exact l p g k rules size s links small (
+      subst (λ (n : ℕ). nat_lt 2304 n ≡ false) (sym counts.bytes) (low 2304 4294967295 (rules.passes.bits / 8) (header_bytes (program_scope p) p) bytes),
       (
         few (most_of_program (linked l size s links p)) e x (most_of_program p) told digests,
         subst (λ (n : ℕ). nat_lt 4210689 n ≡ false) (sym counts.cells) (low 4210689 18446744073709551615 (tops_cells (front l s)) (tops_cells p.tops) registers),

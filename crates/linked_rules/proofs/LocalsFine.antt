@@ -3,7 +3,7 @@ use Rattle.std.proofs.Common.{codes, ◌≡◌, ℕ, List, [], ◌∷◌, map, B
 use Rattle.std.specs.Option.{option_map}
 use Rattle.lex_text.specs.Names.{same_text}
 use Rattle.rule_tests.specs.Tests.{IsFine}
-use Rattle.p4_tree.specs.Tree.{Expr, num, flag, path, valid, applied, error_name, negation, inversion, opposite, binary, conditional, slice, cast, Stmt, Stmts, MaybeStmt, nothing, block, var, assign, choice, return_, exit_, call, done, next, without, otherwise, Action, Table, Local, local_action, local_table, local_register, local_const, local_var}
+use Rattle.p4_tree.specs.Tree.{Expr, num, flag, path, valid, applied, error_name, negation, inversion, opposite, binary, conditional, slice, cast, Stmt, Stmts, MaybeStmt, nothing, block, var, assign, choice, return_, exit_, call, done, next, without, otherwise, Action, Local, local_action, local_table, local_register, local_const, local_var}
 use Rattle.p4_tree.specs.declared.statement.PTy.{PTy}
 use Rattle.p4_meaning.specs.Scope.{Roots}
 use Rattle.p4_scopes.specs.Kinds.{as_value}

@@ -244,5 +244,7 @@ tables_stand T Z C l m h p g k gives s links =
     record {
       actions = λ x own. ap (λ (f : Parts). action_named f.actions x) has.parts ∙ plain_action_named d.actions x ∙ ap (option_map plain_action) (has.joins.own_actions x own);
       tables = λ x own. ap (λ (f : Parts). table_named f.tables x) has.parts ∙ plain_table_named d.tables x ∙ ap (option_map plain_table) (has.joins.own_tables x own);
+      monitor_actions = λ x mine. ap (λ (f : Parts). action_named f.actions x) has.parts ∙ plain_action_named d.actions x ∙ ap (option_map plain_action) (has.joins.monitor_actions x mine);
+      monitor_tables = λ x mine. ap (λ (f : Parts). table_named f.tables x) has.parts ∙ plain_table_named d.tables x ∙ ap (option_map plain_table) (has.joins.monitor_tables x mine);
       registers = ap (λ (f : Parts). f.registers) has.parts;
     })

@@ -1,5 +1,5 @@
 -- What is offered in ingress and egress of a linked program.
-use Rattle.std.proofs.Common.{codes, ◌≡◌, ℕ, List, [], ◌∷◌, ◌++◌, Bool, true, false, cond, not, ◌&&◌, ◌||◌, refl, sym, ap, ap₂, ◌∙◌}
+use Rattle.std.proofs.Common.{codes, ◌≡◌, ℕ, List, [], ◌∷◌, ◌++◌, Bool, true, false, cond, not, ◌&&◌, refl, sym, ap, ap₂, ◌∙◌}
 use Rattle.lex_text.specs.Names.{same_text}
 use Rattle.rule_tests.specs.Tests.{IsFine}
 use Rattle.p4_tree.specs.Tree.{Top, constant, typedef, header_type, struct_type, register, parser, control}
@@ -11,8 +11,7 @@ use Rattle.p4_tree.specs.declared.program.Way.TheVariants.{Plain, Into, Out, Bot
 use Rattle.p4_scopes.specs.Scopes.{Stands, missing, typed, held, cells, act, rows, state, function, algorithm, other, is_missing, as_held, as_typed, typed_thing, access_of, type_at, thing_in, Scope, What, alias, fields, value, action, table, parser_state, part, behind, declare, field_at, standard_at, core}
 use Rattle.p4_scopes.specs.Scopes as scope
 use Rattle.p4_scopes.specs.declared.kind.Kind.TheVariants.{Number}
-use Rattle.p4_scopes.specs.declared.thing.Thing.TheVariants.{Scalar, Struct, Standard, PacketIn, PacketOut}
-use Rattle.p4_scopes.specs.declared.thing.Function.TheVariants.{MarkToDrop, Digest, VerifyChecksum, UpdateChecksum}
+use Rattle.p4_scopes.specs.declared.thing.Thing.TheVariants.{Scalar, Struct, Standard}
 use Rattle.p4_scopes.specs.declared.thing.Access.{Access}
 use Rattle.p4_scopes.specs.declared.thing.Access.TheVariants.{Writable}
 use Rattle.p4_declaration_rules.specs.Parsers.{way_access, ways_tests}

@@ -1,6 +1,6 @@
 -- A parser that begins with new states, and whose own states have another name for the first and other reads of the
 -- packet's length, grows: each state that can be spelled assigns and calls alone, and its keys read no length.
-use Rattle.std.proofs.Common.{codes, ◌≡◌, ℕ, List, [], ◌∷◌, ◌++◌, map, refl, sym, ap, ◌∙◌, subst}
+use Rattle.std.proofs.Common.{codes, ◌≡◌, ℕ, List, [], ◌∷◌, ◌++◌, map, refl, sym, ap, subst}
 use Rattle.rule_tests.specs.Tests.{IsFine}
 use Rattle.p4_parser_states.specs.Laws.{ReachesIsExact}
 use Rattle.p4_parser_states.specs.Cycles.{state_names}
@@ -20,7 +20,7 @@ use Rattle.p4_rule_laws.proofs.EnteredLemmas.{entered_grow}
 use Rattle.p4_rule_laws.proofs.BeginsLemmas.{begins_enter}
 use Rattle.p4_rule_laws.proofs.ReplacedStates.{replaced_states}
 use Rattle.linked_halves.specs.ParserStates.{own_name, renamed_case, renamed_transition}
-use Rattle.linked_programs.specs.Rewritten.{expr_with, parse_with, keyset_with, case_with, transition_with, state_with}
+use Rattle.linked_programs.specs.Rewritten.{expr_with, parse_with, keyset_with, case_with, transition_with}
 use Rattle.linked_programs.specs.Linked.{own_state}
 use Rattle.linked_rules.specs.Lengths.{HasLength}
 use Rattle.linked_rules.proofs.LengthFine.{length_kept, expr_replaced, exprs_replaced}

@@ -27,12 +27,13 @@ use Rattle.p4_declaration_rules.specs.Controls.{control_tests, part_in, after_to
 use Rattle.p4_rules.specs.Mains.{apply_wants, checksum_wants, parser_wants, deparser_wants, Structs, structs_of, wanted_tests}
 use Rattle.p4_rules.specs.ProgramRules.{program_scope, IsWellTyped}
 use Rattle.p4_printer.specs.CanSpell.{EachCan, CanSpellState, CanSpellTop, CanSpellStmts}
+use Rattle.p4_rule_laws.specs.Old.{Alike}
 use Rattle.p4_rule_laws.specs.OldPrograms.{OldWays, OldParser, OldTop, OldTops, OldControl}
 use Rattle.p4_rule_laws.specs.Kept.{Keeps}
 use Rattle.p4_rule_laws.specs.Roles.{wants_of}
 use Rattle.p4_rule_laws.specs.Growth.{More, MoreIsNew, MoreFits, Sees, TopsGrow, no_top, same_top, wider_struct, other_states, other_control, control_with, parser_with, has_struct}
 use Rattle.p4_rule_laws.proofs.RoleFacts.{parts_in_role}
-use Rattle.p4_rule_laws.proofs.AlikePrograms.{ways_alike, before_states_alike, control_alike}
+use Rattle.p4_rule_laws.proofs.AlikePrograms.{ways_alike, with_ways_alike, before_states_alike, control_alike}
 use Rattle.p4_rule_laws.proofs.KeepsLemmas.{keeps_trans, declare_keeps, with_ways_keeps, with_ends_keeps, after_tops_keeps, declared, undeclared}
 use Rattle.p4_rule_laws.proofs.OwnStates.{start_among}
 use Rattle.p4_rule_laws.proofs.GrowthLemmas.{same_params, parser_grows}
@@ -58,6 +59,9 @@ use Rattle.linked_rules.proofs.ControlsFine.{offers_kept, has_length, ingress_gr
 use Rattle.linked_rules.proofs.ParserFine.{added_states, other_ends, names_missing, parser_begins}
 use Rattle.linked_rules.specs.Digests.{Tells, told_more, told_top, told}
 use Rattle.linked_rules.proofs.DigestsGrow.{ingress_most, egress_most}
+use Rattle.linked_rules.specs.Held.{locals_hold, tops_hold}
+use Rattle.linked_rules.proofs.LocalsHold.{plain_hold, more_hold}
+use Rattle.p4_scopes.specs.declared.kind.Kind.{Kind}
 use Rattle.p4_rule_laws.proofs.GrowthLemmas as growth
 use Rattle.linked_rules.proofs.OthersFine.{deparser_grows, stmts_none}
 
@@ -478,3 +482,45 @@ module _ (exact : ReachesIsExact) (p : Program) (well : IsWellTyped p) (parts : 
     tops_told [] s sc t b o h a w = refl
     tops_told (y ∷ ts) s sc t b o h a w =
         ap₂ add_up (top_told y ts s sc t b o.0 h.0 a w) (tops_told ts _ _ _ (next_pair y ts s sc t o.0 b) o.1 h.1 (further y ts a) (sees_next y ts s sc t b o.0 h.0 a w))
+
+  -- ---- what tables and actions hold
+
+  control_holds : (q : ℕ) (c : Control) (ts : List Top) (s : Scope) (sc : meaning.Scope) (t : Scope) (b : Pair (control q c ∷ ts) s sc t) (o : OldControl is_own c) (spelled : CanSpellStmts c.apply) (w : Sees is_own (more_of p) u s t)
+      → (place_in p.main c.name ≡ is_ingress → i ≡ c) → (place_in p.main c.name ≡ is_egress → e ≡ c) → IsFine (control_tests (part_in p.main c.name) s c)
+      → locals_hold (with_ways t c.params) (locals_at l links (place_in p.main c.name) c) ≡ locals_hold (with_ways s c.params) c.locals
+  control_holds q c ts s sc t b o spelled w first second f = go (place_in p.main c.name) refl (place_part p well parts c.name (parts_in_role.controls p well q c (b.here.at.within (control q c) (inl refl))))
+    where
+      alike : Alike is_own (with_ways s c.params) (with_ways t c.params)
+      alike = with_ways_alike is_own s t w.alike c.params o.params
+
+      g : part_in p.main c.name ≡ place.Apply → IsFine (control_tests place.Apply s c)
+      g is = subst (λ (h : Part). IsFine (control_tests h s c)) is f
+
+      at_apply : part_in p.main c.name ≡ place.Apply → Sight t c.params
+      at_apply is = apply_sight (control q c ∷ ts) s sc t b w c.params (params_at q c ts s sc t b o spelled w place.Apply is) (g is).1.0 (new_ways q c ts s sc t b o spelled w (g is).1.0)
+
+      go : (k : Place) → place_in p.main c.name ≡ k → IsAtPlace p well parts k (part_in p.main c.name) → locals_hold (with_ways t c.params) (locals_at l links k c) ≡ locals_hold (with_ways s c.params) c.locals
+      go is_ingress at m =
+          (let sight = at_apply m in
+          let same : control_roots c ≡ control_roots i = ap control_roots (sym (first at)) in
+          let fine = passes.entry_locals n (with_ways t c.params) (subst (λ (r : Roots). Offers r u (with_ways t c.params)) same sight.offers) (subst (λ (r : Roots). Shows S H M r (with_ways t c.params)) same sight.shows) (fresh q c ts s sc t b o spelled w) in
+          more_hold (control_roots c) place.Apply (with_ways s c.params) (with_ways t c.params) alike (has_length (control_roots c) u (with_ways t c.params) sight.offers) l.entry_locals c.locals low_entry fine o.locals (g m).1.1.0)
+      go is_egress at m =
+          (let sight = at_apply m in
+          let same : control_roots c ≡ control_roots e = ap control_roots (sym (second at)) in
+          let fine = passes.exit_locals n (with_ways t c.params) (subst (λ (r : Roots). Offers r u (with_ways t c.params)) same sight.offers) (subst (λ (r : Roots). Shows S H M r (with_ways t c.params)) same sight.shows) (fresh q c ts s sc t b o spelled w) in
+          more_hold (control_roots c) place.Apply (with_ways s c.params) (with_ways t c.params) alike (has_length (control_roots c) u (with_ways t c.params) sight.offers) l.exit_locals c.locals low_exit fine o.locals (g m).1.1.0)
+      go is_deparser at m = plain_hold (with_ways s c.params) (with_ways t c.params) alike c.locals o.locals
+      go is_other at m = plain_hold (with_ways s c.params) (with_ways t c.params) alike c.locals o.locals
+
+  pub tops_same_hold : (ts : List Top) (s : Scope) (sc : meaning.Scope) (t : Scope) → Pair ts s sc t → OldTops is_own ts → EachCan CanSpellTop ts → AreTheOnes p.main i e ts → Sees is_own (more_of p) u s t → tops_hold t (new ts) ≡ tops_hold s ts
+  tops_same_hold [] s sc t b o h a w = refl
+  tops_same_hold (control q c ∷ ts) s sc t b o h a w =
+      ap₂ (λ (x : List (List ℕ × List Kind)) (y : List (List ℕ × List (List ℕ × List Kind))). (c.name, x) ∷ y) (control_holds q c ts s sc t b o.0 h.0.3 w a.0 a.1 b.fine.0)
+      (tops_same_hold ts _ _ _ (next_pair (control q c) ts s sc t o.0 b) o.1 h.1 a.2 (sees_next (control q c) ts s sc t b o.0 h.0 a w))
+  tops_same_hold (constant q k x z ∷ ts) s sc t b o h a w = tops_same_hold ts _ _ _ (next_pair (constant q k x z) ts s sc t o.0 b) o.1 h.1 a (sees_next (constant q k x z) ts s sc t b o.0 h.0 a w)
+  tops_same_hold (typedef q k x ∷ ts) s sc t b o h a w = tops_same_hold ts _ _ _ (next_pair (typedef q k x) ts s sc t o.0 b) o.1 h.1 a (sees_next (typedef q k x) ts s sc t b o.0 h.0 a w)
+  tops_same_hold (header_type q x fs ∷ ts) s sc t b o h a w = tops_same_hold ts _ _ _ (next_pair (header_type q x fs) ts s sc t o.0 b) o.1 h.1 a (sees_next (header_type q x fs) ts s sc t b o.0 h.0 a w)
+  tops_same_hold (struct_type q x fs ∷ ts) s sc t b o h a w = tops_same_hold ts _ _ _ (next_pair (struct_type q x fs) ts s sc t o.0 b) o.1 h.1 a (sees_next (struct_type q x fs) ts s sc t b o.0 h.0 a w)
+  tops_same_hold (register q d ∷ ts) s sc t b o h a w = tops_same_hold ts _ _ _ (next_pair (register q d) ts s sc t o.0 b) o.1 h.1 a (sees_next (register q d) ts s sc t b o.0 h.0 a w)
+  tops_same_hold (parser q d ∷ ts) s sc t b o h a w = tops_same_hold ts _ _ _ (next_pair (parser q d) ts s sc t o.0 b) o.1 h.1 a (sees_next (parser q d) ts s sc t b o.0 h.0 a w)

@@ -34,17 +34,30 @@ pub record DeclaresItsOwn (l : Lowered) : Type 0 where
 -- a linked program declares the other names that the given one declares, and no others
 abbrev pub LinkedNamesStand : Type 0
 LinkedNamesStand =
-    (l : Lowered) → DeclaresItsOwn l → (p : Program) → IsGiven p → (size s : ℕ) (links : List ℕ) (x : List ℕ) → is_own x ≡ true
-    → is_among (tops_names (linked l size s links p).tops) x ≡ is_among (tops_names p.tops) x
+    (l : Lowered) → DeclaresItsOwn l → (p : Program) → IsGiven p →
+    (size s : ℕ) (links : List ℕ) (x : List ℕ) → is_own x ≡ true →
+    is_among (tops_names (linked l size s links p).tops) x ≡ is_among (tops_names p.tops) x
 
 -- the program's actions and tables stand there under their names, with their parameters, and their keys but for reads of
--- the packet's length, lists, and defaults; and its registers behind the monitor's
+-- the packet's length, lists, and defaults, `const` or not; and its registers behind the monitor's
 pub record Stand {T Z C : Type 0} (m : Monitor T Z C) (p q : Program) : Type 0 where
-  pub actions : (x : List ℕ) → is_mine x ≡ false → action_named (parts_of q).actions x ≡ option_map plain_action (action_named (parts_of p).actions x)
-  pub tables : (x : List ℕ) → is_mine x ≡ false → table_named (parts_of q).tables x ≡ option_map plain_table (table_named (parts_of p).tables x)
+  pub actions :
+      (x : List ℕ) → is_mine x ≡ false →
+      action_named (parts_of q).actions x ≡ option_map plain_action (action_named (parts_of p).actions x)
+  pub tables :
+      (x : List ℕ) → is_mine x ≡ false →
+      table_named (parts_of q).tables x ≡ option_map plain_table (table_named (parts_of p).tables x)
+  -- the others are the monitor's
+  pub monitor_actions :
+      (x : List ℕ) → is_mine x ≡ true →
+      action_named (parts_of q).actions x ≡ option_map plain_action (action_named m.actions x)
+  pub monitor_tables :
+      (x : List ℕ) → is_mine x ≡ true →
+      table_named (parts_of q).tables x ≡ option_map plain_table (table_named m.tables x)
   pub registers : (parts_of q).registers ≡ rejects_cells ∷ (m.registers ++ registers_of no_scope p.tops)
 
 abbrev pub TablesStand : (T Z C : Type 0) → Type 0
 TablesStand T Z C =
-    (l : Lowered) (m : Monitor T Z C) (h : Halves) (p : Program) (g : IsGiven p) (k : Linkable p) → GivesMonitor l m h k.ingress.name k.egress.name (control_roots k.ingress) (control_roots k.egress)
-    → (s : ℕ) (links : List ℕ) → Stand m p (linked l (suc m.room) s links p)
+    (l : Lowered) (m : Monitor T Z C) (h : Halves) (p : Program) (g : IsGiven p) (k : Linkable p) →
+    GivesMonitor l m h k.ingress.name k.egress.name (control_roots k.ingress) (control_roots k.egress) →
+    (s : ℕ) (links : List ℕ) → Stand m p (linked l (suc m.room) s links p)

@@ -1,9 +1,9 @@
 //! What holds of linked programs, by the rules of P4.
 
 ghost use Rattle.linked_rules.specs.BareRules.{RulesCanBeKept};
-ghost use Rattle.linked_rules.specs.Digests.{LinkedTells, LinkedWithin};
-ghost use Rattle.linked_rules.specs.Fine.{LinkedCounts, LinkedIsWellTyped};
+ghost use Rattle.linked_rules.specs.Fine.{LinkedCounts, LinkedIsWellTyped, LinkedTells, LinkedWithin};
 ghost use Rattle.linked_rules.specs.Form.{LinkedNamesStand, TablesStand};
+ghost use Rattle.linked_rules.specs.Held.{LinkedHolds};
 
 use monitor_laws::LoweredMonitor;
 use p4_parser_states::laws::reaches_is_exact;
@@ -41,10 +41,18 @@ pub fn linked_names_stand()
     ensures { LinkedNamesStand }
 {}
 
-/// The program's actions and tables stand in it, and its registers behind the monitor's.
+/// The program's actions and tables stand in it, and its registers behind the monitor's; the other actions
+/// and tables are the monitor's.
 pub fn tables_stand<L: LoweredMonitor>()
     ensures { TablesStand L.Tele L.Sensors L.Contents }
 {}
+
+/// The keys of own tables and the parameters of own actions hold what they held.
+pub fn linked_holds()
+    ensures { LinkedHolds }
+{
+    reaches_is_exact();
+}
 
 /// The promises can be kept.
 pub fn rules_can_be_kept()

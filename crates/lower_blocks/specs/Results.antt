@@ -6,7 +6,7 @@ use Rattle.control_tables.specs.declared.tables.ControlMap.{ControlMap}
 use Rattle.whole_properties.specs.Whole.{Given}
 use Rattle.lower_blocks.specs.Trees as trees
 use Rattle.lower_blocks.specs.declared.lowered.Lowered.{Lowered}
-use Rattle.lower_blocks.specs.declared.roots.Roots.{Roots}
+use Rattle.lower_code.specs.declared.roots.Roots.{Roots}
 
 -- a property, with the names of the two controls
 abbrev pub given_of : Property → (ingress egress : Roots) → Given

@@ -5,15 +5,15 @@ ghost use Rattle.indus_tree.specs.View.{shape_of};
 ghost use Rattle.p4_tree.specs.View.{local_of};
 ghost use Rattle.lowered_code.specs.Statements as code;
 ghost use Rattle.lower_blocks.specs.Trees as trees;
-ghost use Rattle.lower_blocks.specs.View.{as_lookups, decl_read, reads_of};
+ghost use Rattle.lower_reads.specs.View.{decl_read, reads_of};
+ghost use Rattle.lower_blocks.specs.View.{as_lookups};
 
-use crate::expressions::{bits_type, value_type};
-use crate::numbers::Read;
-use crate::read_code::key_types;
 use control_tables::table_for;
 use indus_tree::{Decl, DeclKind, Shape, Ty};
 use lex_text::Name;
 use lookup_names::{found_name, key_name};
+use lower_code::{bits_type, key_types, value_type};
+use lower_reads::Read;
 use p4_tree::{Local, PTy};
 use std::alloc::{AllocError, Global};
 

@@ -1,22 +1,15 @@
 //! The declarations of flat code: numbered scalars in the place of the packet's variables.
 
-ghost use Rattle.std.specs.Prelude.{◌≡◌, ◌++◌, ◌∷◌, [], List, ℕ, None, Some, map, string_bytes, if◌then◌else◌, IfOk, OnOk};
-ghost use Rattle.std.specs.Option.{option_or};
+ghost use Rattle.std.specs.Prelude.{◌≡◌, ◌++◌, ◌∷◌, [], map, IfOk, OnOk};
 ghost use Rattle.indus_tree.specs.View.{decl_of, shape_of};
 ghost use Rattle.flat_laws.specs.Numbered.{item_decls, numbered, numbered_kind, numbered_shape, scalar_decl};
-ghost use Rattle.lex_text.specs.Names.{same_text};
-ghost use Rattle.p4_types.specs.Kept.{at_name};
-ghost use Rattle.lower_blocks.specs.Places.{HasPlaces};
-ghost use Rattle.lower_blocks.specs.View.{declared};
+ghost use Rattle.lower_reads.specs.View.{declared};
 
-use crate::declarations::Declarations;
-use indexmap::IndexMap;
 use indus_tree::{Decl, DeclKind, Shape, Ty};
 use lex_text::Name;
 use lower_lists::{count_name, item_name};
+use lower_reads::Declarations;
 use std::alloc::{AllocError, Global};
-
-// ---- the list
 
 /// One scalar of the packet's more.
 fn add_scalar(
@@ -100,40 +93,9 @@ fn numbered_list(alloc: Global, decls: &[Decl]) -> Result<Vec<Decl>, AllocError>
     Ok(out)
 }
 
-// ---- the table
-
-/// A name with its place, which counts where the name is new.
-fn add_place(
-    name: String,
-    place: usize,
-    out: &mut IndexMap<String, usize>,
-) -> Result<(), AllocError>
-    ensures { (x : List ℕ) → OnOk result (at_name out.new.entries x
-        ≡ option_or (at_name out.old.entries x) (if same_text (string_bytes name) x then Some place else None)) }
-{
-    if out.contains_key(name.as_str()) {
-        return Ok(());
-    }
-    out.insert(name, place)?;
-    Ok(())
-}
-
-fn places(alloc: Global, decls: &[Decl]) -> Result<IndexMap<String, usize>, AllocError>
-    ensures { IfOk result (λ t. HasPlaces t.entries (map decl_of decls.now)) }
-{
-    let mut out = IndexMap::new(alloc);
-    for place in 0..decls.len() {
-        let name = String::from_str(alloc, decls[place].name.as_str())?;
-        add_place(name, place, &mut out)?;
-    }
-    Ok(out)
-}
-
 /// The declarations of a property's flat code.
 pub(crate) fn numbered(alloc: Global, decls: &[Decl]) -> Result<Declarations, AllocError>
     ensures { IfOk result (λ ds. declared ds ≡ numbered (map decl_of decls.now)) }
 {
-    let decls = numbered_list(alloc, decls)?;
-    let places = places(alloc, &decls)?;
-    Ok(Declarations { decls, places })
+    Declarations::new(alloc, numbered_list(alloc, decls)?)
 }

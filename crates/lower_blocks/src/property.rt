@@ -4,7 +4,7 @@ ghost use Rattle.std.specs.Prelude.{◌≡◌, ◌+◌, ◌-◌, ◌*◌, ◌++�
 ghost use Rattle.p4_tree.specs.Tree as p4;
 ghost use Rattle.indus_tree.specs.Hops.{variable_number};
 ghost use Rattle.indus_tree.specs.View.{decl_of, property_of};
-ghost use Rattle.p4_tree.specs.View.{local_of, stmt_of, stmts_of, top_of};
+ghost use Rattle.p4_tree.specs.View.{local_of, top_of};
 ghost use Rattle.lower_lists.specs.FlatProperty.{IsFlatOf};
 ghost use Rattle.tele_layout.specs.Layouts.{IsLayoutOf};
 ghost use Rattle.monitor_laws.specs.Monitor.{flag_locals};
@@ -14,24 +14,21 @@ ghost use Rattle.lowered_code.specs.Statements as code;
 ghost use Rattle.whole_properties.specs.Whole as whole;
 ghost use Rattle.lower_blocks.specs.Results.{given_of, lowered_of, rows_of};
 ghost use Rattle.lower_blocks.specs.Trees as trees;
-ghost use Rattle.lower_blocks.specs.View.{decl_read, declared, environment_of, reads_of};
+ghost use Rattle.lower_reads.specs.View.{decl_read, declared, reads_of};
+ghost use Rattle.lower_code.specs.View.{environment_of};
 
-use crate::declarations::Declarations;
-use crate::expressions::number_at;
 use crate::locals::{actions, looked_up, tables, vars};
 use crate::lowered::Lowered;
 use crate::numbered::numbered;
-use crate::numbers::{Read, block_numbers};
-use crate::roots::Roots;
-use crate::statements::{block_code, flag};
-use crate::tree::{before, only_if, variable};
 use control_tables::{ControlMap, value_width};
 use indus_tree::{Decl, DeclKind};
 use indus_types::TypedProperty;
 use lex_text::Name;
 use lookup_names::table_name;
+use lower_code::{Roots, block_code, checker};
 use lower_lists::FlatProperty;
-use p4_tree::{Expr, Local, PTy, Stmt, Top};
+use lower_reads::{Declarations, Read, block_numbers, number_at};
+use p4_tree::{Local, PTy, Top};
 use sensor_registers::register_for;
 use std::alloc::{AllocError, Global};
 use tele_layout::Layout;
@@ -151,15 +148,6 @@ fn flags(alloc: Global) -> Result<Vec<Local>, AllocError>
     Ok(out)
 }
 
-/// The checker at the last hop, which begins with nothing rejected.
-fn checks(alloc: Global, check: Vec<Stmt>) -> Result<Stmt, AllocError>
-    ensures { IfOk result (λ s. stmt_of s ≡ trees.checks_of (stmts_of check.items)) }
-{
-    let begin = flag(alloc, "hydra_rejected", false)?;
-    let test = variable(alloc, Name::new(alloc, "hydra_last")?)?;
-    only_if(alloc, test, before(alloc, begin, check)?)
-}
-
 /// The number of a control variable; there is one for each declared name, and no memory holds more
 /// than 32 bits number.
 fn variable_of(p: &TypedProperty, d: &Decl) -> Result<u32, AllocError>
@@ -250,7 +238,7 @@ pub fn lower(
     let entry = block_code(alloc, ingress, &decls, &flat.init, 0)?.stmts;
     let mut exit = block_code(alloc, egress, &decls, &flat.tele, tele_first)?.stmts;
     let check = block_code(alloc, egress, &decls, &flat.check, check_first)?.stmts;
-    exit.push(checks(alloc, check)?)?;
+    exit.push(checker(alloc, check)?)?;
     Ok(Lowered {
         entry,
         exit,

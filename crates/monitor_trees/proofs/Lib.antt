@@ -8,3 +8,7 @@ pub mod LengthReads
 pub mod Property
 pub mod Rooted
 pub mod Promised
+pub mod Turns
+pub mod Words
+pub mod Spelled
+pub mod SpelledTrees

@@ -10,4 +10,4 @@
 
 mod laws;
 
-pub use laws::{code_is_what_runs, trees_are_the_monitor};
+pub use laws::{code_is_what_runs, trees_are_the_monitor, trees_can_be_spelled};

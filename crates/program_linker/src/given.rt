@@ -2,7 +2,7 @@
 
 ghost use Rattle.std.specs.Prelude.{◌≡◌, IfOk};
 ghost use Rattle.p4_tree.specs.View.{program_of};
-ghost use Rattle.lower_blocks.specs.View.{roots_of};
+ghost use Rattle.lower_code.specs.View.{roots_of};
 ghost use Rattle.program_linker.specs.Parts.{name_at, roots_at};
 
 use lex_text::Name;

@@ -9,8 +9,8 @@
 #![tactic(auto)]
 
 mod given;
-mod link;
+mod linking;
 mod parts;
 
-pub use link::{Linked, link};
 pub use link_checks::LinkFault;
+pub use linking::{Linked, link};

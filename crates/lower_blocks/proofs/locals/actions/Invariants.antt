@@ -2,7 +2,7 @@ use Rattle.std.proofs.Common.{◌≡◌, ◌++◌, drop, map}
 use Rattle.p4_tree.specs.View.{local_of}
 use Rattle.lowered_code.specs.Statements.{lookups_in}
 use Rattle.lower_blocks.specs.Trees.{action_tree}
-use Rattle.lower_blocks.specs.View.{reads_of}
+use Rattle.lower_reads.specs.View.{reads_of}
 use Rattle.lower_blocks.proofs.locals.actions.Given as goal
 
 abbrev pub invariant-loop-read : goal.invariant-loop-read

@@ -2,7 +2,7 @@ use Rattle.std.proofs.Common.{◌≡◌, ◌++◌, drop, map}
 use Rattle.p4_tree.specs.View.{local_of}
 use Rattle.lowered_code.specs.Statements.{vars_in}
 use Rattle.lower_blocks.specs.Trees.{var_tree}
-use Rattle.lower_blocks.specs.View.{reads_of}
+use Rattle.lower_reads.specs.View.{reads_of}
 use Rattle.lower_blocks.proofs.locals.vars.Given as goal
 
 abbrev pub invariant-loop-read : goal.invariant-loop-read

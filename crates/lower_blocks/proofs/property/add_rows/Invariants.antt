@@ -3,7 +3,7 @@ use Rattle.indus_tree.specs.View.{property_of}
 use Rattle.lowered_code.specs.Statements.{lookups_in}
 use Rattle.lower_blocks.specs.Results.{rows_of}
 use Rattle.lower_blocks.specs.Trees.{mapped}
-use Rattle.lower_blocks.specs.View.{reads_of}
+use Rattle.lower_reads.specs.View.{reads_of}
 use Rattle.lower_blocks.proofs.property.add_rows.Given as goal
 
 abbrev pub invariant-loop-read : goal.invariant-loop-read

@@ -13,9 +13,10 @@ use Rattle.lowered_code.specs.Statements.{vars_in, lookups_in, block_code, block
 use Rattle.whole_properties.specs.Whole.{decls, init, tele, check, tele_first, check_first, tele_fields, fill_fields, tele_room}
 use Rattle.lower_blocks.specs.Results.{given_of, lowered_of}
 use Rattle.lower_blocks.specs.Trees.{checks_of, field_tree, locals_for, lowered_trees, mapped, registers_of}
-use Rattle.lower_blocks.specs.View.{declared, environment_of, reads_of}
-use Rattle.lower_blocks.specs.declared.numbers.Read.{Read}
-use Rattle.lower_blocks.proofs.Blocks.{block_is}
+use Rattle.lower_reads.specs.View.{declared, reads_of}
+use Rattle.lower_code.specs.View.{environment_of}
+use Rattle.lower_reads.specs.declared.numbers.Read.{Read}
+use Rattle.lower_code.proofs.Blocks.{block_is}
 use Rattle.lower_blocks.proofs.Whole.{code_same, end_same, exit_joined, lookups_both, lowered_is, no_rows, numbers_same}
 use Rattle.lower_blocks.proofs.Widths.{bytes_are}
 use Rattle.lower_blocks.proofs.property.lower.Goals as goal
@@ -66,8 +67,8 @@ returns-clause-trees c =
     ∙ ap₂ (λ (ls : List p4.Local) (r : List (ℕ × Option Tree.Decl)). ls ++ locals_for (vars_in r) (lookups_in r)) c.in_ok-exit_locals.ensures local_exits
     ∙ exit_joined rs qs)
     (c.in_ok-entry.ensures.stmts ∙ code_same _ _ _ _ 0 0 ds (ap block_of c.deref-9.ensures.value ∙ ap block_from c.requires.flat.init) refl a)
-    (block_is c.push.new.self.items c.in_ok-exit.field-0.stmts.items (c.in_ok-checks.field-0 ∷ []) (block_code b (decls g) (tele g) (tele_first g)) (p4.next (checks_of (block_code b (decls g) (check g) (check_first g))) p4.done)
-    c.in_ok-push.ensures.items tele_code (ap (λ (s : p4.Stmt). p4.next s p4.done) (c.in_ok-checks.ensures ∙ ap checks_of check_code)))
+    (block_is c.push.new.self.items c.in_ok-exit.field-0.stmts.items (c.in_ok-checker.field-0 ∷ []) (block_code b (decls g) (tele g) (tele_first g)) (p4.next (checks_of (block_code b (decls g) (check g) (check_first g))) p4.done)
+    c.in_ok-push.ensures.items tele_code (ap (λ (s : p4.Stmt). p4.next s p4.done) (c.in_ok-checker.ensures ∙ ap checks_of check_code)))
 
 pub returns-clause-map : goal.returns-clause-map
 returns-clause-map c =

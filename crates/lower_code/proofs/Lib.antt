@@ -1,0 +1,4 @@
+pub mod Blocks
+pub mod Bodies
+pub mod Turns
+pub mod Keys

@@ -1,0 +1,4 @@
+-- What callers rest on.
+pub mod View
+-- What serves the proofs.
+pub mod Bodies

@@ -1,0 +1,5 @@
+-- What callers rest on.
+pub mod View
+-- What serves the proofs.
+pub mod Places
+pub mod Sides
