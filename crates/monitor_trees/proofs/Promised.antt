@@ -26,8 +26,7 @@ use Rattle.own_code.specs.Regions.{is_mine}
 use Rattle.monitor_laws.specs.Names.{last_name, rejected_name}
 use Rattle.monitor_laws.specs.Telemetry.{mark_field}
 use Rattle.monitor_laws.specs.Monitor.{flag_locals}
-use Rattle.linked_programs.specs.Gives.{IsLoweredTop, GivesMonitor, AtEntry, AtExit}
-use Rattle.linked_programs.specs.Bare.{AreOwnRoots}
+use Rattle.linked_programs.specs.Gives.{AreOwnRoots, IsLoweredTop, GivesMonitor, AtEntry, AtExit}
 use Rattle.linked_programs.specs.Reads.{StmtsReadIn}
 use Rattle.sensor_registers.specs.Registers.{cell_type, cells_type, cell_count}
 use Rattle.lowered_code.specs.Names.{sensor_name, action_name}
@@ -170,7 +169,7 @@ module _ (g : Given) (i : IsGiven g) where
   all_sound : AllByRecursion (λ d. sound_width (shape_width d.shape) ≡ shape_width d.shape) (decls g)
   all_sound = all_weaker (λ d. lookup (decls g) d.name ≡ Some d) (λ d. sound_width (shape_width d.shape) ≡ shape_width d.shape) (λ d h. sound g i d.name d h) (decls g) (each_found (decls g) once)
 
-  fields_sound : HasSoundFields (fields g)
+  pub fields_sound : HasSoundFields (fields g)
   fields_sound =
       all_fields (λ (f : Field). sound_width f.width ≡ f.width) (tele_fields (decls g)) (fill_fields (tele_fields (decls g))) (tele_sound (decls g) all_sound)
       (fill_sound (tele_room (tele_fields (decls g)) * 8 - (8 + width_sum (tele_fields (decls g)))) (omega arith))

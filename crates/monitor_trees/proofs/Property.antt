@@ -21,8 +21,7 @@ use Rattle.own_code.proofs.Apart.{apart_names}
 use Rattle.monitor_laws.specs.Names.{rejects_register}
 use Rattle.monitor_laws.specs.Monitor.{flag_locals}
 use Rattle.linked_halves.specs.Statements.{vars_of}
-use Rattle.linked_programs.specs.Gives.{Sees, StandForRoots, FindsMonitors, IsLoweredLocal}
-use Rattle.linked_programs.specs.Bare.{AreOwnRoots}
+use Rattle.linked_programs.specs.Gives.{AreOwnRoots, Sees, StandForRoots, FindsMonitors, IsLoweredLocal}
 use Rattle.linked_programs.specs.Reads.{LocalsReadIn, StmtsReadIn, KeysRead, StmtsRead}
 use Rattle.control_tables.specs.Tables.{keys_from, action_of, body_of}
 use Rattle.lookup_names.specs.Names as plain

@@ -9,8 +9,7 @@ use Rattle.own_code.proofs.Apart.{apart_names}
 use Rattle.own_programs.specs.OwnPrograms.{is_own}
 use Rattle.lowered_code.specs.Names.{sensor_name}
 use Rattle.lowered_code.specs.Environment.{switch_name}
-use Rattle.linked_programs.specs.Gives.{Sees, StandForRoots}
-use Rattle.linked_programs.specs.Bare.{AreOwnRoots}
+use Rattle.linked_programs.specs.Gives.{AreOwnRoots, Sees, StandForRoots}
 use Rattle.monitor_trees.specs.Stage.{Stage}
 
 -- a name of the monitor's is none of the parameters

@@ -1,11 +1,10 @@
 -- The trees of a whole property, as the linker takes them, and the promise that they are the parts of its monitor. Read `Gives`
--- and `Bare` of `linked_programs` before it, and `Trees` of `lower_blocks`.
+-- of `linked_programs` before it, and `Trees` of `lower_blocks`.
 use Rattle.std.specs.Prelude.{ℕ, List, ◌++◌, map}
 use Rattle.p4_meaning.specs.Scope.{Roots}
 use Rattle.tele_layout.specs.Telemetry.{first_byte}
 use Rattle.linked_programs.specs.Lowered as linked
-use Rattle.linked_programs.specs.Gives.{Halves, GivesMonitor}
-use Rattle.linked_programs.specs.Bare.{AreOwnRoots}
+use Rattle.linked_programs.specs.Gives.{AreOwnRoots, Halves, GivesMonitor}
 use Rattle.lowered_code.specs.Environment.{in_control}
 use Rattle.lookup_tables.specs.Tables.{Lookup, action_for, table_for}
 use Rattle.whole_properties.specs.Whole.{Given, init, tele, check, tele_first, check_first, lookups_of, lower_monitor}

@@ -19,6 +19,7 @@ use std::alloc::{AllocError, Global};
 use tele_layout::Layout;
 
 /// The monitor's trees, and the tables of control variables.
+#[tactic(auto, using(crate::proofs::Monitors::monitor_is))]
 pub(crate) fn monitor_of(
     alloc: Global,
     p: &TypedProperty,
