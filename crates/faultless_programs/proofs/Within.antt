@@ -2,28 +2,40 @@
 use Rattle.std.proofs.Common.{◌≡◌, ℕ, ◌≤◌, ◌/◌, ◌+◌, [], ◌∷◌, ◌++◌, arith, sym, subst}
 use Rattle.indus_types.specs.Sums.{property_bits, property_weight}
 use Rattle.tele_layout.specs.Telemetry.{whole_bytes}
+use Rattle.p4_tree.specs.Tree.{Program}
 use Rattle.p4_parser_states.specs.Laws.{ReachesIsExact}
 use Rattle.p4_rules.specs.Limits.{header_bytes, most_of_program, add_cells, tops_cells, cells}
 use Rattle.p4_rules.specs.ProgramRules.{program_scope}
 use Rattle.p4_rule_laws.proofs.LimitsGrow.{cells_add}
-use Rattle.exit_rules.proofs.WellTyped.{bytes_same, cells_same, digests_same}
+use Rattle.exit_rules.proofs.WellTyped.{bytes_same, cells_same, digests_same, stays_well_typed}
 use Rattle.linked_programs.specs.Lowered.{Lowered}
 use Rattle.linked_programs.specs.Linked.{front, switch_top}
 use Rattle.linked_rules.proofs.LinkedFine.{linked_within}
 use Rattle.exit_programs.specs.Programs.{program_without}
-use Rattle.tree_linkage.proofs.Theorem.{is_given_without_exits}
+use Rattle.parted_programs.specs.Laws.{CountsSame}
+use Rattle.parted_programs.proofs.FreeNames.{without_exits_is_free}
+use Rattle.parted_programs.proofs.Given.{parted_counts_same}
+use Rattle.tree_linkage.specs.Trees.{linked_form}
+use Rattle.tree_linkage.proofs.Theorem.{linked_form_is_given}
 use Rattle.link_faults.proofs.Taken.{none_is_taken}
 use Rattle.link_faults.proofs.NoFault.{no_fault_says}
-use Rattle.faultless_programs.specs.Within.{RoomStays, RoomSuffices, LinkedInRoom, FaultlessIsWellTyped}
+use Rattle.faultless_programs.specs.Within.{LeavesRoom, RoomStays, RoomSuffices, LinkedInRoom, FaultlessIsWellTyped}
 use Rattle.faultless_programs.proofs.Given.{no_fault_can_link}
+
+-- a program of the same counts
+room_same : (p q : Program) → CountsSame p q → LeavesRoom p → LeavesRoom q
+room_same p q same room =
+    record {
+      bytes = subst (λ (n : ℕ). n ≤ 2048) (sym same.bytes) room.bytes;
+      digests = subst (λ (n : ℕ). n ≤ 4096) (sym same.digests) room.digests;
+      cells = subst (λ (n : ℕ). n ≤ 4194304) (sym same.cells) room.cells;
+    }
 
 pub room_stays : RoomStays
 room_stays p well given room =
-    record {
-      bytes = subst (λ (n : ℕ). n ≤ 2048) (sym (bytes_same p)) room.bytes;
-      digests = subst (λ (n : ℕ). n ≤ 4096) (sym (digests_same p well given)) room.digests;
-      cells = subst (λ (n : ℕ). n ≤ 4194304) (sym (cells_same p)) room.cells;
-    }
+    (let without = room_same p (program_without p) (record { bytes = bytes_same p; digests = digests_same p well given; cells = cells_same p }) room in
+    let counts = parted_counts_same (program_without p) (record { typed = stays_well_typed p well given; free = without_exits_is_free p given }) in
+    (without, room_same (program_without p) (linked_form p) counts without))
 
 -- the register of rejected packets, and the lowering's
 front_cells : (l : Lowered) (s : ℕ) → tops_cells (front l s) ≤ 1 + tops_cells l.tops
@@ -55,8 +67,8 @@ linked_in_room exact l p g leaves k rules e x tells property room counted small 
     linked_within exact l p g k rules size s links few e x tells is.bytes is.digests is.cells
 
 pub faultless_is_well_typed : ReachesIsExact → FaultlessIsWellTyped
-faultless_is_well_typed exact f well spelled two leaves property room small none l k rules e x tells counted size s links few =
+faultless_is_well_typed exact f well spelled leaves property room small none l k rules e x tells counted size s links few =
     let no = (no_fault_says f property room).0 none in
     let given = none_is_taken f no.names in
-    linked_in_room exact l (program_without f) (is_given_without_exits f (no_fault_can_link f well spelled two no.names)) (room_stays f well given leaves)
+    linked_in_room exact l (linked_form f) (linked_form_is_given f (no_fault_can_link f well spelled no.names)) (room_stays f well given leaves).1
     k rules e x tells property room counted small no.room no.weight size s links few

@@ -1,7 +1,6 @@
 -- Room and weight keep linked programs within the limits of a switch. Read `Limits` of `p4_rules`, `Fine` of
 -- `linked_rules` and `Sums` of `indus_types` before it.
-use Rattle.std.specs.Prelude.{◌≡◌, ℕ, ◌<◌, ◌≤◌, ◌^◌, ◌/◌, ◌+◌, List, false, None}
-use Rattle.lex_text.specs.Names.{same_text}
+use Rattle.std.specs.Prelude.{◌≡◌, ℕ, ◌<◌, ◌≤◌, ◌^◌, ◌/◌, ◌+◌, List, None}
 use Rattle.indus_tree.specs.Tree.{Property}
 use Rattle.indus_types.specs.Sums.{property_bits, property_weight}
 use Rattle.tele_layout.specs.Telemetry.{whole_bytes}
@@ -13,8 +12,9 @@ use Rattle.p4_printer.specs.CanSpell.{CanSpell}
 use Rattle.exit_programs.specs.Programs.{program_without}
 use Rattle.exit_programs.specs.Names.{HasGivenNames}
 use Rattle.linked_programs.specs.Lowered.{Lowered}
-use Rattle.linked_programs.specs.Linked.{headers_type, metadata_type, front, linked}
+use Rattle.linked_programs.specs.Linked.{front, linked}
 use Rattle.linked_hosts.specs.Linkable.{IsGiven, Linkable}
+use Rattle.tree_linkage.specs.Trees.{linked_form}
 use Rattle.linked_rules.specs.Promises.{KeepsRules, TellsIn}
 use Rattle.link_faults.specs.Faults.{link_fault}
 
@@ -24,9 +24,9 @@ pub record LeavesRoom (p : Program) : Type 0 where
   pub digests : most_of_program p ≤ 4096
   pub cells : cells p ≤ 4194304
 
--- so does the program of the same meaning without exits
+-- so do the program of the same meaning without exits and what is linked of it
 abbrev pub RoomStays : Type 0
-RoomStays = (p : Program) → IsWellTyped p → HasGivenNames p → LeavesRoom p → LeavesRoom (program_without p)
+RoomStays = (p : Program) → IsWellTyped p → HasGivenNames p → LeavesRoom p → LeavesRoom (program_without p) × LeavesRoom (linked_form p)
 
 -- what a lowering's trees take is what the property's sums say. bits: of the telemetry's header; e, x: the most digests
 -- of the entry part and of the exit part
@@ -58,11 +58,11 @@ LinkedInRoom =
     room ≤ 256 → whole_bytes (property_bits property) ≤ room → property_weight property ≤ greatest_weight →
     (size s : ℕ) (links : List ℕ) → s < 2 ^ 16 → IsWellTyped (linked l size s links p)
 
--- so it is of each program without fault, what is linked of it having no exits
+-- so it is of each program without fault, with exits or without
 abbrev pub FaultlessIsWellTyped : Type 0
 FaultlessIsWellTyped =
-    (f : Program) → IsWellTyped f → CanSpell f → same_text (headers_type f) (metadata_type f) ≡ false → LeavesRoom f →
+    (f : Program) → IsWellTyped f → CanSpell f → LeavesRoom f →
     (property : Property) (room : ℕ) → room ≤ 256 → link_fault f property room ≡ None →
-    (l : Lowered) (k : Linkable (program_without f)) (rules : KeepsRules l (program_without f) k) (e x : ℕ) →
-    TellsIn l (program_without f) k e x → IsCounted l rules.passes.bits e x property →
-    (size s : ℕ) (links : List ℕ) → s < 2 ^ 16 → IsWellTyped (linked l size s links (program_without f))
+    (l : Lowered) (k : Linkable (linked_form f)) (rules : KeepsRules l (linked_form f) k) (e x : ℕ) →
+    TellsIn l (linked_form f) k e x → IsCounted l rules.passes.bits e x property →
+    (size s : ℕ) (links : List ℕ) → s < 2 ^ 16 → IsWellTyped (linked l size s links (linked_form f))

@@ -28,7 +28,7 @@ pub fn found_views_are_own()
     ensures { FoundViewsAreOwn }
 {}
 
-/// A program that leaves room for a monitor leaves it without exits too.
+/// A program that leaves room for a monitor leaves it without exits too, and with a struct for each role.
 pub fn room_stays()
     ensures { RoomStays }
 {}

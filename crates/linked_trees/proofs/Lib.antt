@@ -1,3 +1,4 @@
 pub mod BlockLists
 pub mod RootLemmas
 pub mod Built
+pub mod Retyped

@@ -65,7 +65,7 @@ fn front(alloc: Global, parts: &Parts, switch: u16) -> Result<Vec<Top>, AllocErr
 }
 
 /// The struct of headers: the type of a parameter of the parser that `main` names.
-fn struct_at(program: &Program, at: u8) -> &str
+pub(crate) fn struct_at(program: &Program, at: u8) -> &str
     ensures { result.now ≡ parser_type (parser_in (program_of program.now)) at }
 {
     match parser_named(&program.tops, named_in(&program.main, 0)) {

@@ -15,6 +15,8 @@ mod locals;
 mod parsers;
 mod roots;
 mod statements;
+mod two_structs;
 
 pub use declarations::{Parts, linked};
 pub use roots::control_roots;
+pub use two_structs::parted;

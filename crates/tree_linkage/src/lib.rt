@@ -2,7 +2,8 @@
 //!
 //! The crate has definitions and laws, and no code. A linker gets the linkage of its programs from what it
 //! knows of the given one (`CanLink` of `specs/Trees`) and from what the lowering shows of its trees
-//! (`IsLoweredFor`): the programs are the linked trees of the program without exits (`linked_trees`).
+//! (`IsLoweredFor`): the programs are the linked trees (`linked_trees`) of the program without exits and
+//! with a struct for each role (`linked_form`).
 //!
 //! Follows: P4_16 and v1model, this project's subset; Hydra, "Hydra: Effective Runtime Network
 //! Verification", SIGCOMM 2023.
@@ -12,4 +13,4 @@
 
 mod laws;
 
-pub use laws::{is_given_without_exits, linked_trees_are_a_linkage};
+pub use laws::{linked_form_is_given, linked_trees_are_a_linkage};
