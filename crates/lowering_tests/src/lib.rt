@@ -1,17 +1,11 @@
-//! Tests of what properties become, from their texts: the telemetry's bytes, flat code, the registers
-//! of sensors, and P4, which runs on a switch beside the property.
+//! Tests of what properties become, from their texts: the telemetry's bytes, flat code, and the
+//! registers of sensors.
 #![tactic(auto)]
 
-#[cfg(test)]
-mod blocks;
 #[cfg(test)]
 mod flat;
 #[cfg(test)]
 mod sensors;
-#[cfg(test)]
-mod show_p4;
-#[cfg(test)]
-mod switches;
 #[cfg(test)]
 mod telemetry;
 #[cfg(test)]
