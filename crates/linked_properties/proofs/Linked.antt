@@ -1,0 +1,121 @@
+-- All laws together.
+use Rattle.std.proofs.Common.{◌≡◌, ℕ, suc, ◌<◌, ◌≤◌, ◌^◌, List, [], ◌∷◌, Bool, true, false, cond, Some, inl, inr, arith, refl, sym, ap, subst, ◌∙◌}
+use Rattle.lex_text.specs.Names.{same_text}
+use Rattle.rule_tests.specs.Tests.{IsFine}
+use Rattle.indus_tree.specs.Tree.{Property}
+use Rattle.indus_types.specs.Sums.{property_bits}
+use Rattle.tele_layout.specs.Telemetry.{whole_bytes}
+use Rattle.p4_tree.specs.Tree.{Control, Top, constant, typedef, header_type, struct_type, register, parser, control, Program}
+use Rattle.p4_meaning.specs.Parts.{control_named, named_in}
+use Rattle.p4_parser_states.specs.Laws.{ReachesIsExact}
+use Rattle.p4_rules.specs.ProgramRules.{program_scope, IsWellTyped}
+use Rattle.p4_printer.specs.CanSpell.{CanSpell}
+use Rattle.network_run.specs.Network.{Wiring, IsWiring}
+use Rattle.linked_programs.specs.Linked.{Place, is_ingress, is_egress, place_in, control_roots, headers_type, metadata_type}
+use Rattle.linked_programs.specs.Linked as linked
+use Rattle.linked_programs.specs.Gives.{AreOwnRoots, GivesMonitor}
+use Rattle.linked_programs.specs.Spells.{AreNames, HasNamesAt, HaveNames}
+use Rattle.linked_hosts.specs.Linkable as hosts
+use Rattle.linked_hosts.specs.Linkable.{Linkable, HasOwnRoots}
+use Rattle.linked_hosts.proofs.OwnRoots.{linkable_has_own_roots}
+use Rattle.linked_rules.specs.Promises.{KeepsRules}
+use Rattle.linked_rules.proofs.NamesStand.{linked_names_stand}
+use Rattle.tree_linkage.specs.Trees.{CanLink, linked_form, AreLinkedTrees}
+use Rattle.tree_linkage.proofs.Theorem.{linked_form_is_given, are_linked}
+use Rattle.whole_properties.specs.Whole.{Given, lower_monitor, IsFitTele, Keeps, IsVariable, IsFitContents}
+use Rattle.whole_properties.specs.Asked.{IsGiven, FitsView}
+use Rattle.whole_properties.proofs.TelemetryBytes.{telemetry_is_linked}
+use Rattle.whole_monitor.specs.WholeLaws.{whole_laws}
+use Rattle.monitor_trees.specs.Trees.{halves_of}
+use Rattle.monitor_trees.proofs.Promised.{gives_monitor}
+use Rattle.monitor_trees.proofs.SpelledTrees.{spelled}
+use Rattle.monitor_rules.specs.Told.{entry_told, exit_told}
+use Rattle.monitor_rules.proofs.Declares.{declares_its_own}
+use Rattle.monitor_rules.proofs.PassRules.{passes}
+use Rattle.monitor_rules.proofs.TellRules.{tells}
+use Rattle.link_faults.specs.NoFault.{HasNoFault}
+use Rattle.link_faults.proofs.NoFault.{no_fault_says}
+use Rattle.faultless_programs.proofs.Given.{no_fault_can_link}
+use Rattle.faultless_programs.proofs.FoundViews.{found_views_fit, found_views_are_own}
+use Rattle.faultless_programs.proofs.Within.{faultless_is_well_typed}
+use Rattle.linked_properties.specs.Linked.{CanBeLinked, given_in, trees_in, FaultlessIsGiven, TreesKeepRules, IsPropertyLinked, FaultlessIsLinked}
+use Rattle.linked_properties.proofs.Counted.{trees_are_counted, room_is_counted}
+use Rattle.linked_properties.proofs.Shown.{found_fields_are_shown}
+use Rattle.linked_properties.proofs.RootNames.{RootsAreNames, roots_are_names}
+
+module _ (property : Property) (f : Program) (room : ℕ) (can : CanBeLinked property f room) (k : Linkable (linked_form f)) where
+  abbrev g : Given
+  g = given_in property f k
+
+  no : HasNoFault f property room
+  no = (no_fault_says f property room).0 can.faultless
+
+  can_link : CanLink f
+  can_link = no_fault_can_link f can.typed can.spelled no.names
+
+  host : hosts.IsGiven (linked_form f)
+  host = linked_form_is_given f can_link
+
+  given : IsGiven g
+  given = record { plain = can.plain; light = no.weight; reports = can.reports; own_views = found_views_are_own g can.plain.typed f can.typed no.fields no.names }
+
+  own_roots : HasOwnRoots (linked_form f) k
+  own_roots = linkable_has_own_roots (linked_form f) k
+
+  gives : GivesMonitor (trees_in property f k) (lower_monitor g) (halves_of g) k.ingress.name k.egress.name (control_roots k.ingress) (control_roots k.egress)
+  gives = gives_monitor g given (control_roots k.ingress) (control_roots k.egress) own_roots.ingress own_roots.egress
+
+  rules : KeepsRules (trees_in property f k) (linked_form f) k
+  rules =
+      record {
+        passes =
+            passes g given (program_scope (linked_form f)) (headers_type (linked_form f)) (metadata_type (linked_form f))
+            (found_fields_are_shown property can.plain.typed f can.typed no.names no.fields) (control_roots k.ingress) (control_roots k.egress);
+        tops = gives.tops;
+        entry_locals = gives.entry_locals;
+        exit_locals = gives.exit_locals;
+      }
+
+  module _ (exact : ReachesIsExact) where
+    typed : (size s : ℕ) (links : List ℕ) → s < 2 ^ 16 → IsWellTyped (linked.linked (trees_in property f k) size s links (linked_form f))
+    typed =
+        faultless_is_well_typed exact f can.typed can.spelled can.leaves property room can.small can.faultless (trees_in property f k) k rules (entry_told g) (exit_told g)
+        (tells g given (program_scope (linked_form f)) (headers_type (linked_form f)) (metadata_type (linked_form f)) (control_roots k.ingress) (control_roots k.egress))
+        (trees_are_counted g (control_roots k.ingress) (control_roots k.egress) (program_scope (linked_form f)) (headers_type (linked_form f)) (metadata_type (linked_form f)) rules.passes)
+
+  module _ (net : Wiring) (wired : IsWiring net) where
+    linkage : AreLinkedTrees (trees_in property f k) (lower_monitor g) (halves_of g) f k net (IsVariable g) (IsFitContents g)
+    linkage =
+        are_linked (lower_monitor g) (IsFitTele g) (Keeps g) (FitsView g) (IsVariable g) (IsFitContents g) (whole_laws g given) (trees_in property f k) (halves_of g) f k net can_link
+        (record { gives = gives; views = λ s keeps. found_views_fit g can.plain.typed f can.typed no.fields no.names s keeps }) wired
+
+  low_size : suc (lower_monitor g).room < 2 ^ 128
+  low_size = at (suc (lower_monitor g).room) (whole_bytes (property_bits property)) (room_is_counted g) no.room can.small
+    where
+      at : (a b : ℕ) → a ≡ b → b ≤ room → room ≤ 256 → a < 2 ^ 128
+      at a b e h i = omega (arith, e, h, i)
+
+  root_names : RootsAreNames (linked_form f) k
+  root_names = roots_are_names (linked_form f) host k
+
+pub faultless_is_given : FaultlessIsGiven
+faultless_is_given property f room can k = given property f room can k
+
+pub trees_keep_rules : TreesKeepRules
+trees_keep_rules property f room can k = rules property f room can k
+
+pub faultless_is_linked : ReachesIsExact → FaultlessIsLinked
+faultless_is_linked exact property f room can k net wired =
+    (let g = given_in property f k in
+    let i = given property f room can k in
+    let names = root_names property f room can k in
+    let all = linkage property f room can k net wired in
+    record {
+      typed = typed property f room can k exact;
+      linkage = all;
+      size = room_is_counted g;
+      telemetry = telemetry_is_linked g i;
+      spelled = λ words s small. all.spelled (spelled g i words (control_roots k.ingress) (control_roots k.egress) names.ingress names.egress) (low_size property f room can k) s small;
+      own = declares_its_own g (control_roots k.ingress) (control_roots k.egress);
+      names = linked_names_stand (trees_in property f k) (declares_its_own g (control_roots k.ingress) (control_roots k.egress)) (linked_form f) (host property f room can k);
+    })
