@@ -1,34 +1,32 @@
 -- The telemetry's bits, and the cells of sensors.
-use Rattle.std.proofs.Common.{◌≡◌, codes, ℕ, zero, suc, ◌+◌, ◌-◌, ◌*◌, ◌/◌, ◌<◌, ◌≤◌, ◌^◌, List, [], ◌∷◌, ◌++◌, map, false, refl, sym, ap, subst, ◌∙◌, arith}
+use Rattle.std.proofs.Common.{◌≡◌, codes, ℕ, zero, suc, ◌+◌, ◌-◌, ◌*◌, ◌/◌, ◌≤◌, ◌^◌, List, [], ◌∷◌, ◌++◌, map, false, refl, sym, ap, ◌∙◌, arith}
 use Rattle.rule_tests.specs.Tests.{IsFine}
 use Rattle.indus_tree.specs.Tree.{Shape, one, list, set, dict, Decl}
-use Rattle.indus_tree.specs.State.{shape_width, width_of}
+use Rattle.indus_tree.specs.State.{width_of}
 use Rattle.indus_tree.specs.declared.tree.DeclKind.{DeclKind}
 use Rattle.indus_tree.specs.declared.tree.DeclKind.TheVariants.{Tele, Sensor, Header, Control}
 use Rattle.indus_tree.specs.declared.tree.Ty.{Ty}
-use Rattle.indus_types.specs.Sums.{cells_in, sensor_cells, property_weight, block_weight, shape_bits, decl_bits, decls_bits, property_bits}
+use Rattle.indus_types.specs.Sums.{cells_in, sensor_cells, property_weight, shape_bits, decl_bits, decls_bits, property_bits}
 use Rattle.tele_layout.specs.Telemetry.{whole_bytes}
 use Rattle.flat_laws.specs.Numbered.{item_decls, numbered_shape, numbered_kind, numbered_from}
-use Rattle.p4_tree.specs.Tree.{Top, header_type}
+use Rattle.p4_tree.specs.Tree.{Top}
 use Rattle.p4_tree.specs.declared.statement.PTy.{PTy}
 use Rattle.p4_meaning.specs.Scope.{Roots}
 use Rattle.p4_meaning.specs.Parsing.{Field, width_sum}
-use Rattle.p4_scopes.specs.Scopes.{Scope, Stands, typed, What, fields, declare, core, is_missing, fields_bits, add_up}
+use Rattle.p4_scopes.specs.Scopes.{Scope, Stands, typed, What, fields, declare, core, is_missing, fields_bits}
 use Rattle.p4_scopes.specs.declared.thing.Thing.TheVariants as thing
-use Rattle.p4_declaration_rules.specs.Controls.{tops_tests, after_top, after_tops}
+use Rattle.p4_declaration_rules.specs.Controls.{tops_tests, after_top}
 use Rattle.p4_rules.specs.Limits.{add_cells, tops_cells}
 use Rattle.p4_rule_laws.proofs.KeepsLemmas.{after_tops_keeps, declared}
 use Rattle.sensor_registers.specs.Registers.{cell_count}
 use Rattle.monitor_laws.specs.Telemetry.{mark_field}
 use Rattle.linked_programs.specs.Linked.{rejects_top, switch_top, front}
 use Rattle.linked_rules.specs.Passes.{Passes, front_scope}
-use Rattle.whole_properties.specs.Whole.{Given, decls, tele_field, tele_fields, tele_room, fill_field, fill_fields, lower_monitor}
+use Rattle.whole_properties.specs.Whole.{Given, decls, tele_field, tele_fields, tele_room, fill_field, fill_fields}
 use Rattle.whole_properties.specs.Whole as whole
 use Rattle.lower_blocks.specs.Trees.{field_tree, register_tops, registers_of}
 use Rattle.monitor_trees.specs.Trees.{trees_of}
-use Rattle.monitor_rules.specs.Told.{entry_told, exit_told}
 use Rattle.monitor_rules.proofs.FewTold.{tell_few}
-use Rattle.faultless_programs.specs.Within.{IsCounted}
 use Rattle.linked_properties.specs.Counted.{TreesAreCounted, RoomIsCounted}
 
 -- ---- the telemetry's fields

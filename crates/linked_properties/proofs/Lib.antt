@@ -1,5 +1,6 @@
 pub mod Counted
-pub mod OwnPaths
+pub mod Paths
 pub mod Shown
+pub mod Words
 pub mod RootNames
 pub mod Linked

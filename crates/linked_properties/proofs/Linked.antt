@@ -1,20 +1,15 @@
 -- All laws together.
-use Rattle.std.proofs.Common.{◌≡◌, ℕ, suc, ◌<◌, ◌≤◌, ◌^◌, List, [], ◌∷◌, Bool, true, false, cond, Some, inl, inr, arith, refl, sym, ap, subst, ◌∙◌}
-use Rattle.lex_text.specs.Names.{same_text}
-use Rattle.rule_tests.specs.Tests.{IsFine}
+use Rattle.std.proofs.Common.{◌≡◌, ℕ, suc, ◌<◌, ◌≤◌, ◌^◌, List, arith}
 use Rattle.indus_tree.specs.Tree.{Property}
 use Rattle.indus_types.specs.Sums.{property_bits}
 use Rattle.tele_layout.specs.Telemetry.{whole_bytes}
-use Rattle.p4_tree.specs.Tree.{Control, Top, constant, typedef, header_type, struct_type, register, parser, control, Program}
-use Rattle.p4_meaning.specs.Parts.{control_named, named_in}
+use Rattle.p4_tree.specs.Tree.{Program}
 use Rattle.p4_parser_states.specs.Laws.{ReachesIsExact}
 use Rattle.p4_rules.specs.ProgramRules.{program_scope, IsWellTyped}
-use Rattle.p4_printer.specs.CanSpell.{CanSpell}
 use Rattle.network_run.specs.Network.{Wiring, IsWiring}
-use Rattle.linked_programs.specs.Linked.{Place, is_ingress, is_egress, place_in, control_roots, headers_type, metadata_type}
+use Rattle.linked_programs.specs.Linked.{control_roots, headers_type, metadata_type}
 use Rattle.linked_programs.specs.Linked as linked
-use Rattle.linked_programs.specs.Gives.{AreOwnRoots, GivesMonitor}
-use Rattle.linked_programs.specs.Spells.{AreNames, HasNamesAt, HaveNames}
+use Rattle.linked_programs.specs.Gives.{GivesMonitor}
 use Rattle.linked_hosts.specs.Linkable as hosts
 use Rattle.linked_hosts.specs.Linkable.{Linkable, HasOwnRoots}
 use Rattle.linked_hosts.proofs.OwnRoots.{linkable_has_own_roots}
@@ -27,6 +22,7 @@ use Rattle.whole_properties.specs.Asked.{IsGiven, FitsView}
 use Rattle.whole_properties.proofs.TelemetryBytes.{telemetry_is_linked}
 use Rattle.whole_monitor.specs.WholeLaws.{whole_laws}
 use Rattle.monitor_trees.specs.Trees.{halves_of}
+use Rattle.monitor_trees.specs.Spelled.{HasWords}
 use Rattle.monitor_trees.proofs.Promised.{gives_monitor}
 use Rattle.monitor_trees.proofs.SpelledTrees.{spelled}
 use Rattle.monitor_rules.specs.Told.{entry_told, exit_told}
@@ -38,9 +34,10 @@ use Rattle.link_faults.proofs.NoFault.{no_fault_says}
 use Rattle.faultless_programs.proofs.Given.{no_fault_can_link}
 use Rattle.faultless_programs.proofs.FoundViews.{found_views_fit, found_views_are_own}
 use Rattle.faultless_programs.proofs.Within.{faultless_is_well_typed}
-use Rattle.linked_properties.specs.Linked.{CanBeLinked, given_in, trees_in, FaultlessIsGiven, TreesKeepRules, IsPropertyLinked, FaultlessIsLinked}
+use Rattle.linked_properties.specs.Linked.{CanBeLinked, given_in, trees_in, AreTextNames, FaultlessIsGiven, TreesKeepRules, FaultlessIsLinked}
 use Rattle.linked_properties.proofs.Counted.{trees_are_counted, room_is_counted}
 use Rattle.linked_properties.proofs.Shown.{found_fields_are_shown}
+use Rattle.linked_properties.proofs.Words.{found_views_are_words}
 use Rattle.linked_properties.proofs.RootNames.{RootsAreNames, roots_are_names}
 
 module _ (property : Property) (f : Program) (room : ℕ) (can : CanBeLinked property f room) (k : Linkable (linked_form f)) where
@@ -98,6 +95,9 @@ module _ (property : Property) (f : Program) (room : ℕ) (can : CanBeLinked pro
   root_names : RootsAreNames (linked_form f) k
   root_names = roots_are_names (linked_form f) host k
 
+  has_words : AreTextNames property.decls → HasWords g
+  has_words h = record { declared = h; views = found_views_are_words property can.plain.typed f can.typed can.spelled no.fields }
+
 pub faultless_is_given : FaultlessIsGiven
 faultless_is_given property f room can k = given property f room can k
 
@@ -115,7 +115,7 @@ faultless_is_linked exact property f room can k net wired =
       linkage = all;
       size = room_is_counted g;
       telemetry = telemetry_is_linked g i;
-      spelled = λ words s small. all.spelled (spelled g i words (control_roots k.ingress) (control_roots k.egress) names.ingress names.egress) (low_size property f room can k) s small;
+      spelled = λ words s small. all.spelled (spelled g i (has_words property f room can k words) (control_roots k.ingress) (control_roots k.egress) names.ingress names.egress) (low_size property f room can k) s small;
       own = declares_its_own g (control_roots k.ingress) (control_roots k.egress);
       names = linked_names_stand (trees_in property f k) (declares_its_own g (control_roots k.ingress) (control_roots k.egress)) (linked_form f) (host property f room can k);
     })

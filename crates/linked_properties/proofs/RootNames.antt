@@ -11,7 +11,7 @@ use Rattle.p4_statement_rules.specs.declared.rule.Part.{Part}
 use Rattle.p4_statement_rules.specs.declared.rule.Part.TheVariants as place
 use Rattle.p4_declaration_rules.specs.Controls.{part_in}
 use Rattle.p4_rules.specs.Mains.{Structs, apply_wants, structs_of, wanted_tests}
-use Rattle.p4_rules.specs.ProgramRules.{program_scope, IsWellTyped}
+use Rattle.p4_rules.specs.ProgramRules.{program_scope}
 use Rattle.p4_rule_laws.specs.Roles.{In, wants_of}
 use Rattle.p4_rule_laws.proofs.RoleFacts.{parts_in_role}
 use Rattle.p4_typing_laws.proofs.CallCounts.{text_is}

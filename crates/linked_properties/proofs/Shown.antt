@@ -13,17 +13,15 @@ use Rattle.indus_tree.specs.declared.tree.DeclKind.TheVariants.{Header}
 use Rattle.indus_tree.specs.declared.tree.Ty.TheVariants as ty
 use Rattle.indus_rules.specs.Sites.{decl_sites}
 use Rattle.indus_rules.specs.Rules as indus
-use Rattle.indus_rules.specs.Rules.{Fine, bad_bits, bad_shape, misshapen, ill_started, is_truth, bad_path, same_truth, ill_headed}
+use Rattle.indus_rules.specs.Rules.{Fine, bad_shape, misshapen, ill_started, is_truth, bad_path, same_truth, ill_headed}
 use Rattle.indus_rules.specs.declared.rule.Rule.TheVariants.{KindDiffers, BadSize}
 use Rattle.indus_types.proofs.SoundSights.{good_bits}
 use Rattle.indus_types.proofs.Checked.{each_fine}
 use Rattle.flat_laws.proofs.Typed.{IsFineDecl}
-use Rattle.rule_tests.specs.Tests.{IsFine}
 use Rattle.p4_tree.specs.Tree.{Parser, Top, constant, typedef, header_type, struct_type, register, parser, control, Program}
 use Rattle.p4_meaning.specs.Standard.{headers_root, metadata_root, standard_root}
 use Rattle.p4_meaning.specs.Parts.{named_in, parser_named, parser_type, parser_in}
 use Rattle.p4_meaning.proofs.Words.{sound}
-use Rattle.p4_scopes.specs.Scopes as scope
 use Rattle.p4_scopes.specs.Scopes.{Scope, Stands, missing, typed, held, cells, act, rows, state, function, algorithm, other, is_missing, standard_at, core}
 use Rattle.p4_scopes.specs.declared.kind.Kind.TheVariants.{Number, Truth, Error, Unknown}
 use Rattle.p4_scopes.specs.declared.thing.Thing.TheVariants.{Scalar, Struct, Standard, PacketIn, PacketOut}
@@ -31,12 +29,10 @@ use Rattle.p4_scopes.specs.declared.thing.Thing.TheVariants as thing
 use Rattle.p4_declaration_rules.specs.Controls.{after_tops}
 use Rattle.p4_declaration_rules.specs.Firsts.{first_top, first_tops}
 use Rattle.p4_rules.specs.ProgramRules.{program_scope, IsWellTyped}
-use Rattle.p4_rule_laws.specs.Old.{OldPath}
 use Rattle.p4_rule_laws.proofs.KeepsLemmas.{after_tops_keeps}
 use Rattle.p4_typing_laws.proofs.Fine.{typed_fine}
 use Rattle.p4_typing_laws.proofs.CallCounts.{text_is}
 use Rattle.own_code.proofs.Apart.{text_decides}
-use Rattle.own_programs.specs.OwnPrograms.{is_own}
 use Rattle.own_programs.proofs.Programs.{first_at}
 use Rattle.exit_statements.specs.Without.{Exits}
 use Rattle.exit_programs.specs.Programs.{exits_in, top_without, program_without}
@@ -46,13 +42,13 @@ use Rattle.linked_programs.specs.Linked.{headers_type, metadata_type}
 use Rattle.parted_programs.specs.Parted.{with_two}
 use Rattle.parted_programs.proofs.EmptyStruct.{empty_struct}
 use Rattle.tree_linkage.specs.Trees.{linked_form}
-use Rattle.monitor_rules.specs.Fields.{standard_in, shown_at, IsOwnBehind, IsShown, HasFields}
+use Rattle.monitor_rules.specs.Fields.{shown_at, IsOwnBehind, IsShown, HasFields}
 use Rattle.link_faults.specs.Refusals.{Refusal, or_else}
 use Rattle.link_faults.specs.HeaderFields.{field_in, header_path, asked_path, is_field_of, is_header, fits, field_fault, decl_fault, fields_fault}
 use Rattle.link_faults.proofs.Taken.{none_is_taken}
 use Rattle.faultless_programs.specs.FieldPaths.{IsFieldPath}
 use Rattle.linked_properties.specs.Shown.{FoundFieldsAreShown}
-use Rattle.linked_properties.proofs.OwnPaths.{HasOwnPaths, paths_own}
+use Rattle.linked_properties.proofs.Paths.{IsOwn, HasPaths, old_path, paths_own}
 
 no_case : {A : Type 0} → true ≡ false → A
 no_case e = absurd (cc)
@@ -88,7 +84,7 @@ good_path (r ∷ x ∷ y ∷ []) h = (text_decides r (codes "hdr")).0 (turned (s
 good_path (r ∷ x ∷ y ∷ z ∷ q) h = no_case h
 
 -- of a header whose validity is asked
-abbrev IsValidPath : List (List ℕ) → Type 0
+abbrev pub IsValidPath : List (List ℕ) → Type 0
 IsValidPath (r ∷ x ∷ y ∷ []) = r ≡ headers_root
 IsValidPath _ = ⊥
 
@@ -115,12 +111,12 @@ wide_shape w h = let g = good_bits w h in sound w g.least g.most
 
 -- a header variable reads a field by a path of the forms that programs have, in a width that words have, or asks for a
 -- header's validity and is a truth value
-record IsHeaderDecl (d : Decl) : Type 0 where
-  field : d.valid ≡ false → IsFieldPath d.path
-  validity : d.valid ≡ true → IsValidPath d.path × (shape_width d.shape ≡ 1)
-  wide : (w : ℕ) → d.shape ≡ one (ty.Bit w) → sound_width w ≡ w
+pub record IsHeaderDecl (d : Decl) : Type 0 where
+  pub field : d.valid ≡ false → IsFieldPath d.path
+  pub validity : d.valid ≡ true → IsValidPath d.path × (shape_width d.shape ≡ 1)
+  pub wide : (w : ℕ) → d.shape ≡ one (ty.Bit w) → sound_width w ≡ w
 
-header_decl : (d : Decl) → IsFineDecl d → d.kind ≡ Header → IsHeaderDecl d
+pub header_decl : (d : Decl) → IsFineDecl d → d.kind ≡ Header → IsHeaderDecl d
 header_decl d f k =
     record {
       field = λ v. good_path d.path (both_are (bad_path d.path false) (not (same_truth (is_truth d.shape) false)) (at false v)).0;
@@ -136,19 +132,19 @@ header_decl d f k =
     at : (b : Bool) → d.valid ≡ b → ill_headed Header d.shape d.path b ≡ false
     at b v = ap₂ (λ (t : DeclKind) (c : Bool). ill_headed t d.shape d.path c) (sym k) (sym v) ∙ ill
 
-none_first : (a b : Option Refusal) → or_else a b ≡ None → a ≡ None
+pub none_first : (a b : Option Refusal) → or_else a b ≡ None → a ≡ None
 none_first None b h = refl
 none_first (Some x) b h = absurd (cc)
 
-none_rest : (a b : Option Refusal) → or_else a b ≡ None → b ≡ None
+pub none_rest : (a b : Option Refusal) → or_else a b ≡ None → b ≡ None
 none_rest None b h = h
 none_rest (Some x) b h = absurd (cc)
 
-record IsFound (st : Stands) (d : Decl) : Type 0 where
-  there : is_missing st ≡ false
-  fits_it : fits d.valid d.shape st ≡ true
+pub record IsFound (st : Stands) (d : Decl) : Type 0 where
+  pub there : is_missing st ≡ false
+  pub fits_it : fits d.valid d.shape st ≡ true
 
-is_found : (st : Stands) (d : Decl) → field_fault st d ≡ None → IsFound st d
+pub is_found : (st : Stands) (d : Decl) → field_fault st d ≡ None → IsFound st d
 is_found st d h = go (is_missing st) refl (fits d.valid d.shape st) refl _ _ h
   where
     go : (a : Bool) → is_missing st ≡ a → (b : Bool) → fits d.valid d.shape st ≡ b → (x y : Refusal) → cond a (Some x) (cond b None (Some y)) ≡ None → IsFound st d
@@ -202,7 +198,7 @@ is_a_header (function g) h = no_case (sym h)
 is_a_header algorithm h = no_case (sym h)
 is_a_header other h = no_case (sym h)
 
-decls_fine : (p : Property) → indus.IsWellTyped p → AllByRecursion IsFineDecl p.decls
+pub decls_fine : (p : Property) → indus.IsWellTyped p → AllByRecursion IsFineDecl p.decls
 decls_fine p well = each_decl p.decls [] (each_fine p well).1.0
 
 -- ---- taking exits out
@@ -248,8 +244,8 @@ module _ (f : Program) (well : IsWellTyped f) (given : HasGivenNames f) where
   all : E ≡ S
   all = (first_at f well).all
 
-  own_paths : HasOwnPaths S
-  own_paths = subst HasOwnPaths all (paths_own f.tops given.tops)
+  own_paths : HasPaths IsOwn S
+  own_paths = subst (HasPaths IsOwn) all (paths_own f.tops given.tops)
 
   standard_kept : (x : List ℕ) → S (codes "standard_metadata_t" ∷ x ∷ []) ≡ standard_at x
   unfolding core
@@ -269,13 +265,13 @@ module _ (f : Program) (well : IsWellTyped f) (given : HasGivenNames f) where
     IsThere q = is_missing (field_in S f q) ≡ false
 
     in_headers : (x : List ℕ) (xs : List (List ℕ)) → IsThere (headers_root ∷ x ∷ xs) → IsSame (headers_root ∷ x ∷ xs)
-    in_headers x xs h = (own_paths.behind H (x ∷ xs) h, agree.headers x xs h)
+    in_headers x xs h = (old_path (x ∷ xs) (own_paths.behind H (x ∷ xs) h), agree.headers x xs h)
 
     in_metadata : (x : List ℕ) → IsThere (metadata_root ∷ x ∷ []) → IsSame (metadata_root ∷ x ∷ [])
-    in_metadata x h = (own_paths.behind M (x ∷ []) h, agree.metadata x [] h)
+    in_metadata x h = (old_path (x ∷ []) (own_paths.behind M (x ∷ []) h), agree.metadata x [] h)
 
     in_standard : (x : List ℕ) → IsThere (standard_root ∷ x ∷ []) → IsSame (standard_root ∷ x ∷ [])
-    in_standard x h = (own_paths.behind (codes "standard_metadata_t") (x ∷ []) h, sym (standard_kept x))
+    in_standard x h = (old_path (x ∷ []) (own_paths.behind (codes "standard_metadata_t") (x ∷ []) h), sym (standard_kept x))
 
     same_field : (q : List (List ℕ)) → IsFieldPath q → IsThere q → IsSame q
     same_field [] i h = absurd i

@@ -2,7 +2,9 @@
 -- switches. Read `Faults` of `link_faults` before it, `Within` of `faultless_programs`, `Trees` of `monitor_trees` and of
 -- `tree_linkage`, and `Form` and `Promises` of `linked_rules`.
 use Rattle.std.specs.Prelude.{◌≡◌, ℕ, suc, ◌<◌, ◌≤◌, ◌^◌, List, true, None}
-use Rattle.indus_tree.specs.Tree.{Property}
+use Rattle.std.specs.List.{AllByRecursion, list_all}
+use Rattle.lex_text.specs.NameToken.{is_name_byte}
+use Rattle.indus_tree.specs.Tree.{Property, Decl}
 use Rattle.indus_tree.specs.State.{Held}
 use Rattle.indus_tree.specs.Reports.{HasReportsBelow}
 use Rattle.indus_types.specs.Sums.{property_bits}
@@ -25,7 +27,6 @@ use Rattle.tree_linkage.specs.Trees.{linked_form, linked_trees, AreLinkedTrees}
 use Rattle.whole_properties.specs.Whole.{Given, words, lower_monitor, IsFitTele, IsVariable, IsFitContents}
 use Rattle.whole_properties.specs.Asked.{IsGiven}
 use Rattle.monitor_trees.specs.Trees.{trees_of, halves_of}
-use Rattle.monitor_trees.specs.Spelled.{HasWords}
 use Rattle.link_faults.specs.Faults.{link_fault}
 use Rattle.faultless_programs.specs.Within.{LeavesRoom}
 
@@ -60,6 +61,10 @@ TreesKeepRules =
     (property : Property) (f : Program) (room : ℕ) → CanBeLinked property f room → (k : Linkable (linked_form f))
     → KeepsRules (trees_in property f k) (linked_form f) k
 
+-- the declared names are of letters, digits and `_`, as those of a text are
+abbrev pub AreTextNames : List Decl → Type 0
+AreTextNames ds = AllByRecursion (λ d. list_all is_name_byte d.name ≡ true) ds
+
 -- what is said of the linked programs
 module _ (property : Property) (f : Program) (k : Linkable (linked_form f)) (net : Wiring) where
   abbrev given : Given
@@ -77,7 +82,7 @@ module _ (property : Property) (f : Program) (k : Linkable (linked_form f)) (net
     pub size : suc (lower_monitor given).room ≡ whole_bytes (property_bits property)
     pub telemetry : (t : Held) → IsFitTele given t → tele_bytes property t ≡ linked_bytes (first_byte property.edition) (words given t)
     -- they are texts, where the property's names are those of a text
-    pub spelled : HasWords given → (s : ℕ) → s < 2 ^ 128 → CanSpell (linked_trees trees (lower_monitor given) f net s)
+    pub spelled : AreTextNames property.decls → (s : ℕ) → s < 2 ^ 128 → CanSpell (linked_trees trees (lower_monitor given) f net s)
     -- of names that are no monitor's they declare those of what is linked and no others
     pub own : DeclaresItsOwn trees
     pub names :

@@ -2,7 +2,7 @@
 
 ghost use Rattle.linked_properties.specs.Counted.{RoomIsCounted, TreesAreCounted};
 ghost use Rattle.linked_properties.specs.Linked.{FaultlessIsGiven, FaultlessIsLinked, TreesKeepRules};
-ghost use Rattle.linked_properties.specs.Shown.{FoundFieldsAreShown};
+ghost use Rattle.linked_properties.specs.Shown.{FoundFieldsAreShown, FoundViewsAreWords};
 
 use p4_parser_states::laws::reaches_is_exact;
 
@@ -19,6 +19,11 @@ pub fn room_is_counted()
 /// Header variables that are found in a program are in what is linked of it.
 pub fn found_fields_are_shown()
     ensures { FoundFieldsAreShown }
+{}
+
+/// What they read can be spelled.
+pub fn found_views_are_words()
+    ensures { FoundViewsAreWords }
 {}
 
 /// A property without fault in a program is one that is lowered there.
