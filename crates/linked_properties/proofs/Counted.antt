@@ -1,5 +1,5 @@
 -- The telemetry's bits, and the cells of sensors.
-use Rattle.std.proofs.Common.{◌≡◌, codes, ℕ, zero, suc, ◌+◌, ◌-◌, ◌*◌, ◌/◌, ◌≤◌, ◌^◌, List, [], ◌∷◌, ◌++◌, map, false, refl, sym, ap, ◌∙◌, arith}
+use Rattle.std.proofs.Common.{◌≡◌, codes, ℕ, zero, suc, ◌+◌, ◌-◌, ◌*◌, ◌/◌, ◌≤◌, List, [], ◌∷◌, ◌++◌, map, false, refl, sym, ap, ◌∙◌, arith}
 use Rattle.rule_tests.specs.Tests.{IsFine}
 use Rattle.indus_tree.specs.Tree.{Shape, one, list, set, dict, Decl}
 use Rattle.indus_tree.specs.State.{width_of}
