@@ -26,16 +26,20 @@ use Rattle.monitor_trees.specs.Spelled.{HasWords}
 use Rattle.monitor_trees.proofs.Promised.{gives_monitor}
 use Rattle.monitor_trees.proofs.SpelledTrees.{spelled}
 use Rattle.monitor_rules.specs.Told.{entry_told, exit_told}
+use Rattle.monitor_rules.specs.Counted.{AreCounted}
+use Rattle.monitor_rules.proofs.CountRules.{counted}
+use Rattle.monitor_rules.proofs.FewTold.{tell_few}
 use Rattle.monitor_rules.proofs.Declares.{declares_its_own}
 use Rattle.monitor_rules.proofs.PassRules.{passes}
 use Rattle.monitor_rules.proofs.TellRules.{tells}
 use Rattle.link_faults.specs.NoFault.{HasNoFault}
 use Rattle.link_faults.proofs.NoFault.{no_fault_says}
+use Rattle.faultless_programs.specs.Within.{IsCounted}
 use Rattle.faultless_programs.proofs.Given.{no_fault_can_link}
 use Rattle.faultless_programs.proofs.FoundViews.{found_views_fit, found_views_are_own}
 use Rattle.faultless_programs.proofs.Within.{faultless_is_well_typed}
 use Rattle.linked_properties.specs.Linked.{CanBeLinked, given_in, trees_in, AreTextNames, FaultlessIsGiven, TreesKeepRules, FaultlessIsLinked}
-use Rattle.linked_properties.proofs.Counted.{trees_are_counted, room_is_counted}
+use Rattle.linked_properties.proofs.Counted.{room_is_counted}
 use Rattle.linked_properties.proofs.Shown.{found_fields_are_shown}
 use Rattle.linked_properties.proofs.Words.{found_views_are_words}
 use Rattle.linked_properties.proofs.RootNames.{RootsAreNames, roots_are_names}
@@ -73,12 +77,18 @@ module _ (property : Property) (f : Program) (room : ℕ) (can : CanBeLinked pro
         exit_locals = gives.exit_locals;
       }
 
+  are_counted : AreCounted g (control_roots k.ingress) (control_roots k.egress) rules.passes.bits
+  are_counted = counted g given (program_scope (linked_form f)) (headers_type (linked_form f)) (metadata_type (linked_form f)) (control_roots k.ingress) (control_roots k.egress) rules.passes
+
+  is_counted : IsCounted (trees_in property f k) rules.passes.bits (entry_told g) (exit_told g) property
+  is_counted = record { bytes = are_counted.bytes; digests = tell_few g; cells = are_counted.cells }
+
   module _ (exact : ReachesIsExact) where
     typed : (size s : ℕ) (links : List ℕ) → s < 2 ^ 16 → IsWellTyped (linked.linked (trees_in property f k) size s links (linked_form f))
     typed =
         faultless_is_well_typed exact f can.typed can.spelled can.leaves property room can.small can.faultless (trees_in property f k) k rules (entry_told g) (exit_told g)
         (tells g given (program_scope (linked_form f)) (headers_type (linked_form f)) (metadata_type (linked_form f)) (control_roots k.ingress) (control_roots k.egress))
-        (trees_are_counted g (control_roots k.ingress) (control_roots k.egress) (program_scope (linked_form f)) (headers_type (linked_form f)) (metadata_type (linked_form f)) rules.passes)
+        is_counted
 
   module _ (net : Wiring) (wired : IsWiring net) where
     linkage : AreLinkedTrees (trees_in property f k) (lower_monitor g) (halves_of g) f k net (IsVariable g) (IsFitContents g)

@@ -1,15 +1,10 @@
 //! A program without fault, linked with a whole property.
 
-ghost use Rattle.linked_properties.specs.Counted.{RoomIsCounted, TreesAreCounted};
+ghost use Rattle.linked_properties.specs.Counted.{RoomIsCounted};
 ghost use Rattle.linked_properties.specs.Linked.{FaultlessIsGiven, FaultlessIsLinked, TreesKeepRules};
 ghost use Rattle.linked_properties.specs.Shown.{FoundFieldsAreShown, FoundViewsAreWords};
 
 use p4_parser_states::laws::reaches_is_exact;
-
-/// What is counted of a property's trees is what the property's sums say.
-pub fn trees_are_counted()
-    ensures { TreesAreCounted }
-{}
 
 /// The telemetry that is added to a frame has the bytes of the property's telemetry.
 pub fn room_is_counted()

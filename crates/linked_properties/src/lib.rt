@@ -12,5 +12,5 @@ mod laws;
 
 pub use laws::{
     faultless_is_given, faultless_is_linked, found_fields_are_shown, found_views_are_words,
-    room_is_counted, trees_are_counted, trees_keep_rules,
+    room_is_counted, trees_keep_rules,
 };

@@ -71,7 +71,7 @@ kind_sum Sensor v d e = ap (λ k. width_sum (tele_field k d ++ [])) e
 kind_sum Header v d e = ap (λ k. width_sum (tele_field k d ++ [])) e
 kind_sum Control v d e = ap (λ k. width_sum (tele_field k d ++ [])) e
 
-numbered_sum : (ds : List Decl) (n : ℕ) → Bits (numbered_from n ds) ≡ decls_bits ds
+pub numbered_sum : (ds : List Decl) (n : ℕ) → Bits (numbered_from n ds) ≡ decls_bits ds
 numbered_sum [] n = refl
 numbered_sum (d ∷ ds) n =
     let a = bits_both (numbered_kind d.kind n d) (numbered_from (n + 1) ds) in

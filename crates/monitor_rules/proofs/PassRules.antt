@@ -289,95 +289,95 @@ module _ (g : Given) (i : IsGiven g) where
   abbrev fs : List Field
   fs = mark_field ∷ monitor_fields g
 
-  abbrev T0 : Scope
-  T0 = declare core rejects_register (scope.register (type.Bit 32))
+  abbrev behind_rejects : Scope
+  behind_rejects = declare core rejects_register (scope.register (type.Bit 32))
 
   abbrev Tele_type : What
-  Tele_type = fields (thing.Header (fields_bits T0 (map field_tree fs))) (map field_tree fs)
+  Tele_type = fields (thing.Header (fields_bits behind_rejects (map field_tree fs))) (map field_tree fs)
 
-  abbrev T1 : Scope
-  T1 = declare T0 (codes "hydra_tele_t") Tele_type
+  abbrev behind_header : Scope
+  behind_header = declare behind_rejects (codes "hydra_tele_t") Tele_type
 
-  abbrev T2 : Scope
-  T2 = after_tops T1 (registers_of ps)
+  abbrev behind_registers : Scope
+  behind_registers = after_tops behind_header (registers_of ps)
 
-  abbrev T3 : Scope
-  T3 = declare T2 switch_name (value Constant (type.Bit 16))
+  abbrev behind_switch : Scope
+  behind_switch = declare behind_registers switch_name (value Constant (type.Bit 16))
 
-  pub front_is : (r s : Roots) (n : ℕ) → front_scope (trees_of g r s) n ≡ T3
-  front_is r s n = tops_append T1 (registers_of ps) (switch_top n ∷ [])
+  pub front_is : (r s : Roots) (n : ℕ) → front_scope (trees_of g r s) n ≡ behind_switch
+  front_is r s n = tops_append behind_header (registers_of ps) (switch_top n ∷ [])
 
   no_sensor : (x : List ℕ) → ((d : Decl) → same_text (sensor_name d.name) x ≡ false) → NoSensor x ps
   no_sensor x f = all_given (λ d. same_text (sensor_name d.name) x ≡ false) f ps
 
-  pub at_tele : (xs : List (List ℕ)) → T3 (codes "hydra_tele_t" ∷ xs) ≡ behind T0 Tele_type xs
-  at_tele xs = declare_other T2 switch_name (value Constant (type.Bit 16)) (codes "hydra_tele_t") xs refl ∙ registers_others T1 ps (codes "hydra_tele_t") xs (no_sensor (codes "hydra_tele_t") (λ d. refl)) ∙ declare_here T0 (codes "hydra_tele_t") Tele_type xs
+  pub at_tele : (xs : List (List ℕ)) → behind_switch (codes "hydra_tele_t" ∷ xs) ≡ behind behind_rejects Tele_type xs
+  at_tele xs = declare_other behind_registers switch_name (value Constant (type.Bit 16)) (codes "hydra_tele_t") xs refl ∙ registers_others behind_header ps (codes "hydra_tele_t") xs (no_sensor (codes "hydra_tele_t") (λ d. refl)) ∙ declare_here behind_rejects (codes "hydra_tele_t") Tele_type xs
 
-  at_rejects : T3 (rejects_register ∷ []) ≡ cells (t.Number 32)
+  at_rejects : behind_switch (rejects_register ∷ []) ≡ cells (t.Number 32)
   at_rejects =
-      declare_other T2 switch_name (value Constant (type.Bit 16)) rejects_register [] refl ∙ registers_others T1 ps rejects_register [] (no_sensor rejects_register (λ d. refl))
-      ∙ declare_other T0 (codes "hydra_tele_t") Tele_type rejects_register [] refl ∙ declare_here core rejects_register (scope.register (type.Bit 32)) []
+      declare_other behind_registers switch_name (value Constant (type.Bit 16)) rejects_register [] refl ∙ registers_others behind_header ps rejects_register [] (no_sensor rejects_register (λ d. refl))
+      ∙ declare_other behind_rejects (codes "hydra_tele_t") Tele_type rejects_register [] refl ∙ declare_here core rejects_register (scope.register (type.Bit 32)) []
 
-  at_switch : T3 (switch_name ∷ []) ≡ held Constant (thing.Scalar (t.Number 16))
-  at_switch = declare_here T2 switch_name (value Constant (type.Bit 16)) []
+  at_switch : behind_switch (switch_name ∷ []) ≡ held Constant (thing.Scalar (t.Number 16))
+  at_switch = declare_here behind_registers switch_name (value Constant (type.Bit 16)) []
 
-  at_sensor : (x : List ℕ) (c : Decl) → lookup ds x ≡ Some c → c.kind ≡ Sensor → T3 (sensor_name x ∷ []) ≡ cells (t.Number (shape_width c.shape))
+  at_sensor : (x : List ℕ) (c : Decl) → lookup ds x ≡ Some c → c.kind ≡ Sensor → behind_switch (sensor_name x ∷ []) ≡ cells (t.Number (shape_width c.shape))
   at_sensor x c is k =
-      declare_other T2 switch_name (value Constant (type.Bit 16)) (sensor_name x) [] refl
-      ∙ registers_stand T1 ps x c (once_in g.property i.plain.typed)
+      declare_other behind_registers switch_name (value Constant (type.Bit 16)) (sensor_name x) [] refl
+      ∙ registers_stand behind_header ps x c (once_in g.property i.plain.typed)
       (all_weaker (λ d. lookup ps d.name ≡ Some d) (λ d. misshapen d.kind d.shape ≡ false) (λ d h. (shapely g.property i.plain.typed).shaped d.name d h) ps (each_found ps (once_in g.property i.plain.typed)))
       (kept_sensor g i x c is k) k
 
   -- other names of the monitor's stand for nothing
   front_missing :
       (x : List ℕ) → same_text switch_name x ≡ false → ((d : Decl) → same_text (sensor_name d.name) x ≡ false) → same_text (codes "hydra_tele_t") x ≡ false → same_text rejects_register x ≡ false → is_missing (core (x ∷ [])) ≡ true →
-      is_missing (T3 (x ∷ [])) ≡ true
+      is_missing (behind_switch (x ∷ [])) ≡ true
   front_missing x a b c d e =
       ap is_missing
-      (declare_other T2 switch_name (value Constant (type.Bit 16)) x [] a ∙ registers_others T1 ps x [] (no_sensor x b) ∙ declare_other T0 (codes "hydra_tele_t") Tele_type x [] c ∙ declare_other core rejects_register (scope.register (type.Bit 32)) x [] d)
+      (declare_other behind_registers switch_name (value Constant (type.Bit 16)) x [] a ∙ registers_others behind_header ps x [] (no_sensor x b) ∙ declare_other behind_rejects (codes "hydra_tele_t") Tele_type x [] c ∙ declare_other core rejects_register (scope.register (type.Bit 32)) x [] d)
       ∙ e
 
-  found_missing : (n : ℕ) → is_missing (T3 (found_name n ∷ [])) ≡ true
+  found_missing : (n : ℕ) → is_missing (behind_switch (found_name n ∷ [])) ≡ true
   unfolding core
   found_missing n = front_missing (found_name n) refl (λ d. refl) refl refl refl
 
-  key_missing : (n j : ℕ) → is_missing (T3 (key_name n j ∷ [])) ≡ true
+  key_missing : (n j : ℕ) → is_missing (behind_switch (key_name n j ∷ [])) ≡ true
   unfolding core
   key_missing n j = front_missing (key_name n j) refl (λ d. refl) refl refl refl
 
-  action_missing : (n : ℕ) → is_missing (T3 (action_name n ∷ [])) ≡ true
+  action_missing : (n : ℕ) → is_missing (behind_switch (action_name n ∷ [])) ≡ true
   unfolding core
   action_missing n = front_missing (action_name n) refl (λ d. refl) refl refl refl
 
-  table_missing : (n : ℕ) → is_missing (T3 (table_name n ∷ [])) ≡ true
+  table_missing : (n : ℕ) → is_missing (behind_switch (table_name n ∷ [])) ≡ true
   unfolding core
   table_missing n = front_missing (table_name n) refl (λ d. refl) refl refl refl
 
-  value_missing : is_missing (T3 (value_name ∷ [])) ≡ true
+  value_missing : is_missing (behind_switch (value_name ∷ [])) ≡ true
   unfolding core
   value_missing = front_missing value_name refl (λ d. refl) refl refl refl
 
-  first_missing : is_missing (T3 (first_name ∷ [])) ≡ true
+  first_missing : is_missing (behind_switch (first_name ∷ [])) ≡ true
   unfolding core
   first_missing = front_missing first_name refl (λ d. refl) refl refl refl
 
-  last_missing : is_missing (T3 (last_name ∷ [])) ≡ true
+  last_missing : is_missing (behind_switch (last_name ∷ [])) ≡ true
   unfolding core
   last_missing = front_missing last_name refl (λ d. refl) refl refl refl
 
-  rejected_missing : is_missing (T3 (rejected_name ∷ [])) ≡ true
+  rejected_missing : is_missing (behind_switch (rejected_name ∷ [])) ≡ true
   unfolding core
   rejected_missing = front_missing rejected_name refl (λ d. refl) refl refl refl
 
-  count_missing : is_missing (T3 (count_name ∷ [])) ≡ true
+  count_missing : is_missing (behind_switch (count_name ∷ [])) ≡ true
   unfolding core
   count_missing = front_missing count_name refl (λ d. refl) refl refl refl
 
-  taken_missing : is_missing (T3 (codes "hydra_taken" ∷ [])) ≡ true
+  taken_missing : is_missing (behind_switch (codes "hydra_taken" ∷ [])) ≡ true
   unfolding core
   taken_missing = front_missing (codes "hydra_taken") refl (λ d. refl) refl refl refl
 
-  start_missing : is_missing (T3 (codes "hydra_start" ∷ [])) ≡ true
+  start_missing : is_missing (behind_switch (codes "hydra_start" ∷ [])) ≡ true
   unfolding core
   start_missing = front_missing (codes "hydra_start") refl (λ d. refl) refl refl refl
 
@@ -393,22 +393,22 @@ module _ (g : Given) (i : IsGiven g) where
   whole_bytes : width_sum fs % 8 ≡ 0
   whole_bytes = let w = (laws g i).whole in omega (arith, w)
 
-  registers_new : RegistersNew T1 ps
+  registers_new : RegistersNew behind_header ps
   unfolding core
   registers_new =
-      all_given (λ d. is_missing (T1 (sensor_name d.name ∷ [])) ≡ true)
-      (λ d. ap is_missing (declare_other T0 (codes "hydra_tele_t") Tele_type (sensor_name d.name) [] refl ∙ declare_other core rejects_register (scope.register (type.Bit 32)) (sensor_name d.name) [] refl)) ps
+      all_given (λ d. is_missing (behind_header (sensor_name d.name ∷ [])) ≡ true)
+      (λ d. ap is_missing (declare_other behind_rejects (codes "hydra_tele_t") Tele_type (sensor_name d.name) [] refl ∙ declare_other core rejects_register (scope.register (type.Bit 32)) (sensor_name d.name) [] refl)) ps
 
   registers_can : AllByRecursion CanBeRegister ps
   registers_can = all_weaker (λ d. lookup ps d.name ≡ Some d) CanBeRegister (λ d h. record { shaped = (shapely g.property i.plain.typed).shaped d.name d h; sized = (shapely g.property i.plain.typed).sized d.name d h }) ps (each_found ps (once_in g.property i.plain.typed))
 
-  switch_new : not (is_missing (T2 (switch_name ∷ []))) ≡ false
+  switch_new : not (is_missing (behind_registers (switch_name ∷ []))) ≡ false
   unfolding core
   switch_new =
       ap (λ st. not (is_missing st))
-      (registers_others T1 ps switch_name [] (no_sensor switch_name (λ d. refl)) ∙ declare_other T0 (codes "hydra_tele_t") Tele_type switch_name [] refl ∙ declare_other core rejects_register (scope.register (type.Bit 32)) switch_name [] refl)
+      (registers_others behind_header ps switch_name [] (no_sensor switch_name (λ d. refl)) ∙ declare_other behind_rejects (codes "hydra_tele_t") Tele_type switch_name [] refl ∙ declare_other core rejects_register (scope.register (type.Bit 32)) switch_name [] refl)
 
-  tele_new : not (is_missing (T0 (codes "hydra_tele_t" ∷ []))) ≡ false
+  tele_new : not (is_missing (behind_rejects (codes "hydra_tele_t" ∷ []))) ≡ false
   unfolding core
   tele_new = ap (λ st. not (is_missing st)) (declare_other core rejects_register (scope.register (type.Bit 32)) (codes "hydra_tele_t") [] refl)
 
@@ -417,8 +417,8 @@ module _ (g : Given) (i : IsGiven g) where
   front_fine r s n main = (
     (refl, ((refl, refl), refl)),
     (
-      (tele_new, (no_twice fs (apart g i), (fields_fine T0 fs fields_wide, ap (λ n. not (nat_eq n 0)) (bits_are T0 fs ∙ whole_bytes)))),
-      registers_fine main T1 ps (switch_top n ∷ []) (once_in g.property i.plain.typed) registers_can registers_new ((switch_new, ((refl, refl), (((refl, refl), (refl, refl)), tt))), tt),
+      (tele_new, (no_twice fs (apart g i), (fields_fine behind_rejects fs fields_wide, ap (λ n. not (nat_eq n 0)) (bits_are behind_rejects fs ∙ whole_bytes)))),
+      registers_fine main behind_header ps (switch_top n ∷ []) (once_in g.property i.plain.typed) registers_can registers_new ((switch_new, ((refl, refl), (((refl, refl), (refl, refl)), tt))), tt),
     ),
   )
 
@@ -445,7 +445,7 @@ module _ (g : Given) (i : IsGiven g) where
     pub declared : AllByRecursion (λ r. IsDeclared ds r.1) rs
     pub apart : AreApart (fields_of (fl ++ vars_in rs))
     pub rising : (a : ℕ) × (b : ℕ) × (b ≤ 2 ^ 64) × AreRising a b rs
-    pub missing : AllByRecursion (λ v. is_missing (T3 (v.1 ∷ [])) ≡ true) fl
+    pub missing : AllByRecursion (λ v. is_missing (behind_switch (v.1 ∷ [])) ≡ true) fl
     pub mine : AllByRecursion (λ v. is_mine v.1 ≡ true) fl
 
   pub entry_part : IsPart [] (block_numbers ds (init g) 0)
@@ -499,7 +499,7 @@ module _ (g : Given) (i : IsGiven g) where
     apart_looks = looks_apart p.rising.0 p.rising.1 (lookups_in rs) p.rising.2 (lookups_rising ds p.rising.0 p.rising.1 rs p.rising.3)
 
     -- what is declared breaks no rule
-    part_fine : (r : Roots) (v : Scope) → asked.Offers r T3 v → IsFresh T3 v → IsFine (locals_tests place.Apply v (locals_for (fl ++ vars_in rs) (lookups_in rs)))
+    part_fine : (r : Roots) (v : Scope) → asked.Offers r behind_switch v → IsFresh behind_switch v → IsFine (locals_tests place.Apply v (locals_for (fl ++ vars_in rs) (lookups_in rs)))
     part_fine r v o f =
         locals_fine fl p.flags rs single p.apart apart_looks wides v
         (new_both fl (vars_in rs) (flags_new fl p.mine p.missing)
@@ -510,7 +510,7 @@ module _ (g : Given) (i : IsGiven g) where
         new_both [] b h k = k
         new_both (x ∷ a) b h k = (h.0, new_both a b h.1 k)
 
-        flags_new : (a : List Var) → AllByRecursion (λ v. is_mine v.1 ≡ true) a → AllByRecursion (λ v. is_missing (T3 (v.1 ∷ [])) ≡ true) a → VarsNew v a
+        flags_new : (a : List Var) → AllByRecursion (λ v. is_mine v.1 ≡ true) a → AllByRecursion (λ v. is_missing (behind_switch (v.1 ∷ [])) ≡ true) a → VarsNew v a
         flags_new [] m h = tt
         flags_new (x ∷ a) m h = (f x.1 m.0 h.0, flags_new a m.1 h.1)
 
@@ -541,7 +541,7 @@ module _ (g : Given) (i : IsGiven g) where
 
   -- ---- what the statements see
 
-  module _ (S : Scope) (H M : List ℕ) (has : HasFields S H M ps) (r : Roots) (z : Scope) (o : asked.Offers r T3 z) (w : asked.Shows S H M r z) where
+  module _ (S : Scope) (H M : List ℕ) (has : HasFields S H M ps) (r : Roots) (z : Scope) (o : asked.Offers r behind_switch z) (w : asked.Shows S H M r z) where
     module _ (exits : Bool) (part : Block) (hops : exits ≡ false → is_init part ≡ true)
         (first : exits ≡ true → z (first_name ∷ []) ≡ held Writable (thing.Scalar t.Truth)) (last : exits ≡ true → z (last_name ∷ []) ≡ held Writable (thing.Scalar t.Truth)) (rejected : exits ≡ true → z (rejected_name ∷ []) ≡ held Writable (thing.Scalar t.Truth)) where
       abbrev st : Sight
@@ -551,13 +551,13 @@ module _ (g : Given) (i : IsGiven g) where
       truth_read p e = record { there = ap is_missing e; read = ap uses.reads e; kind = ap value_kind e }
 
       tele_place : (x : List ℕ) (c : Decl) → lookup ds x ≡ Some c → c.kind ≡ Tele → z (tele_path (in_control r) x) ≡ wide (shape_width c.shape)
-      tele_place x c is k = o.tele (tele_name x ∷ []) ∙ ap (λ st. as_held Writable (as_typed st)) (at_tele (tele_name x ∷ []) ∙ field_found T0 ds (fill_fields (tele_fields ds)) x c is k)
+      tele_place x c is k = o.tele (tele_name x ∷ []) ∙ ap (λ st. as_held Writable (as_typed st)) (at_tele (tele_name x ∷ []) ∙ field_found behind_rejects ds (fill_fields (tele_fields ds)) x c is k)
 
       view_is : (x : List ℕ) (c : Decl) → lookup ds x ≡ Some c → c.kind ≡ Header → IsOf z (from.kind_of (value_type c.shape)) (rooted_view r c)
       view_is x c is k =
           let at = kept_header g i x c is k in
           let fine = fine_decl ps [] x c (each_fine g.property i.plain.typed).1.0 at in
-          view_shown S H M r T3 z o w c k (shaped_well c fine) (truth_is c.kind c.shape c.path c.valid k (neither (misshapen c.kind c.shape || ill_started c.kind c.start) (ill_headed c.kind c.shape c.path c.valid) (fine.fine KindDiffers)).1) (has x c at k)
+          view_shown S H M r behind_switch z o w c k (shaped_well c fine) (truth_is c.kind c.shape c.path c.valid k (neither (misshapen c.kind c.shape || ill_started c.kind c.start) (ill_headed c.kind c.shape c.path c.valid) (fine.fine KindDiffers)).1) (has x c at k)
         where
           truth_is : (k : DeclKind) (s : Shape) (xs : List (List ℕ)) (b : Bool) → k ≡ Header → ill_headed k s xs b ≡ false → same_truth (is_truth s) b ≡ true
           truth_is Header s xs b e h = twice_not (same_truth (is_truth s) b) (neither (bad_path xs b) (not (same_truth (is_truth s) b)) h).1
@@ -671,7 +671,7 @@ module _ (g : Given) (i : IsGiven g) where
       (no_act_at count_name (λ n. refl) (lookups_in exit_numbers)) (no_look_at count_name (λ n. refl) (lookups_in exit_numbers))
 
   module _ (S : Scope) (H M : List ℕ) (has : HasFields S H M ps) (r s : Roots) where
-    u_is : (n : ℕ) → front_scope (trees_of g r s) n ≡ T3
+    u_is : (n : ℕ) → front_scope (trees_of g r s) n ≡ behind_switch
     u_is n = front_is r s n
 
     pub passes : Passes (trees_of g r s) S H M r s
@@ -679,7 +679,7 @@ module _ (g : Given) (i : IsGiven g) where
         record {
           marked = (laws g i).marked;
           front = λ n small main. front_fine r s n main;
-          bits = fields_bits T0 (map field_tree fs);
+          bits = fields_bits behind_rejects (map field_tree fs);
           tele_type = λ n. ap (λ (u : Scope). u (codes "hydra_tele_t" ∷ [])) (u_is n) ∙ at_tele [];
           mark = λ n. ap (λ (u : Scope). u (codes "hydra_tele_t" ∷ mark_name ∷ [])) (u_is n) ∙ at_tele (mark_name ∷ []);
           rejects = λ n. ap (λ (u : Scope). u (rejects_register ∷ [])) (u_is n) ∙ at_rejects;
