@@ -1,6 +1,7 @@
 -- What the linked programs of a call are.
-use Rattle.std.proofs.Common.{◌≡◌, ℕ, suc, ◌<◌, ◌≤◌, ◌^◌, List, [], ◌∷◌, ◌++◌, Option, Some, None, nat_eq, if◌then◌else◌, map, length, subst, refl, sym, ap, ◌∙◌, arith}
-use Rattle.std.specs.List.{range_with_len}
+use Rattle.std.proofs.Common.{◌≡◌, ℕ, zero, suc, ◌+◌, ◌<◌, ◌≤◌, ◌^◌, List, [], ◌∷◌, ◌++◌, Option, Some, None, nat_eq, if◌then◌else◌, map, length, subst, refl, sym, ap, ◌∙◌, arith}
+use Rattle.std.specs.List.{All, AllByRecursion, range_with_len}
+use Rattle.std.proofs.lemmas.List.Elements.{All-from_recursion}
 use Rattle.indus_tree.specs.Tree.{Property}
 use Rattle.indus_types.specs.Sums.{property_bits}
 use Rattle.tele_layout.specs.Telemetry.{whole_bytes}
@@ -8,6 +9,7 @@ use Rattle.p4_tree.specs.Tree.{Control, Program}
 use Rattle.p4_meaning.specs.Parts.{control_in}
 use Rattle.p4_parser_states.specs.Laws.{ReachesIsExact}
 use Rattle.p4_rules.specs.ProgramRules.{IsWellTyped}
+use Rattle.p4_printer.specs.CanSpell.{CanSpell}
 use Rattle.exit_programs.specs.Names.{HasGivenNames}
 use Rattle.network_run.specs.Network.{Link, IsWiring}
 use Rattle.network_file.specs.Network.{Network}
@@ -24,7 +26,7 @@ use Rattle.link_faults.specs.NoFault.{HasNoFault}
 use Rattle.link_faults.proofs.NoFault.{no_fault_says}
 use Rattle.link_faults.proofs.Taken.{none_is_taken}
 use Rattle.faultless_programs.proofs.Given.{no_fault_can_link}
-use Rattle.linked_properties.specs.Linked.{CanBeLinked, given_in, trees_in, IsPropertyLinked}
+use Rattle.linked_properties.specs.Linked.{CanBeLinked, given_in, trees_in, AreTextNames, IsPropertyLinked}
 use Rattle.linked_properties.proofs.Linked.{faultless_is_linked}
 use Rattle.program_linker.specs.Linked.{tables_in, AreLinked}
 use Rattle.program_linker.specs.Parts.{trees_for, rows_for, lowered_in, rows_in, linked_at}
@@ -34,6 +36,17 @@ same_ports [] s = refl
 same_ports (l ∷ ls) s =
     ap (λ (r : List ℕ). (if nat_eq s l.one then l.one_port ∷ [] else []) ++ ((if nat_eq s l.other then l.other_port ∷ [] else []) ++ r))
     (same_ports ls s)
+
+-- what holds of each program of a list holds of what they are made from
+each_of :
+    {A : Type 0} (v : A → Program) (F : ℕ → Program) (P : Program → Type 0) (a : ℕ) (xs : List A) (n : ℕ) →
+    map v xs ≡ map F (range_with_len a n) → ((s : ℕ) → s < a + n → P (F s)) → AllByRecursion (λ x. P (v x)) xs
+each_of v F P a [] n e h = tt
+each_of v F P a (x ∷ xs) zero e h = absurd cc
+each_of v F P a (x ∷ xs) (suc n) e h =
+    let first : v x ≡ F a = cc in
+    let rest : map v xs ≡ map F (range_with_len (a + 1) n) = cc in
+    (subst P (sym first) (h a (omega arith)), each_of v F P (a + 1) xs n rest (λ s l. h s (omega (arith, l))))
 
 module _ (property : Property) (f : Program) (room : ℕ) (can : CanBeLinked property f room) where
   no : HasNoFault f property room
@@ -92,3 +105,11 @@ module _ (property : Property) (f : Program) (room : ℕ) (can : CanBeLinked pro
           trees = made ∙ ap (λ (g : ℕ → Program). map g (range_with_len 0 (length net.names))) (λ i. λ s. one_is l is q same size counted s i);
           tables = read ∙ ap (rows_in property) same ∙ rows_are;
         }
+
+    pub are_spelled :
+        {A : Type 0} (v : A → Program) (xs : List A) (rows : List (List ℕ × (List ℕ × Option ℕ))) →
+        AreLinked f property net (map v xs) rows → length net.names ≤ 256 → AreTextNames property.decls → All (λ x. CanSpell (v x)) xs
+    are_spelled v xs rows are few texts =
+        All-from_recursion xs
+        (each_of v (linked_trees (trees_in property f are.controls) (lower_monitor (given_in property f are.controls)) f (wiring_of net)) CanSpell 0 xs (length net.names) are.trees
+        (λ s l. are.linked.spelled texts s (omega (arith, l, few))))

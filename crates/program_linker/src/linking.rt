@@ -1,6 +1,6 @@
 //! The linked programs of a network.
 
-ghost use Rattle.std.specs.Prelude.{◌≡◌, ◌≤◌, ◌^◌, IfErr, IfOk, None, map};
+ghost use Rattle.std.specs.Prelude.{◌≡◌, ◌≤◌, ◌^◌, All, IfErr, IfOk, None, map};
 ghost use Rattle.indus_tree.specs.View.{property_of};
 ghost use Rattle.indus_tree.specs.Reports.{HasReportsBelow};
 ghost use Rattle.flat_laws.specs.Meaning.{IsPlainProperty};
@@ -11,6 +11,7 @@ ghost use Rattle.link_faults.specs.Faults.{link_fault};
 ghost use Rattle.link_checks.specs.Faults.{IsRefused};
 ghost use Rattle.faultless_programs.specs.Within.{LeavesRoom};
 ghost use Rattle.lower_blocks.specs.Results.{rows_of};
+ghost use Rattle.linked_properties.specs.Linked.{AreTextNames};
 ghost use Rattle.program_linker.specs.Linked.{AreLinked};
 
 use crate::form::linked_form;
@@ -60,13 +61,15 @@ pub fn link(
     ensures refused { IfErr result (IsRefused (link_fault (program_of f.now) (property_of p.now) room)) }
     ensures linked { IfOk result (λ o. AreLinked (program_of f.now) (property_of p.now) net.now
         (map program_of o.programs.items) (rows_of o.map)) }
+    ensures spelled { IfOk result (λ o. AreTextNames (property_of p.now).decls → All (λ t. CanSpell (program_of t)) o.programs.items) }
     ensures layout { IfOk result (λ o. IsLayoutOf (property_of p.now) o.layout) }
 {
     reaches_is_exact();
     let (layout, flat) = check_link(alloc, f.program(), p, room)?;
     let program = linked_form(alloc, f)?;
     let (parts, map) = monitor_of(alloc, p, &flat, &layout, &program)?;
-    let programs = linked_switches(alloc, &parts, layout.bytes, net, &program)?;
+    let count = net.count();
+    let programs = linked_switches(alloc, &parts, layout.bytes, net, count, &program)?;
     Ok(Linked {
         programs,
         map,

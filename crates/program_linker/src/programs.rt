@@ -1,6 +1,6 @@
 //! The linked programs of switches.
 
-ghost use Rattle.std.specs.Prelude.{◌≡◌, ◌<◌, IfOk, length, map, ℕ};
+ghost use Rattle.std.specs.Prelude.{◌≡◌, ◌<◌, ◌≤◌, IfOk, map, ℕ};
 ghost use Rattle.std.specs.List.{range_with_len};
 ghost use Rattle.p4_tree.specs.View.{program_of};
 ghost use Rattle.p4_rules.specs.ProgramRules.{IsWellTyped};
@@ -42,20 +42,22 @@ fn linked_switch(
     typed(alloc, tree)
 }
 
-/// The linked programs of all switches.
+/// The linked programs of so many switches.
 pub(crate) fn linked_switches(
     alloc: Global,
     parts: &Parts,
     size: u16,
     net: &Network,
+    count: u16,
     program: &Program,
 ) -> Result<Vec<TypedProgram>, AllocError>
-    requires { (s : ℕ) → s < 256 → IsWellTyped (linked_at (lowered_of parts.now) size net.now (program_of program.now) s) }
+    requires few { count ≤ 256 }
+    requires typed { (s : ℕ) → s < 256 → IsWellTyped (linked_at (lowered_of parts.now) size net.now (program_of program.now) s) }
     ensures { IfOk result (λ v. map program_of v.items
-        ≡ map (linked_at (lowered_of parts.now) size net.now (program_of program.now)) (range_with_len 0 (length net.now.names))) }
+        ≡ map (linked_at (lowered_of parts.now) size net.now (program_of program.now)) (range_with_len 0 count)) }
 {
     let mut programs = Vec::new(alloc);
-    for switch in 0..net.count() {
+    for switch in 0..count {
         programs.push(linked_switch(alloc, parts, size, net, switch, program)?)?;
     }
     Ok(programs)
