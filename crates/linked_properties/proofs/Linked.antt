@@ -13,7 +13,9 @@ use Rattle.linked_programs.specs.Gives.{GivesMonitor}
 use Rattle.linked_hosts.specs.Linkable as hosts
 use Rattle.linked_hosts.specs.Linkable.{Linkable, HasOwnRoots}
 use Rattle.linked_hosts.proofs.OwnRoots.{linkable_has_own_roots}
+use Rattle.linked_rules.specs.Fine.{CountAlike}
 use Rattle.linked_rules.specs.Promises.{KeepsRules}
+use Rattle.linked_rules.proofs.LinkedFine.{switches_count_alike}
 use Rattle.linked_rules.proofs.NamesStand.{linked_names_stand}
 use Rattle.tree_linkage.specs.Trees.{CanLink, linked_form, AreLinkedTrees}
 use Rattle.tree_linkage.proofs.Theorem.{linked_form_is_given, are_linked}
@@ -90,6 +92,13 @@ module _ (property : Property) (f : Program) (room : ℕ) (can : CanBeLinked pro
         (tells g given (program_scope (linked_form f)) (headers_type (linked_form f)) (metadata_type (linked_form f)) (control_roots k.ingress) (control_roots k.egress))
         is_counted
 
+    counts :
+        (size s : ℕ) (links : List ℕ) → s < 2 ^ 16 → (r : ℕ) (ports : List ℕ) → r < 2 ^ 16 →
+        CountAlike (linked.linked (trees_in property f k) size s links (linked_form f)) (linked.linked (trees_in property f k) size r ports (linked_form f))
+    counts =
+        switches_count_alike exact (trees_in property f k) (linked_form f) host k rules (entry_told g) (exit_told g)
+        (tells g given (program_scope (linked_form f)) (headers_type (linked_form f)) (metadata_type (linked_form f)) (control_roots k.ingress) (control_roots k.egress))
+
   module _ (net : Wiring) (wired : IsWiring net) where
     linkage : AreLinkedTrees (trees_in property f k) (lower_monitor g) (halves_of g) f k net (IsVariable g) (IsFitContents g)
     linkage =
@@ -122,6 +131,7 @@ faultless_is_linked exact property f room can k net wired =
     let all = linkage property f room can k net wired in
     record {
       typed = typed property f room can k exact;
+      counts = counts property f room can k exact;
       linkage = all;
       size = room_is_counted g;
       telemetry = telemetry_is_linked g i;

@@ -22,6 +22,7 @@ use Rattle.linked_programs.specs.Lowered.{Lowered}
 use Rattle.linked_programs.specs.Linked.{control_roots, linked}
 use Rattle.linked_hosts.specs.Linkable.{Linkable}
 use Rattle.linked_rules.specs.Promises.{KeepsRules}
+use Rattle.linked_rules.specs.Fine.{CountAlike}
 use Rattle.linked_rules.specs.Form.{DeclaresItsOwn}
 use Rattle.tree_linkage.specs.Trees.{linked_form, linked_trees, AreLinkedTrees}
 use Rattle.whole_properties.specs.Whole.{Given, words, lower_monitor, IsFitTele, IsVariable, IsFitContents}
@@ -76,6 +77,10 @@ module _ (property : Property) (f : Program) (k : Linkable (linked_form f)) (net
   pub record IsPropertyLinked : Type 0 where
     -- each is well typed
     pub typed : (size s : ℕ) (links : List ℕ) → s < 2 ^ 16 → IsWellTyped (linked trees size s links (linked_form f))
+    -- as much is counted of it at all switches
+    pub counts :
+        (size s : ℕ) (links : List ℕ) → s < 2 ^ 16 → (r : ℕ) (ports : List ℕ) → r < 2 ^ 16 →
+        CountAlike (linked trees size s links (linked_form f)) (linked trees size r ports (linked_form f))
     -- they are a linkage of the given program and the property, in every valid world and after every number of steps
     pub linkage : AreLinkedTrees trees (lower_monitor given) (halves_of given) f k net (IsVariable given) (IsFitContents given)
     -- the telemetry in front of a frame has the bytes that were reckoned, and is the property's

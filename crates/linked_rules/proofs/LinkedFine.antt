@@ -37,7 +37,7 @@ use Rattle.linked_programs.proofs.PartsLinked.{fields_old}
 use Rattle.linked_hosts.specs.Linkable.{IsGiven, Linkable}
 use Rattle.linked_rules.specs.Passes.{front_scope, Passes}
 use Rattle.linked_rules.specs.Digests.{Tells, told}
-use Rattle.linked_rules.specs.Fine.{LinkedIsWellTyped, Counts, LinkedCounts, LinkedTells, LinkedWithin}
+use Rattle.linked_rules.specs.Fine.{LinkedIsWellTyped, Counts, LinkedCounts, LinkedTells, LinkedWithin, SwitchesCountAlike}
 use Rattle.linked_hosts.proofs.Spots.{core_sum}
 use Rattle.linked_hosts.proofs.ReadyByRules.{names_struct, core_no_struct}
 use Rattle.linked_rules.proofs.Offered.{core_fixed}
@@ -256,6 +256,22 @@ pub linked_tells : ReachesIsExact → LinkedTells
 linked_tells exact l p g k rules size s links small e x tells =
     subst (λ (n : ℕ). n ≤ add_up e (add_up x (most_of_program p))) (sym (tells_all exact l p g k rules.passes rules.tops rules.entry_locals rules.exit_locals size s links small e x tells))
     (told_once p.main e x p.tops core (typed_fine p g.typed).0)
+
+same_front : (ts : List Top) (s r : ℕ) → tops_cells (ts ++ switch_top s ∷ []) ≡ tops_cells (ts ++ switch_top r ∷ [])
+same_front [] s r = refl
+same_front (t ∷ ts) s r = ap (add_cells (top_cells t)) (same_front ts s r)
+
+pub switches_count_alike : ReachesIsExact → SwitchesCountAlike
+switches_count_alike exact l p g k rules e x tells size s links small r ports low =
+    let one = linked_counts exact l p g k rules size s links small in
+    let other = linked_counts exact l p g k rules size r ports low in
+    record {
+      bytes = one.bytes ∙ sym other.bytes;
+      digests =
+          tells_all exact l p g k rules.passes rules.tops rules.entry_locals rules.exit_locals size s links small e x tells
+          ∙ sym (tells_all exact l p g k rules.passes rules.tops rules.entry_locals rules.exit_locals size r ports low e x tells);
+      cells = one.cells ∙ ap (λ (n : ℕ). add_cells (add_cells (top_cells rejects_top) n) (tops_cells p.tops)) (same_front l.tops s r) ∙ sym other.cells;
+    }
 
 pub linked_is_well_typed : ReachesIsExact → LinkedIsWellTyped
 linked_is_well_typed exact l p g k rules size s links small limits = well exact l p g k rules.passes rules.tops rules.entry_locals rules.exit_locals size s links small limits

@@ -47,3 +47,18 @@ LinkedWithin =
     (size s : ℕ) (links : List ℕ) → s < 2 ^ 16 → (e x : ℕ) → TellsIn l p k e x →
     rules.passes.bits / 8 + header_bytes (program_scope p) p ≤ 2304 → e + x + most_of_program p ≤ 20480 →
     tops_cells (front l s) + cells p ≤ 4210689 → IsWellTyped (linked l size s links p)
+
+-- ---- the same at all switches
+
+-- as much is counted of both
+pub record CountAlike (p q : Program) : Type 0 where
+  pub bytes : header_bytes (program_scope p) p ≡ header_bytes (program_scope q) q
+  pub digests : most_of_program p ≡ most_of_program q
+  pub cells : cells p ≡ cells q
+
+-- of linked programs of any two switches, whatever ports have links
+abbrev pub SwitchesCountAlike : Type 0
+SwitchesCountAlike =
+    (l : Lowered) (p : Program) → IsGiven p → (k : Linkable p) → KeepsRules l p k → (e x : ℕ) → TellsIn l p k e x →
+    (size s : ℕ) (links : List ℕ) → s < 2 ^ 16 → (r : ℕ) (ports : List ℕ) → r < 2 ^ 16 →
+    CountAlike (linked l size s links p) (linked l size r ports p)

@@ -1,7 +1,7 @@
 //! What holds of linked programs, by the rules of P4.
 
 ghost use Rattle.linked_rules.specs.BareRules.{RulesCanBeKept};
-ghost use Rattle.linked_rules.specs.Fine.{LinkedCounts, LinkedIsWellTyped, LinkedTells, LinkedWithin};
+ghost use Rattle.linked_rules.specs.Fine.{LinkedCounts, LinkedIsWellTyped, LinkedTells, LinkedWithin, SwitchesCountAlike};
 ghost use Rattle.linked_rules.specs.Form.{LinkedNamesStand, TablesStand};
 ghost use Rattle.linked_rules.specs.Held.{LinkedHolds};
 
@@ -25,6 +25,13 @@ pub fn linked_counts()
 /// The digests that it tells are the program's and the lowering's.
 pub fn linked_tells()
     ensures { LinkedTells }
+{
+    reaches_is_exact();
+}
+
+/// As much is counted of it at all switches, whatever ports have links.
+pub fn switches_count_alike()
+    ensures { SwitchesCountAlike }
 {
     reaches_is_exact();
 }

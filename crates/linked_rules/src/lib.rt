@@ -14,5 +14,5 @@ mod laws;
 
 pub use laws::{
     linked_counts, linked_holds, linked_is_well_typed, linked_names_stand, linked_tells,
-    linked_within, rules_can_be_kept, tables_stand,
+    linked_within, rules_can_be_kept, switches_count_alike, tables_stand,
 };

@@ -19,6 +19,7 @@ use Rattle.linked_programs.specs.Lowered.{Lowered}
 use Rattle.linked_programs.specs.Linked.{linked}
 use Rattle.linked_hosts.specs.Linkable.{Linkable}
 use Rattle.linked_hosts.proofs.ReadyByRules.{well_typed_is_linkable}
+use Rattle.linked_rules.specs.Fine.{CountAlike}
 use Rattle.tree_linkage.specs.Trees.{linked_form, linked_trees}
 use Rattle.tree_linkage.proofs.Theorem.{linked_form_is_given}
 use Rattle.whole_properties.specs.Whole.{lower_monitor}
@@ -81,6 +82,14 @@ module _ (property : Property) (f : Program) (room : ℕ) (can : CanBeLinked pro
         subst (λ (x : Lowered). IsWellTyped (linked_at x size net q s)) (sym (is ∙ trees_are))
         (subst (λ (x : Program). IsWellTyped (linked_at (trees_in property f controls) size net x s)) (sym same)
         (all.typed size s (linked_ports net.links s) (omega (arith, small))))
+
+    pub each_counts_alike :
+        (l : Lowered) → l ≡ lowered_in property (linked_form f) → (q : Program) → q ≡ linked_form f →
+        (size s : ℕ) → s < 256 → CountAlike (linked_at l size net q s) (linked_at l size net q 0)
+    each_counts_alike l is q same size s small =
+        subst (λ (x : Lowered). CountAlike (linked_at x size net q s) (linked_at x size net q 0)) (sym (is ∙ trees_are))
+        (subst (λ (x : Program). CountAlike (linked_at (trees_in property f controls) size net x s) (linked_at (trees_in property f controls) size net x 0)) (sym same)
+        (all.counts size s (linked_ports net.links s) (omega (arith, small)) 0 (linked_ports net.links 0) (omega arith)))
 
     one_is :
         (l : Lowered) → l ≡ lowered_in property (linked_form f) → (q : Program) → q ≡ linked_form f →
