@@ -29,7 +29,7 @@ use Rattle.own_programs.proofs.Names.{broken}
 use Rattle.own_programs.proofs.Programs as of
 use Rattle.exit_programs.proofs.MainParts.{HaveParts, have_parts}
 use Rattle.linked_programs.specs.Lowered.{Lowered}
-use Rattle.linked_programs.specs.Linked.{tele_field, Place, is_ingress, is_egress, is_deparser, is_other, place_in, locals_at, linked_parser, linked_top, control_roots, headers_type, metadata_type, front, switch_top, linked}
+use Rattle.linked_programs.specs.Linked.{tele_field, Place, is_ingress, is_egress, is_deparser, is_other, place_in, locals_at, linked_parser, linked_top, control_roots, headers_type, metadata_type, front, rejects_top, switch_top, linked}
 use Rattle.linked_programs.specs.Gives.{IsLoweredTop, IsLoweredLocal}
 use Rattle.linked_programs.specs.Rewritten.{local_with}
 use Rattle.linked_programs.proofs.LinkedTops.{no_parser, no_struct as no_front_struct, found_parser, structs}
