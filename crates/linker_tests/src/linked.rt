@@ -25,7 +25,7 @@ state more { p.extract(h.w); transition accept; }
 control set<(bit<8>, bool)> c; tele bool b; sensor bit<8>[4] s = 7; {b = (8w1, b) in c;} {s[2] = s[9] + 1;} {report(b, s[0]);} | \
 @top register<bit<8>>(4) r; @ingress r.write(0, h.e.x); std.egress_spec = 3;
 edition 2; header bool v = hdr.e.isValid(); header bit<8> x = hdr.e.x; {report(v);} {} {if (x == 4) {reject;} report(x);} | \
-@verify verify_checksum(true, { h.e.x }, m.s, HashAlgorithm.csum16); @compute update_checksum(h.e.isValid(), { h.e.x, 8w0 }, h.e.y, HashAlgorithm.csum16);";
+@verify verify_checksum(true, { h.e.x, 8w0 }, m.s, HashAlgorithm.csum16); @compute update_checksum(h.e.isValid(), { h.e.x, 8w0 }, h.e.y, HashAlgorithm.csum16);";
 
 /// A program whose parts name their parameters each otherwise.
 const NAMES: &str = "header a_t { bit<8> x; } struct hs { a_t a; } struct ms { bit<8> k; } \
@@ -81,7 +81,7 @@ fn texts_come_back(rt: HostRuntime) -> Result<(), Fail> {
             return Err(Fail::new("a row has one side"));
         };
         let program = text_of(rt.alloc(), pieces)?;
-        assert_eq!(rt; comes_back(rt.alloc(), &program, of), Ok(true), "{row}");
+        assert!(rt; comes_back(rt.alloc(), &program, of)?, "{row}");
     }
     Ok(())
 }
@@ -125,7 +125,8 @@ fn ports_with_links(rt: HostRuntime) -> Result<(), Fail> {
 fn full_program(alloc: Global) -> Result<String, AllocError> {
     let fields = repeated(alloc, "bit<128> f", "; ", 128)?;
     let tells = repeated(alloc, "digest(", ", { h.a.f0 }); ", 2_048)?;
-    format!(in alloc; "header a_t {{ {fields} }} struct hs {{ a_t a; }} struct ms {{ }} \
+    format!(in alloc;
+        "header a_t {{ {fields} }} struct hs {{ a_t a; }} struct ms {{ }} \
 register<bit<8>>(4194304) r; \
 parser P(packet_in b, out hs h, inout ms m, inout standard_metadata_t s) {{ \
 state start {{ transition accept; }} }} \
@@ -134,7 +135,8 @@ control I(inout hs h, inout ms m, inout standard_metadata_t s) {{ apply {{ {tell
 control E(inout hs h, inout ms m, inout standard_metadata_t s) {{ apply {{ {tells} }} }} \
 control K(inout hs h, inout ms m) {{ apply {{ }} }} \
 control D(packet_out b, in hs h) {{ apply {{ }} }} \
-V1Switch(P(), V(), I(), E(), K(), D()) main;")
+V1Switch(P(), V(), I(), E(), K(), D()) main;"
+    )
 }
 
 /// A property with 256 bytes of telemetry, and a weight of 1 + 254 * (1 + 15 * 4) + 222 * 4, which is
@@ -142,13 +144,16 @@ V1Switch(P(), V(), I(), E(), K(), D()) main;")
 fn full_property(alloc: Global) -> Result<String, AllocError> {
     let turn = repeated(alloc, "s = s + ", "; ", 15)?;
     let rest = repeated(alloc, "s = s + ", "; ", 222)?;
-    format!(in alloc; "tele bit<8>[254] l; sensor bit<8> s; {{}} {{for (x in l) {{ {turn} }} {rest} }} {{}}")
+    format!(in alloc;
+        "tele bit<8>[254] l; sensor bit<8> s; {{}} {{for (x in l) {{ {turn} }} {rest} }} {{}}"
+    )
 }
 
 #[test]
 fn at_the_limits(rt: HostRuntime) -> Result<(), Fail> {
     let program = full_program(rt.alloc())?;
     let of = full_property(rt.alloc())?;
-    assert!(rt; linked(rt.alloc(), &program, &of, TWO).is_ok());
+    let linked = linked(rt.alloc(), &program, &of, TWO)?;
+    assert_eq!(rt; linked.programs.len(), 2);
     Ok(())
 }
