@@ -18,11 +18,11 @@ tables_in property f k =
 
 -- the linked trees of all switches, in the network's order, and the tables of control variables in each of them. They are a
 -- linkage of the program and the property, well typed, and all that `IsPropertyLinked` says. f: the program as it is written
-pub record AreLinked (f : Program) (property : Property) (net : Network) (programs : List Program) (tables : List (List ℕ × (List ℕ × Option ℕ))) : Type 0 where
+pub record AreLinked (f : Program) (property : Property) (net : Network) (programs : List Program) (rows : List (List ℕ × (List ℕ × Option ℕ))) : Type 0 where
   pub controls : Linkable (linked_form f)
   pub linked : IsPropertyLinked property f controls (wiring_of net)
   pub trees :
       programs
       ≡ map (linked_trees (trees_in property f controls) (lower_monitor (given_in property f controls)) f (wiring_of net))
       (range_with_len 0 (length net.names))
-  pub tables : tables ≡ tables_in property f controls
+  pub tables : rows ≡ tables_in property f controls
