@@ -1,0 +1,9 @@
+pub mod Named
+pub mod Apart
+pub mod Given
+pub mod Stands
+pub mod Places
+pub mod Lookups
+pub mod Monitor
+pub mod Forms
+pub mod Rows
