@@ -23,6 +23,10 @@ use Rattle.linked_rules.specs.Fine.{CountAlike}
 use Rattle.tree_linkage.specs.Trees.{linked_form, linked_trees}
 use Rattle.tree_linkage.proofs.Theorem.{linked_form_is_given}
 use Rattle.whole_properties.specs.Whole.{lower_monitor}
+use Rattle.indus_tree.specs.Reports.{HasReportsBelow}
+use Rattle.flat_laws.specs.Meaning.{IsPlainProperty}
+use Rattle.faultless_programs.specs.Within.{LeavesRoom}
+use Rattle.link_faults.specs.Faults.{link_fault}
 use Rattle.link_faults.specs.NoFault.{HasNoFault}
 use Rattle.link_faults.proofs.NoFault.{no_fault_says}
 use Rattle.link_faults.proofs.Taken.{none_is_taken}
@@ -48,6 +52,21 @@ each_of v F P a (x ∷ xs) (suc n) e h =
     let first : v x ≡ F a = cc in
     let rest : map v xs ≡ map F (range_with_len (a + 1) n) = cc in
     (subst P (sym first) (h a (omega arith)), each_of v F P (a + 1) xs n rest (λ s l. h s (omega (arith, l))))
+
+-- q: the program, as it was lent
+pub can_be :
+    (property : Property) (f q : Program) (room : ℕ) → q ≡ f → IsPlainProperty property → HasReportsBelow (2 ^ 16) property → IsWellTyped f → CanSpell f →
+    LeavesRoom f → room ≤ 256 → link_fault q property room ≡ None → CanBeLinked property f room
+can_be property f q room same plain reports typed spelled leaves small none =
+    record {
+      plain = plain;
+      reports = reports;
+      typed = typed;
+      spelled = spelled;
+      leaves = leaves;
+      small = small;
+      faultless = ap (λ (x : Program). link_fault x property room) (sym same) ∙ none;
+    }
 
 module _ (property : Property) (f : Program) (room : ℕ) (can : CanBeLinked property f room) where
   no : HasNoFault f property room
@@ -118,7 +137,7 @@ module _ (property : Property) (f : Program) (room : ℕ) (can : CanBeLinked pro
     pub are_spelled :
         {A : Type 0} (v : A → Program) (xs : List A) (rows : List (List ℕ × (List ℕ × Option ℕ))) →
         AreLinked f property net (map v xs) rows → length net.names ≤ 256 → AreTextNames property.decls → All (λ x. CanSpell (v x)) xs
-    are_spelled v xs rows are few texts =
-        All-from_recursion xs
+    are_spelled {A} v xs rows are few texts =
+        All-from_recursion (λ (x : A). CanSpell (v x)) xs
         (each_of v (linked_trees (trees_in property f are.controls) (lower_monitor (given_in property f are.controls)) f (wiring_of net)) CanSpell 0 xs (length net.names) are.trees
         (λ s l. are.linked.spelled texts s (omega (arith, l, few))))

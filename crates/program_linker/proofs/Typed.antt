@@ -1,5 +1,5 @@
 -- A program that breaks no rule is not refused.
-use Rattle.std.proofs.Common.{◌≡◌, ℕ, ⊥}
+use Rattle.std.proofs.Common.{ℕ}
 use Rattle.p4_tree.specs.Tree.{Program}
 use Rattle.p4_rules.specs.ProgramRules.{IsWellTyped, BreaksFirst}
 use Rattle.p4_statement_rules.specs.declared.rule.ProgramRule.{ProgramRule}

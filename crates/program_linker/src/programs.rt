@@ -97,9 +97,7 @@ pub(crate) fn linked_switches(
     let mut programs = Vec::new(alloc);
     programs.push(first)?;
     for switch in 1..count {
-        programs.push(next_switch(
-            alloc, parts, size, net, switch, program, counts,
-        )?)?;
+        programs.push(next_switch(alloc, parts, size, net, switch, program, counts)?)?;
     }
     Ok(programs)
 }
