@@ -1,5 +1,5 @@
 -- The laws of loads and sets: the first table of a name in the one is the only one in the other.
-use Rattle.std.proofs.Common.{◌≡◌, ℕ, suc, List, [], ◌∷◌, map, Bool, true, false, cond, Option, Some, None, refl, sym, ap, ◌∙◌, subst}
+use Rattle.std.proofs.Common.{◌≡◌, ℕ, suc, List, [], ◌∷◌, map, Bool, true, false, cond, Option, Some, refl, sym, ap, ◌∙◌, subst}
 use Rattle.std.specs.Prelude.{nat_eq}
 use Rattle.std.specs.List.{AllByRecursion}
 use Rattle.std.proofs.lemmas.Bool.{eqb-true}
@@ -24,7 +24,7 @@ use Rattle.control_maps.specs.Maps.{held_for, put_named, Misses}
 use Rattle.control_maps.proofs.Names.{others_are_left}
 use Rattle.carried_entries.specs.Forms.{number_or}
 use Rattle.map_runs.specs.Named.{lookup_named, IsOfShape, FitsMap, LoadsAgree, SetsAgree}
-use Rattle.map_runs.proofs.Known.{IsOwn, OwnLookup, own_lookups, held_is}
+use Rattle.map_runs.proofs.Known.{OwnLookup, own_lookups, held_is}
 
 -- ---- what a table holds rests on what it held alone
 
