@@ -1,0 +1,4 @@
+pub mod Known
+pub mod Agree
+pub mod Linked
+pub mod Runs
