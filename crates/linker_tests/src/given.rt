@@ -1,6 +1,6 @@
 //! Properties, programs and networks of texts, as a linker takes them.
 
-ghost use Rattle.std.specs.Prelude.{◌^◌, All, IfOk};
+ghost use Rattle.std.specs.Prelude.{◌^◌, ◌≤◌, All, IfOk, length};
 ghost use Rattle.indus_tree.specs.View.{property_of};
 ghost use Rattle.indus_tree.specs.Reports.{HasReportsBelow};
 ghost use Rattle.flat_laws.specs.Meaning.{IsPlainProperty};
@@ -13,8 +13,9 @@ use indus_reader::read_property;
 use indus_types::{TypedProperty, check_property};
 use json_parts::read_value;
 use network_file::{Network, read_network};
-use p4_decls::read_program;
+use p4_decls::{ProgramFault, read_program};
 use p4_printer::print_program;
+use p4_tree::Program;
 use p4_types::{TypedProgram, check_program};
 use plain_texts::laws::{texts_are_plain, texts_declare_words};
 use program_linker::{LinkFault, Linked, link};
@@ -41,6 +42,14 @@ fn property(alloc: Global, text: &str) -> Result<TypedProperty, Fail>
     }
 }
 
+/// The program of a text, which can be printed.
+fn spelled(alloc: Global, text: &[u8]) -> Result<Program, ProgramFault>
+    requires { length text.now ≤ 1048576 }
+    ensures { IfOk result (λ t. CanSpell (program_of t)) }
+{
+    read_program(alloc, text)
+}
+
 /// The well-typed program of a text.
 fn program(alloc: Global, text: &str) -> Result<TypedProgram, Fail>
     ensures { IfOk result (λ p. CanSpell (program_of p)) }
@@ -48,7 +57,7 @@ fn program(alloc: Global, text: &str) -> Result<TypedProgram, Fail>
     if text.len() > 1_048_576 {
         return Err(Fail::new("a program is too long"));
     }
-    let Ok(tree) = read_program(alloc, text.as_bytes()) else {
+    let Ok(tree) = spelled(alloc, text.as_bytes()) else {
         return Err(Fail::new("no program"));
     };
     match check_program(alloc, tree) {
