@@ -17,10 +17,9 @@ use Rattle.exit_rules.proofs.WellTyped.{stays_well_typed}
 use Rattle.exit_lowering.proofs.Places.{verify_stays, compute_stays, deparser_stays}
 use Rattle.network_run.specs.Network.{Wiring}
 use Rattle.own_code.specs.Regions.{is_mine}
-use Rattle.own_programs.specs.OwnPrograms.{is_own}
 use Rattle.own_programs.proofs.Names.{broken, own_not}
 use Rattle.packet_lengths.specs.Lengths.{plain_table}
-use Rattle.p4_tables.specs.Programs.{state_before, IsStateOf}
+use Rattle.p4_tables.specs.Programs.{state_before}
 use Rattle.p4_tables.specs.Carried.{is_table}
 use Rattle.linked_hosts.specs.Linkable.{Linkable}
 use Rattle.parted_programs.proofs.SameParts.{parted_has_same_parts}

@@ -1,9 +1,9 @@
 -- The control variables that a property looks up are declared in it.
-use Rattle.std.proofs.Common.{◌≡◌, ℕ, zero, suc, ◌+◌, ◌-◌, ◌<◌, ◌≤◌, List, [], ◌∷◌, ◌++◌, map, length, get_or, Bool, true, false, cond, Option, Some, None, refl, sym, ap, ◌∙◌, arith}
+use Rattle.std.proofs.Common.{◌≡◌, ℕ, zero, suc, ◌+◌, ◌-◌, ◌<◌, ◌≤◌, List, [], ◌∷◌, ◌++◌, map, length, Bool, true, false, cond, Option, Some, None, refl, sym, ap, ◌∙◌, arith}
 use Rattle.std.specs.List.{AllByRecursion}
 use Rattle.lex_text.specs.Names.{same_text}
 use Rattle.indus_tree.specs.Tree as indus
-use Rattle.indus_tree.specs.Tree.{Shape, set, Decl}
+use Rattle.indus_tree.specs.Tree.{Decl}
 use Rattle.indus_tree.specs.State.{lookup}
 use Rattle.indus_tree.specs.Hops.{variable_number_from}
 use Rattle.indus_tree.specs.declared.tree.DeclKind.{DeclKind}

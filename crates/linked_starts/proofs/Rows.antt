@@ -1,24 +1,21 @@
 -- Rows that stand for lookups, and their tables by name.
-use Rattle.std.proofs.Common.{◌≡◌, ◌≢◌, ℕ, zero, suc, ◌<◌, List, [], ◌∷◌, ◌++◌, map, length, get_or, Bool, true, false, cond, ◌||◌, Option, Some, None, refl, sym, ap, ap₂, ◌∙◌, subst, arith}
+use Rattle.std.proofs.Common.{◌≡◌, ℕ, ◌<◌, List, [], ◌∷◌, ◌++◌, map, length, get_or, Bool, true, false, cond, ◌||◌, Option, Some, None, refl, sym, ap, ap₂, ◌∙◌}
 use Rattle.std.specs.Prelude.{slice_get, is_some}
 use Rattle.std.specs.List.{AllByRecursion}
 use Rattle.std.specs.Option.{option_map}
 use Rattle.std.proofs.lemmas.List.{map-append}
 use Rattle.lex_text.specs.Names.{same_text}
-use Rattle.indus_tree.specs.Tree.{Shape, Decl, Property}
+use Rattle.indus_tree.specs.Tree.{Decl, Property}
 use Rattle.indus_tree.specs.Hops.{variable_number}
 use Rattle.p4_tree.specs.Tree.{Program}
 use Rattle.p4_meaning.specs.Scope.{full}
 use Rattle.p4_meaning.specs.Tables.{Table, table_named}
 use Rattle.p4_meaning.specs.Parts.{parts_of}
-use Rattle.p4_typing_laws.proofs.CallCounts.{text_same}
-use Rattle.own_programs.proofs.Names.{broken}
 use Rattle.packet_lengths.specs.Lengths.{plain_table}
-use Rattle.table_shapes.specs.Shapes as table
 use Rattle.table_shapes.specs.Shapes.{ActionShape}
-use Rattle.p4_tables.specs.State.{Held, no_table, held_at}
+use Rattle.p4_tables.specs.State.{no_table, held_at}
 use Rattle.p4_tables.specs.Named.{table_place}
-use Rattle.p4_tables.specs.Programs.{action_place, shapes, state_before}
+use Rattle.p4_tables.specs.Programs.{shapes, state_before}
 use Rattle.p4_tables.specs.Carried.{is_table}
 use Rattle.lookup_names.specs.Names as plain
 use Rattle.lowered_code.specs.Names as code
