@@ -43,8 +43,8 @@ pub fn read_contents(
     contents_at(alloc, path, &decl.shape, value)
 }
 
-/// What all switches hold until their variables are set.
-fn unset_switches(
+/// What all switches of a network hold until their variables are set.
+pub fn contents_before(
     alloc: Global,
     property: &TypedProperty,
     network: &Network,
@@ -95,7 +95,7 @@ fn set_switches(
         (fields object.now.entries)) }
 {
     let seats = seats(alloc, &property.property().decls)?;
-    let mut held = unset_switches(alloc, property, network)?;
+    let mut held = contents_before(alloc, property, network)?;
     for (name, value) in object {
         set_switch(
             alloc,

@@ -2,7 +2,8 @@
 //!
 //! The layer above gets `load_tables`, what the tables of each switch hold, and `load_events`, the
 //! schedule. Each keeps to a course of `specs/Files`, which says which file is asked for, which
-//! refusals there are, each with its line, and what is given. `Lines` has the lines.
+//! refusals there are, each with its line, and what is given. `Lines` has the lines, and `table_text`
+//! is that of a refused file of tables or of contents.
 #![tactic(auto)]
 
 mod events;
@@ -10,4 +11,5 @@ mod lines;
 mod tables;
 
 pub use events::load_events;
+pub use lines::table_text;
 pub use tables::load_tables;

@@ -54,12 +54,8 @@ fn table_path(fault: &TableFault) -> &str
     }
 }
 
-/// Why a file of tables is refused.
-pub(crate) fn table_text(
-    alloc: Global,
-    name: &str,
-    fault: &TableFault,
-) -> Result<String, AllocError>
+/// Why a file of tables or of contents is refused.
+pub fn table_text(alloc: Global, name: &str, fault: &TableFault) -> Result<String, AllocError>
     ensures { IfOk result (λ s. string_bytes s ≡ lines.table_line name.now fault.now) }
 {
     path_text(alloc, name, table_word(fault), table_path(fault))

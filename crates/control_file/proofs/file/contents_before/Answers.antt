@@ -3,7 +3,7 @@ use Rattle.std.proofs.lemmas.List.{map_push}
 use Rattle.control_file.specs.Control.{all_unset}
 use Rattle.control_file.specs.Views.{decls_of, contents_view}
 use Rattle.control_file.proofs.SeatLemmas.{const_more}
-use Rattle.control_file.proofs.file.unset_switches.Goals as goal
+use Rattle.control_file.proofs.file.contents_before.Goals as goal
 
 pub loop-i-preserved : goal.loop-i-preserved
 loop-i-preserved c =
