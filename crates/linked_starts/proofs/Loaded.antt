@@ -65,8 +65,15 @@ module _ (exact : ReachesIsExact) (property : Property) (f : Program) (room : �
       subst (IsMapOf (parts_of q) (state_before q)) (map_is (parts_of q) g)
       (monitor_tables_have_form exact property f room can k net s small (state_before q) (record { same = refl }) (as_written q (map_in (parts_of q) g)))
 
+  numbered : numbered_rows q property.decls rows ≡ map (row_of (parts_of q) property) (lookups g)
+  numbered = all_numbered q property (lookups g) rows found stand_for formed
+
+  -- the rows by numbers are the whole map
+  pub rows_are_map : numbered_rows q property.decls rows ≡ map_in (parts_of q) g
+  rows_are_map = numbered ∙ sym (map_is (parts_of q) g)
+
   is_map : IsMapOf (parts_of q) (state_before q) (numbered_rows q property.decls rows)
-  is_map = subst (IsMapOf (parts_of q) (state_before q)) (sym (all_numbered q property (lookups g) rows found stand_for formed)) formed
+  is_map = subst (IsMapOf (parts_of q) (state_before q)) (sym numbered) formed
 
   -- ---- tables of the given program
 

@@ -21,11 +21,11 @@ use Rattle.control_tables.specs.Contents.{entry_for, entries_for, default_for}
 use Rattle.control_maps.specs.Numbers.{Numbered, put_in, load_in, keys_of, IsOfForm, IsMapOf}
 use Rattle.control_maps.proofs.Filling.{drop_here, contents_are_taken}
 use Rattle.control_maps.proofs.Places.{given_to, replaced_is, other_replaced, map_others}
-use Rattle.loaded_tables.specs.Loading.{AreTaken}
+use Rattle.loaded_tables.specs.Loading.{AreTaken, keys_in}
 use Rattle.loaded_tables.specs.Steps.{AreLoadedTo, seats_before}
 
 -- as many entries as keys
-entries_are_keys : (a : ℕ) (c : Contents) → length (entries_for a c) ≡ length (keys_of c)
+pub entries_are_keys : (a : ℕ) (c : Contents) → length (entries_for a c) ≡ length (keys_of c)
 entries_are_keys a (single w) = refl
 entries_are_keys a (members ks) = length-map ks (λ (k : List Word). entry_for a k [])
 entries_are_keys a (pairs es) = length-map es (λ (e : List Word × Word). entry_for a e.0 (e.1 ∷ [])) ∙ sym (length-map es (λ (e : List Word × Word). e.0))
@@ -89,6 +89,7 @@ module _ (ns : List Numbered) (c : ℕ → Contents) (old now : List Held) (i : 
           empty = still_empty so_far.empty.parts now n (c n.variable) map_left.0 (drop (i + 1) ns) map_left.1.0 none_left.1;
         };
         taken = record { shapes = taken_left.shapes.1; few = omega (arith, more, few) };
+        counted = (let all = so_far.counted in let left = ap (λ (ks : List Numbered). keys_in ks c) rest_is in omega (arith, more, all, left));
       }
 
   pub loaded_next : (new : List Held) → new ≡ put_in n (c n.variable) now → AreLoadedTo ns c old new (i + 1)

@@ -11,7 +11,7 @@ use Rattle.indus_tree.specs.Hops.{same_kind}
 use Rattle.indus_tree.specs.declared.tree.DeclKind.TheVariants.{Control}
 use Rattle.control_maps.specs.Numbers.{Numbered, load_in, IsMapOf}
 use Rattle.loaded_tables.specs.Rows.{Row, row_place}
-use Rattle.loaded_tables.specs.Loading.{AreTaken}
+use Rattle.loaded_tables.specs.Loading.{AreTaken, keys_in}
 
 -- a row can be numbered: its table is there, and has an action, and its variable is declared
 pub record IsNumberable (ts : List Table) (st : List Held) (ds : List Decl) (r : Row) : Type 0 where
@@ -31,6 +31,7 @@ pub record AreLoadedTo (ns : List Numbered) (contents : ℕ → Contents) (old n
   pub shapes : shapes now ≡ shapes old
   pub empty : AreEmpty now (drop i ns)
   pub taken : AreTaken (entries_in now) (drop i ns) contents
+  pub counted : entries_in now + keys_in (drop i ns) contents ≡ entries_in old + keys_in ns contents
 
 -- for each declaration, how many control variables stand before it, where so many stand before all
 abbrev pub seats_before : ℕ → List Decl → List ℕ

@@ -1,6 +1,6 @@
 //! Contents of control variables go into the tables of a map.
 
-ghost use Rattle.std.specs.Prelude.{◌≡◌, ◌<◌, [], length, map, slice_get, option_map, OnOk, IfOk};
+ghost use Rattle.std.specs.Prelude.{◌≡◌, ◌<◌, ◌+◌, [], length, map, slice_get, option_map, OnOk, IfOk};
 ghost use Rattle.std.specs.List.{AllByRecursion};
 ghost use Rattle.indus_tree.specs.State.{members};
 ghost use Rattle.indus_tree.specs.View.{decl_of};
@@ -11,7 +11,7 @@ ghost use Rattle.p4_tables.specs.Programs.{shapes};
 ghost use Rattle.control_tables.specs.Contents.{entries_for, default_for};
 ghost use Rattle.control_maps.specs.Numbers.{put_in, load_in};
 ghost use Rattle.path_runner.specs.Maps.{map_of, numbered_of};
-ghost use Rattle.loaded_tables.specs.Loading.{AreTaken};
+ghost use Rattle.loaded_tables.specs.Loading.{AreTaken, keys_in};
 ghost use Rattle.loaded_tables.specs.Steps.{AreEmpty, seats_before};
 
 use crate::numbering::Mapped;
@@ -85,6 +85,9 @@ pub(crate) fn load(
     ensures tables { OnOk result (tables.new
         ≡ load_in (map_of mapped.now) (contents_from (map decl_of decls.now) contents.now) tables.old) }
     ensures shapes { shapes tables.new ≡ shapes tables.old }
+    // each key is an entry
+    ensures entries { OnOk result (entries_in tables.new ≡ entries_in tables.old
+        + keys_in (map_of mapped.now) (contents_from (map decl_of decls.now) contents.now)) }
 {
     let seats = seats_before(alloc, decls)?;
     for item in mapped {

@@ -1,6 +1,6 @@
 //! The tables of a switch's linked program, loaded.
 
-ghost use Rattle.std.specs.Prelude.{◌≡◌, map, IfOk};
+ghost use Rattle.std.specs.Prelude.{◌≡◌, ◌≤◌, ◌+◌, map, IfOk};
 ghost use Rattle.indus_tree.specs.View.{decl_of};
 ghost use Rattle.indus_values.specs.View.{contents_from};
 ghost use Rattle.p4_tree.specs.View.{program_of};
@@ -13,7 +13,7 @@ ghost use Rattle.control_maps.specs.Numbers.{IsMapOf};
 ghost use Rattle.path_runner.specs.Maps.{map_of};
 ghost use Rattle.path_runner.specs.Starts.{IsLoaded};
 ghost use Rattle.loaded_tables.specs.Rows.{numbered_rows, IsNumberedMap};
-ghost use Rattle.loaded_tables.specs.Loading.{AddsOnly, AreNew, AreTaken, carried_entries, switch_before};
+ghost use Rattle.loaded_tables.specs.Loading.{AddsOnly, AreNew, AreTaken, carried_entries, keys_in, switch_before};
 
 use crate::filling::load;
 use crate::numbering::{Mapped, switch_map};
@@ -49,6 +49,10 @@ pub fn loaded(
     ensures mapped { IfOk result (λ r. IsMapOf (parts_of (program_of program.now)) r.0 (map_of r.1.items)) }
     ensures loaded { IfOk result (λ r. IsLoaded (switch_before (program_of program.now) r.0) (map_of r.1.items)
         (carried_entries (program_of given.now) held.now (program_of program.now))
+        (contents_from (map decl_of decls.now) contents.now)) }
+    // the entries that are held in the given program's tables, and one for each key
+    ensures entries { IfOk result (λ r. entries_in r.0 ≤ entries_in held.now
+        + keys_in (numbered_rows (program_of program.now) (map decl_of decls.now) rows.now.tables.items)
         (contents_from (map decl_of decls.now) contents.now)) }
     // where the program has no table beside those of the map and those of the program that was given
     ensures own { AddsOnly (parts_of (program_of given.now)).tables (parts_of (program_of program.now)).tables rows.now.tables.items

@@ -1,4 +1,4 @@
-use Rattle.std.proofs.Common.{◌<◌, List, length, map, sym, ap, ◌∙◌, subst}
+use Rattle.std.proofs.Common.{◌<◌, List, length, map, sym, ap, ◌∙◌, subst, arith}
 use Rattle.std.specs.List.{AllByRecursion}
 use Rattle.std.proofs.lemmas.List.{length-map}
 use Rattle.indus_tree.specs.View.{decl_of}
@@ -9,7 +9,7 @@ use Rattle.p4_tables.specs.Named.{tables_in}
 use Rattle.control_maps.specs.Numbers.{Numbered, load_in, IsMapOf}
 use Rattle.path_runner.specs.Maps.{map_of}
 use Rattle.path_runner.specs.Starts.{IsLoaded}
-use Rattle.loaded_tables.specs.Loading.{carried_entries, switch_before}
+use Rattle.loaded_tables.specs.Loading.{carried_entries, keys_in, switch_before}
 use Rattle.loaded_tables.specs.Steps.{AreEmpty}
 use Rattle.loaded_tables.proofs.Started.{map_before, empty_before, declared_before}
 use Rattle.loaded_tables.proofs.Named.{map_then, is_loaded, is_own}
@@ -67,3 +67,12 @@ returns-clause-own c = λ adds.
     let is = c.in_ok-load.ensures.tables ∙ ap (λ (ns : List Numbered). load_in ns contents now) (ap map_of c.deref.ensures.value ∙ c.in_ok-mapped.ensures) in
     subst (λ (ns : List Numbered). IsLoaded (switch_before p c.load.new.tables) ns (tables_in (parts_of g) c.args.held.now) contents) (sym c.in_ok-mapped.ensures)
     (is_own g p c.args.held.now c.requires.stands ds rows contents now c.load.new.tables map_now c.in_ok-tables.ensures.held c.requires.taken.shapes is adds)
+
+pub returns-clause-entries : goal.returns-clause-entries
+returns-clause-entries c =
+    let ds = map decl_of c.args.decls.now in
+    let contents = contents_from ds c.args.contents.now in
+    let carried = c.in_ok-tables.ensures.few in
+    let more = c.in_ok-load.ensures.entries in
+    let same = ap (λ (ns : List Numbered). keys_in ns contents) (ap map_of c.deref.ensures.value ∙ c.in_ok-mapped.ensures) in
+    omega (arith, carried, more, same)

@@ -1,0 +1,4 @@
+-- What callers rest on, in reading order.
+pub mod Job
+pub mod Run
+pub mod Views

@@ -1,0 +1,5 @@
+pub mod Words
+pub mod Keys
+pub mod Shaped
+pub mod Seated
+pub mod Scheduled
