@@ -1,0 +1,4 @@
+pub mod Loading
+pub mod Switches
+pub mod Jobs
+pub mod First

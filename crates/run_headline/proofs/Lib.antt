@@ -1,0 +1,6 @@
+pub mod Numbers
+pub mod Fits
+pub mod Moved
+pub mod Worlds
+pub mod Mapped
+pub mod Claims
