@@ -1,3 +1,2 @@
 -- Lemmas.
-pub mod Named
 pub mod Rows

@@ -11,7 +11,7 @@ use report_writer::{ReportRow, reports_text};
 use std::alloc::{AllocError, Global};
 
 /// The name of a switch; nothing where there is none.
-fn name_of(network: &Network, switch: u16) -> &str
+pub fn switch_name(network: &Network, switch: u16) -> &str
     ensures { result.now ≡ get_or network.now.names switch [] }
 {
     if switch < network.count() {
@@ -22,7 +22,7 @@ fn name_of(network: &Network, switch: u16) -> &str
 }
 
 /// The line of a digest.
-fn digest_text<'a>(
+pub fn digest_text<'a>(
     alloc: Global,
     network: &'a Network,
     told: &'a Told,
@@ -31,7 +31,7 @@ fn digest_text<'a>(
 {
     let row = ReportRow {
         packet: told.packet,
-        switch: name_of(network, told.switch),
+        switch: switch_name(network, told.switch),
         number: told.digest.receiver,
         values: told.digest.values.as_slice(),
     };

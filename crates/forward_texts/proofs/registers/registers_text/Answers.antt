@@ -1,14 +1,16 @@
-use Rattle.std.proofs.Common.{◌≡◌, ◌+◌, ◌++◌, map, drop, string_bytes, sym, ap, ap₂, ◌∙◌, arith}
+use Rattle.std.proofs.Common.{◌≡◌, ◌+◌, ◌++◌, map, drop, string_bytes, true, sym, ap, ap₂, ◌∙◌, arith}
 use Rattle.p4_tree.specs.View.{program_of}
 use Rattle.p4_meaning.specs.Parts.{parts_of}
 use Rattle.p4_parts.specs.PartsIn.{cells_decl}
 use Rattle.p4_statements.specs.Runs.{cells_in}
 use Rattle.report_writer.specs.Texts.{cells_of}
 use Rattle.p4_types.specs.Numbers.{names, registers}
-use Rattle.forward_texts.specs.Rows.{registers_cells, switches_cells}
+use Rattle.register_texts.specs.Rows.{registers_cells}
+use Rattle.forward_texts.specs.Rows.{switches_cells}
 use Rattle.forward_texts.specs.Switches.{switch_view}
-use Rattle.forward_texts.proofs.Rows.{view_at, cells_more, cells_done, switch_next, switches_past}
-use Rattle.forward_texts.proofs.Named.{each_named}
+use Rattle.register_texts.proofs.Named.{each_named}
+use Rattle.register_texts.proofs.Rows.{view_at, cells_more, cells_done}
+use Rattle.forward_texts.proofs.Rows.{switch_next, switches_past}
 use Rattle.forward_texts.proofs.registers.registers_text.Goals as goal
 
 pub switch_text-requires-clause-names : goal.switch_text-requires-clause-names
@@ -33,14 +35,14 @@ loop-switch-preserved c = λ keeps are.
     let n = c.name-name.result.now in
     let x = c.index-switches-switch.result in
     let at = view_at switch_view c.args.switches.now i x (omega arith) c.index-switches-switch.is in
-    let piece = registers_cells n (keeps i).registers (names registers p) (parts_of p).registers in
+    let piece = registers_cells (λ x. true) n (keeps i).registers (names registers p) (parts_of p).registers in
     let rest = switches_cells p keeps (i + 1) (drop (i + 1) ns) in
     let shown : map string_bytes c.deref.result.now ≡ names registers p = ap (map string_bytes) c.deref.ensures.value ∙ c.in_ok-names.ensures ∙ ap (λ q. names registers (program_of q)) c.program-2.ensures.same in
     let listed : map cells_decl c.deref-in-loop-switch.result.now ≡ (parts_of p).registers = ap (map cells_decl) c.deref-in-loop-switch.ensures.value ∙ ap (λ q. q.registers) c.in_ok-parts.ensures ∙ ap (λ q. (parts_of (program_of q)).registers) c.program.ensures.same in
     let line = c.as_str.ensures.value
     ∙ c.in_ok-cells.ensures
-    ∙ ap₂ (λ xs rs. cells_of (registers_cells n (cells_in x.registers) xs rs)) shown listed
-    ∙ ap (λ k. cells_of (registers_cells n k (names registers p) (parts_of p).registers)) (sym (ap (λ k. k.registers) (are i (switch_view x) at))) in
+    ∙ ap₂ (λ xs rs. cells_of (registers_cells (λ x. true) n (cells_in x.registers) xs rs)) shown listed
+    ∙ ap (λ k. cells_of (registers_cells (λ x. true) n k (names registers p) (parts_of p).registers)) (sym (ap (λ k. k.registers) (are i (switch_view x) at))) in
     ap (λ t. t ++ cells_of rest) c.in_ok-push_str.ensures.bytes
     ∙ cells_more (string_bytes c.loop-switch.text) _ _ _ piece rest (c.loop-switch.invariant keeps are) (switch_next p keeps ns i n c.name-name.ensures) line
 

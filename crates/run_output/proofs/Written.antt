@@ -1,0 +1,47 @@
+-- The files that are written, and the summary.
+use Rattle.std.proofs.Common.{◌≡◌, ℕ, ◌-◌, ◌≤◌, List, [], ◌∷◌, ◌++◌, length, map, All, refl, ap, sym, ◌∙◌, subst, arith, append_assoc}
+use Rattle.std.proofs.Math.ListN.{get_or-map}
+use Rattle.std.proofs.lemmas.List.{length-map}
+use Rattle.bit_values.specs.Bits.{cast}
+use Rattle.p4_tree.specs.Tree.{Program}
+use Rattle.network_run.specs.Network.{Sent}
+use Rattle.report_writer.specs.Texts.{summary_of}
+use Rattle.path_runner.specs.Nets.{State, Traffic, Shows}
+use Rattle.switch_machines.specs.Programs.{Programs}
+use Rattle.run_texts.specs.Told.{reports_in}
+use Rattle.run_texts.specs.Registers.{rejected_from}
+use Rattle.run_texts.specs.Files.{Run, summary_text_of}
+use Rattle.run_output.specs.Counted.{counts_in}
+use Rattle.run_output.specs.Ends.{IsShort}
+
+abbrev pub Files : Type 0
+Files = List (List ℕ × List ℕ)
+
+-- files behind others, and others behind these
+pub then_more : (some one two a b : Files) → one ≡ some ++ a → two ≡ one ++ b → two ≡ some ++ (a ++ b)
+then_more some one two a b e f = f ∙ ap (λ (fs : Files). fs ++ b) e ∙ append_assoc some a b
+
+-- those of the programs; of the frames on links and of those that left; of what was told; of the registers and the summary
+pub all_files : (linked wires edges told registers summary one two three four five : Files) → one ≡ linked → two ≡ one ++ (wires ++ edges) → three ≡ two ++ told → four ≡ three ++ registers → five ≡ four ++ summary → five ≡ linked ++ (wires ++ (edges ++ (told ++ (registers ++ summary))))
+all_files linked wires edges told registers summary one two three four five e f g h k =
+    let second : two ≡ linked ++ (wires ++ edges) = f ∙ ap (λ (fs : Files). fs ++ (wires ++ edges)) e in
+    let third : three ≡ linked ++ ((wires ++ edges) ++ told) = then_more linked two three (wires ++ edges) told second g in
+    let fourth : four ≡ linked ++ (((wires ++ edges) ++ told) ++ registers) = then_more linked three four ((wires ++ edges) ++ told) registers third h in
+    then_more linked four five (((wires ++ edges) ++ told) ++ registers) summary fourth k
+    ∙ ap (λ (fs : Files). linked ++ fs)
+    (append_assoc ((wires ++ edges) ++ told) registers summary
+    ∙ append_assoc (wires ++ edges) told (registers ++ summary)
+    ∙ append_assoc wires edges (told ++ (registers ++ summary)))
+
+-- the frames of the program are as short as those that it shows
+pub short_items : {A : Type 0} (v : A → Sent) (xs : List A) → All IsShort (map v xs) → All (λ x. length (v x).frame ≤ 65791) xs
+short_items v xs h = λ k d lt. subst (λ (x : Sent). length x.frame ≤ 65791) (get_or-map v xs k d) (h k (v d) (omega (arith, length-map xs v, lt)))
+
+-- the summary of what is counted
+pub summary_is : (n sent dropped rejected lost reports r : ℕ) (t : Traffic) → sent ≡ length t.edges → rejected ≡ r → dropped ≡ t.dropped - rejected → lost ≡ t.lost → reports ≡ reports_in t.told → summary_of (record { packets = n; sent = sent; dropped = dropped; rejected = rejected; lost = lost; reports = reports }) ≡ summary_of (counts_in n r t)
+summary_is n sent dropped rejected lost reports r t a b c d e =
+    rw (a, c, b, d, e) refl
+
+-- what a state counts is what each network counts for which it stands
+pub ended : (ps : List Program) (n : ℕ) (p : Programs) (w : Run) (s : State) → Shows p s w → summary_of (counts_in n (cast 32 (rejected_from ps w.switches 0)) s.traffic) ≡ summary_text_of ps n w
+ended ps n p w s shows = rw (sym shows.edges, sym shows.told, sym shows.dropped, sym shows.lost) refl

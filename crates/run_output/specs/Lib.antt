@@ -1,0 +1,5 @@
+-- What callers rest on, in reading order.
+pub mod Ends
+pub mod Views
+-- What serves the proofs: what a state counts.
+pub mod Counted
