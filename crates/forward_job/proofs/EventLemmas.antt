@@ -16,7 +16,7 @@ use Rattle.schedule_file.specs.declared.fault.ScheduleFault.TheVariants as fault
 use Rattle.schedule_file.specs.Members.{Around, Member, passage, enter, leave, unread, known_packet, packet_at, named_member, object_member, only_member, member_from, member_of, events_of}
 use Rattle.schedule_file.specs.Schedule.{Reading, count_of, most_waiting, with_event, with_events, bounded, with_member, start, events_from, schedule_of}
 use Rattle.forward_run.specs.Job.{IsEventAmong}
-use Rattle.forward_job.proofs.Bound.{bound, turns_keep}
+use Rattle.case_course.proofs.Bound.{bound, turns_keep}
 
 module _ (packets : ℕ) (names : List (List ℕ)) where
   abbrev around : Around

@@ -1,5 +1,5 @@
 -- A job that the files may give is ready to be run.
-use Rattle.std.proofs.Common.{◌≡◌, ℕ, ◌≤◌, List, [], length, map, Option, Some, None, Result, Ok, Err, IfOk, refl, sym, subst, arith}
+use Rattle.std.proofs.Common.{false, ◌≡◌, ℕ, ◌≤◌, List, [], length, Option, Some, None, Result, Ok, Err, IfOk, refl, sym, subst}
 use Rattle.std.specs.List.{All}
 use Rattle.std.proofs.lemmas.List.Elements.{All-nil, All-from_get_or}
 use Rattle.indus_tree.specs.State.{Contents}
@@ -7,7 +7,6 @@ use Rattle.network_run.specs.Events.{Event}
 use Rattle.network_run.specs.NetworkRun.{longest_frame}
 use Rattle.p4_tree.specs.Tree.{Program}
 use Rattle.p4_tables.specs.Programs.{IsStateOf}
-use Rattle.network_file.specs.Network.{Network, Port}
 use Rattle.path_runner.specs.Conditions.{IsAtEdge}
 use Rattle.case_file.specs.Case.{Case}
 use Rattle.table_file.specs.Entries.{States}
@@ -20,31 +19,13 @@ use Rattle.table_course.specs.Files.{events_course}
 use Rattle.forward_run.specs.Job.{Job, IsReady, IsEventAmong}
 use Rattle.forward_run.specs.Views.{job_of}
 use Rattle.forward_run.specs.declared.job.ForwardJob.{ForwardJob}
-use Rattle.forward_job.specs.Packets.{Packets}
-use Rattle.forward_job.specs.Course.{Ground, around, ground_course, packets_course, loaded_course, forward_course}
-use Rattle.forward_job.proofs.CaseLemmas.{hops_are_some}
-use Rattle.forward_job.proofs.PlaceLemmas.{IsPlace, are_places}
-use Rattle.forward_job.proofs.CaptureLemmas.{captures_are_short, captures_are_few, few_arrive, all_arrive}
+use Rattle.case_course.specs.Packets.{Packets}
+use Rattle.case_course.specs.Course.{Ground}
+use Rattle.case_course.proofs.CaseLemmas.{hops_are_some}
+use Rattle.case_course.proofs.PlaceLemmas.{IsPlace}
+use Rattle.case_course.proofs.Read.{ground_is_placed, packets_are_few, packets_arrive}
+use Rattle.forward_job.specs.Course.{around, loaded_course, forward_course}
 use Rattle.forward_job.proofs.EventLemmas.{events_are_here}
-
--- captures enter the network by edge ports
-pub ground_is_placed : (name : List ℕ) (c : Case) (g : Ground) → (ground_course name c).may g → All (IsPlace g.network) g.places
-unfolding ground_course and_then
-ground_is_placed name c g (p, a, (n, b, (ps, places, is))) =
-    subst (λ (h : Ground). All (IsPlace h.network) h.places) (sym is) (are_places n c.captures ps places)
-
-module _ (name : List ℕ) (c : Case) (places : List Port) (ps : Packets) where
-  pub packets_are_few : (packets_course name c places).may ps → length ps.arrivals ≤ 100000
-  unfolding packets_course and_then
-  packets_are_few (cs, may, is) =
-      let few = captures_are_few name c.room c.hops (map (λ x. x.file) c.captures) cs may in
-      let less = few_arrive places cs in
-      subst (λ (q : Packets). length q.arrivals ≤ 100000) (sym is) (omega (arith, few, less))
-
-  pub packets_arrive : (n : Network) → All (IsPlace n) places → (packets_course name c places).may ps → All (IsAtEdge n longest_frame) ps.arrivals
-  unfolding packets_course and_then
-  packets_arrive n h (cs, may, is) =
-      subst (λ (q : Packets). All (IsAtEdge n longest_frame) q.arrivals) (sym is) (all_arrive n places cs h (captures_are_short name c.room c.hops (map (λ x. x.file) c.captures) cs may))
 
 pub schedule_speaks : (name : Option (List ℕ)) (g : Ground) (ps : Packets) (es : List (Event Contents)) → (events_course name (around g ps)).may es → All (IsEventAmong (length ps.arrivals) (length g.network.names)) es
 unfolding and_then
@@ -77,7 +58,7 @@ unfolding forward_course and_then
 is_ready name j are (d, a, (c, is, (g, b, may))) =
     let l = loaded name c g j (ground_is_placed name c g b) may in
     record {
-      hops = subst (λ (n : ℕ). 1 ≤ n) (sym l.hops) (hops_are_some d c is);
+      hops = subst (λ (n : ℕ). 1 ≤ n) (sym l.hops) (hops_are_some false d c is);
       switches = are.count;
       tables = tables_all j.program j.network.names j.tables are;
       few = l.few;

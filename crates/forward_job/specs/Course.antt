@@ -1,42 +1,17 @@
--- What `forward` reads, in order, and what each file gives. Read `Packets`, and `Files` of program_course, network_course,
--- table_course and capture_course, before it.
-use Rattle.std.specs.Prelude.{false, ℕ, List, length, map, None}
-use Rattle.p4_tree.specs.Tree.{Program}
-use Rattle.p4_rules.specs.Limits.{cells}
+-- What `forward` reads, in order, and what each file gives. Read `Course` of case_course, and `Files` of network_course and
+-- table_course, before it.
+use Rattle.std.specs.Prelude.{false, ℕ, List, length, None}
 use Rattle.indus_tree.specs.State.{Contents}
 use Rattle.network_run.specs.Events.{Event}
-use Rattle.network_file.specs.Network.{Network, Port}
 use Rattle.case_file.specs.Case.{Case}
 use Rattle.table_file.specs.Entries.{States}
 use Rattle.schedule_file.specs.Members.{Around}
 use Rattle.job_course.specs.Course.{Course, and_then, give}
-use Rattle.program_course.specs.Files.{forwarding_program}
-use Rattle.network_course.specs.Files.{value_course, case_answer, network_course, places_answer}
+use Rattle.network_course.specs.Files.{value_course, case_answer}
 use Rattle.table_course.specs.Files.{tables_course, events_course}
-use Rattle.capture_course.specs.Files.{captures_course}
+use Rattle.case_course.specs.Course.{Ground, ground_course, packets_course}
+use Rattle.case_course.specs.Packets.{Packets}
 use Rattle.forward_run.specs.Job.{Job}
-use Rattle.forward_job.specs.Packets.{Packets, packets_of}
-
--- what is read before the entries: the program, the network, and where the captures enter it
-pub record Ground : Type 0 where
-  pub program : Program
-  pub network : Network
-  pub places : List Port
-
--- the program; the network, whose switches hold the cells of the program's registers; and the switches and ports of the
--- captures
-unfoldable pub ground_course : (name : List ℕ) → Case → Course Ground
-ground_course name c =
-    and_then (forwarding_program c.program) (λ p.
-    and_then (network_course c.network (cells p)) (λ n.
-    and_then (places_answer name n c.captures) (λ ps.
-    give (record { program = p; network = n; places = ps }))))
-
--- the captures
-unfoldable pub packets_course : (name : List ℕ) → Case → List Port → Course Packets
-packets_course name c ps =
-    and_then (captures_course name c.room c.hops (map (λ x. x.file) c.captures)) (λ captures.
-    give (packets_of ps captures))
 
 -- the schedule speaks of so many packets. There is no property, so what it sets is passed over
 abbrev pub around : Ground → Packets → Around

@@ -1,4 +1,2 @@
--- What callers rest on, in reading order.
-pub mod Packets
+-- What callers rest on.
 pub mod Course
-pub mod Views

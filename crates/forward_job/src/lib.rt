@@ -6,6 +6,5 @@
 #![tactic(auto)]
 
 mod load;
-mod packets;
 
 pub use load::load_forward;

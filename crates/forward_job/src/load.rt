@@ -1,53 +1,23 @@
 //! The files of a case, one after the other.
 
-ghost use Rattle.std.specs.Prelude.{◌≡◌, IfOk};
+ghost use Rattle.std.specs.Prelude.{IfOk};
 ghost use Rattle.p4_tree.specs.View.{program_of};
 ghost use Rattle.case_file.specs.Views.{case_view};
 ghost use Rattle.table_file.specs.Laws.{AreOf};
 ghost use Rattle.job_course.specs.Steps.{Follows};
+ghost use Rattle.case_course.specs.Views.{ground_of};
 ghost use Rattle.forward_run.specs.Job.{IsReady};
 ghost use Rattle.forward_run.specs.Views.{job_of};
-ghost use Rattle.forward_job.specs.Course.{forward_course, ground_course, loaded_course};
-ghost use Rattle.forward_job.specs.Views.{ground_of};
+ghost use Rattle.forward_job.specs.Course.{forward_course, loaded_course};
 
-use crate::packets::load_packets;
+use case_course::{Ground, load_ground, load_packets};
 use case_file::Case;
 use forward_run::ForwardJob;
 use job_course::Stop;
-use network_course::{Place, case_in, load_network, load_value, places_in};
-use network_file::Network;
+use network_course::{case_in, load_value};
 use outside::Store;
-use p4_types::TypedProgram;
-use program_course::load_program;
 use std::alloc::Global;
 use table_course::{load_events, load_tables};
-
-/// What is read before the entries: the program, the network, and where the captures enter it.
-#[derive(Drop)]
-pub struct Ground {
-    pub program: TypedProgram,
-    pub network: Network,
-    pub places: Vec<Place>,
-}
-
-/// The program, the network, and the switches and ports of the captures.
-fn load_ground<S: Store>(
-    alloc: Global,
-    store: &mut S,
-    name: &str,
-    case: &Case<'_>,
-) -> Result<Ground, Stop>
-    ensures follows { Follows (ground_course name.now (case_view case.now)) ground_of (S.state store.old) (S.state store.new) result }
-{
-    let program = load_program(alloc, store, case.program)?;
-    let network = load_network(alloc, store, case.network, program.cells())?;
-    let places = places_in(alloc, name, &network, &case.captures)?;
-    Ok(Ground {
-        program,
-        network,
-        places,
-    })
-}
 
 /// The entries, the captures and the schedule.
 fn load_rest<S: Store>(

@@ -1,7 +1,6 @@
 -- A net at its end shows the run of the job.
 use Rattle.std.proofs.Common.{◌≡◌, ℕ, ◌≤◌, List, [], ◌++◌, length, map, get_or, Some, All, ap, sym, ◌∙◌, subst, arith}
 use Rattle.std.proofs.lemmas.List.{length-map}
-use Rattle.std.proofs.lemmas.List.Elements.{All-nil}
 use Rattle.p4_tree.specs.Tree.{Program}
 use Rattle.p4_meaning.specs.Parts.{parts_of}
 use Rattle.p4_meaning.specs.Pass.{Kept, Queued, kept_before}
@@ -11,6 +10,7 @@ use Rattle.network_run.specs.Events.{closing}
 use Rattle.network_run.specs.Network.{Sent, Net}
 use Rattle.network_run.specs.NetworkRun.{Limits, run_of_halves}
 use Rattle.network_run.specs.World.{first_place, first_net, limits_of, steps}
+use Rattle.run_limits.proofs.Within.{run_within}
 use Rattle.network_file.specs.Wiring.{wiring_of}
 use Rattle.switch_machines.specs.Programs.{Controls, Programs, machine_of, machine_with}
 use Rattle.path_runner.specs.Conditions.{most_packets}
@@ -20,21 +20,21 @@ use Rattle.path_runner.proofs.Running.{runs_then}
 use Rattle.forward_run.specs.Job.{Job}
 use Rattle.forward_run.specs.Run.{programs_of, world_of, run_of}
 use Rattle.forward_run.specs.Switches.{switch_before, IsEnd, IsEndOf}
-use Rattle.forward_run.proofs.Fewer.{fewer_leave}
-use Rattle.forward_run.proofs.Short.{IsShort, run_short}
 use Rattle.forward_run.proofs.Starting.{start_of, start_unmapped, controls_are, before_are}
 
--- the run puts no frame out that captures don't hold
+-- the frame is one that captures hold
+abbrev pub IsShort : Sent → Type 0
+IsShort x = length x.frame ≤ 65535
+
+-- the run puts no other out
 pub edges_short : (j : Job) → All IsShort (run_of j).edges
 unfolding run_of
-edges_short j =
-    let m = machine_of {C = Contents} (programs_of j) in
-    (run_short m (wiring_of j.network) (limits_of (world_of j) 0) (first_net m (world_of j)) (steps (world_of j)) (record { all = All-nil IsShort })).all
+edges_short j = (run_within (machine_of {C = Contents} (programs_of j)) (wiring_of j.network) (limits_of (world_of j) 0) (world_of j) (steps (world_of j))).edges
 
 -- and no more of them than there are packets
 pub edges_few : (j : Job) → length (run_of j).edges ≤ length j.packets
 unfolding run_of
-edges_few j = fewer_leave (machine_of (programs_of j)) (wiring_of j.network) (limits_of (world_of j) 0) (world_of j) (steps (world_of j))
+edges_few j = (run_within (machine_of {C = Contents} (programs_of j)) (wiring_of j.network) (limits_of (world_of j) 0) (world_of j) (steps (world_of j))).few
 
 -- whatever its limits
 other_limits : (p : Programs) (s : State) (l : Limits) (w : Net Kept Queued Contents) → Shows p s w → Shows p (record s { limits = l }) w

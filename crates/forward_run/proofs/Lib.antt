@@ -1,6 +1,4 @@
 -- Lemmas.
-pub mod Short
-pub mod Fewer
 pub mod Starting
 pub mod Ending
 pub mod Written

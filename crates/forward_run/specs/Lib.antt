@@ -3,5 +3,5 @@ pub mod Job
 pub mod Run
 pub mod Files
 pub mod Views
--- What serves the proofs: switches and logs of the program.
+-- What serves the proofs: switches of the program.
 pub mod Switches

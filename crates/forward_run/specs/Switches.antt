@@ -1,25 +1,15 @@
--- The switches of a run, as path_runner has them, and its log. Read `Nets` of path_runner before it.
+-- The switches of a run at its start and at its end. Read `Switches` of forward_texts before it.
 use Rattle.std.specs.Prelude.{◌≡◌, ℕ, ◌≤◌, List, [], length, replicate, get_or, All}
 use Rattle.p4_tree.specs.Tree.{Program}
-use Rattle.p4_tree.specs.View.{program_of}
 use Rattle.p4_meaning.specs.Parts.{parts_of}
 use Rattle.p4_meaning.specs.Pass.{start_cells}
-use Rattle.p4_statements.specs.Runs.{cells_in}
 use Rattle.p4_tables.specs.State.{Held}
-use Rattle.p4_machine.specs.declared.switch.Switch as code
 use Rattle.control_maps.specs.Numbers.{Numbered}
 use Rattle.path_runner.specs.Conditions.{most_packets}
 use Rattle.path_runner.specs.Nets.{Switch, State, Shows}
-use Rattle.path_runner.specs.Views.{log_of}
-use Rattle.path_runner.specs.declared.log.RunLog.{RunLog}
 use Rattle.forward_texts.specs.Switches.{RunAll}
 use Rattle.forward_run.specs.Job.{Job}
 use Rattle.forward_run.specs.Run.{programs_of, run_of}
-
--- a log, whose limits are of no matter
-abbrev pub log_view : RunLog code.Switch → State
-log_view x =
-    log_of (λ s. program_of s.program) (λ s. s.tables) (λ s. cells_in s.registers) (record { hops = 0; link = 0 }) x
 
 -- a switch before the first event: its tables hold this, and its registers are 0
 abbrev pub switch_before : Program → List Held → Switch

@@ -1,15 +1,16 @@
 //! What is written of a run.
 
-ghost use Rattle.std.specs.Prelude.{◌≡◌, ◌≤◌, ◌∷◌, [], ◌++◌, length, map, IfOk, OnOk, string_bytes};
+ghost use Rattle.std.specs.Prelude.{◌≡◌, ◌≤◌, length, map, IfOk, string_bytes};
 ghost use Rattle.p4_tree.specs.View.{program_of};
-ghost use Rattle.job_course.specs.Output.{files_of, out_of};
+ghost use Rattle.job_course.specs.Output.{out_of};
 ghost use Rattle.report_writer.specs.Texts.{summary_of};
 ghost use Rattle.run_captures.specs.Views.{time_view};
 ghost use Rattle.forward_run.specs.Files.{IsForwardOutput};
 ghost use Rattle.forward_run.specs.Job.{Job};
-ghost use Rattle.forward_run.specs.Switches.{IsEnd, IsEndOf, log_view};
+ghost use Rattle.forward_run.specs.Switches.{IsEnd, IsEndOf};
+ghost use Rattle.forward_texts.specs.Switches.{log_view};
 
-use forward_texts::{digests_text, registers_text};
+use forward_texts::{digests_text, put_text, registers_text};
 use job_course::Output;
 use p4_machine::Switch;
 use p4_types::TypedProgram;
@@ -42,22 +43,6 @@ pub(crate) fn output_of(
     let copy = String::from_str(alloc, text.as_str())?;
     put_text(alloc, &mut files, out, ".summary.txt", copy)?;
     Ok(Output { files, text })
-}
-
-/// A file goes behind the others: its name is the front of all names and an ending.
-fn put_text(
-    alloc: Global,
-    files: &mut Vec<(String, Vec<u8>)>,
-    out: &str,
-    ending: &str,
-    text: String,
-) -> Result<(), AllocError>
-    ensures { OnOk result (files_of files.new.items
-        ≡ files_of files.old.items ++ (out.now ++ ending.now, string_bytes text) ∷ []) }
-{
-    let name = format!(in alloc; "{out}{ending}")?;
-    files.push((name, text.into_bytes()))?;
-    Ok(())
 }
 
 /// The six lines of the summary. No packet is rejected, and nothing is reported.

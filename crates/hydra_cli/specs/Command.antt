@@ -1,23 +1,18 @@
 -- The command lines, and the course of each command. Read `Course` of the job's course before it and `Output` after it.
-use Rattle.std.specs.Prelude.{◌≡◌, ◌≢◌, ℕ, List, [], ◌∷◌, Option, Some, None, codes, if◌then◌else◌}
+use Rattle.std.specs.Prelude.{◌≡◌, ℕ, List, [], ◌∷◌, Option, Some, None, codes, if◌then◌else◌}
 use Rattle.std.specs.Str.{bytes_eq}
 use Rattle.indus_tree.specs.Tree.{Property}
 use Rattle.indus_tree.specs.Small.{IsSmall}
-use Rattle.indus_reader.specs.Faults.{IsProperty, HasCause}
-use Rattle.indus_reader.specs.declared.fault.PropertyFault.{PropertyFault}
-use Rattle.indus_reader.specs.declared.fault.PropertyFault.TheVariants.{NoMemory}
-use Rattle.indus_rules.specs.Rules.{first, IsWellTyped}
-use Rattle.indus_rules.specs.Sites.{property_sites}
-use Rattle.indus_rules.specs.declared.rule.Rule.{Rule}
 use Rattle.job_course.specs.declared.status.Status.{Status}
 use Rattle.job_course.specs.declared.status.Status.TheVariants.{BadProperty}
 use Rattle.job_course.specs.declared.status.Area.TheVariants as area
 use Rattle.job_course.specs.Course.{Course, file, decide, and_then, give}
+use Rattle.property_course.specs.Files.{typed_property}
 use Rattle.forward_job.specs.Course.{forward_course}
 use Rattle.hydra_cli.specs.declared.command.Command as said
 use Rattle.hydra_cli.specs.declared.command.Command.TheVariants as variants
 use Rattle.hydra_cli.specs.Job as jobs
-use Rattle.hydra_cli.specs.Lines.{not_built_line, fault_line, type_line}
+use Rattle.hydra_cli.specs.Lines.{not_built_line}
 
 pub data Command : Type 0 where
   -- the names of the property's and the frame's files, and the front of the names of what is written
@@ -33,26 +28,6 @@ command_of (word ∷ p ∷ f ∷ o ∷ []) = if bytes_eq word (codes "wire") the
 command_of (word ∷ c ∷ o ∷ []) = if bytes_eq word (codes "forward") then Some (forward c o) else None
 command_of (word ∷ p ∷ []) = if bytes_eq word (codes "check") then Some (check p) else None
 command_of _ = None
-
--- the text is no property within the limits, for a cause that it has
-abbrev pub IsMisread : (name text : List ℕ) → Status → (line : List ℕ) → Type 0
-IsMisread name text s l = (s ≡ BadProperty) × ((f : PropertyFault) × (f ≢ NoMemory) × HasCause text f × (l ≡ fault_line name f))
-
--- a file of a property, of at most 64 KiB
-abbrev pub whole_property : (name : List ℕ) → Course Property
-whole_property name = and_then (file name 65536 area.Property) (λ text. decide (IsProperty text) (IsMisread name text))
-
--- the tree breaks no rule of types
-abbrev pub IsTyped : (tree p : Property) → Type 0
-IsTyped tree p = (p ≡ tree) × IsWellTyped tree
-
--- the first rule that is broken in the tree, from left to right, with its place
-abbrev pub IsIllTyped : (name : List ℕ) (tree : Property) → Status → (line : List ℕ) → Type 0
-IsIllTyped name tree s l = (s ≡ BadProperty) × ((at : ℕ) × (r : Rule) × (first (property_sites tree) ≡ Some (at, r)) × (l ≡ type_line name at r))
-
--- and a well-typed one
-abbrev pub typed_property : (name : List ℕ) → Course Property
-typed_property name = and_then (whole_property name) (λ tree. decide (IsTyped tree) (IsIllTyped name tree))
 
 -- the property is small
 abbrev pub IsBuilt : (tree p : Property) → Type 0

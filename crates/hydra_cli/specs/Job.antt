@@ -3,7 +3,6 @@ use Rattle.std.specs.Prelude.{ℕ, List, string_bytes}
 use Rattle.indus_tree.specs.Small.{IsSmall}
 use Rattle.indus_tree.specs.Tree.{Property}
 use Rattle.indus_tree.specs.View.{property_of}
-use Rattle.indus_tree.specs.declared.tree.Property as code_property
 use Rattle.indus_rules.specs.Rules.{IsWellTyped}
 use Rattle.forward_run.specs.Job as forward_job
 use Rattle.forward_run.specs.Job.{IsReady}
@@ -19,14 +18,10 @@ pub data Job : Type 0 where
   -- what `forward` is to do, and the front of the names of what is written
   forward : (job : forward_job.Job) (out : List ℕ) → Job
 
--- the tree of a typed property, which is seen as the property
-abbrev pub typed_of : code_property.Property → Property
-typed_of t = property_of t
-
 -- the job that a value of the program stands for
 abbrev pub job_of : code.Job → Job
-job_of (variants.Wire w) = wire (typed_of w.property) w.frame.items (string_bytes w.out)
-job_of (variants.Check t) = check (typed_of t)
+job_of (variants.Wire w) = wire (property_of w.property) w.frame.items (string_bytes w.out)
+job_of (variants.Check t) = check (property_of t)
 job_of (variants.Forward f) = forward (forward_view.job_of f.job) (string_bytes f.out)
 
 -- what is known of a job that was read: its property is small, or well typed, or it is ready to be run

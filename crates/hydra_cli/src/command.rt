@@ -8,12 +8,13 @@ ghost use Rattle.hydra_cli.specs.Output.{Outputs};
 ghost use Rattle.job_course.specs.Plan.{Plans};
 ghost use Rattle.job_course.specs.Steps.{Follows};
 
-use crate::check::{load_typed, sums};
+use crate::check::sums;
 use crate::forward::{read_forward, run_forward};
 use crate::job::{Job, WireJob};
 use crate::wire::{load_frame, load_small, run_wire};
 use job_course::{Output, Stop};
 use outside::Store;
+use property_course::load_property;
 use std::alloc::{AllocError, Global};
 
 /// A command line.
@@ -100,7 +101,7 @@ fn read_check<S: Store>(alloc: Global, store: &mut S, property: &str) -> Result<
     ensures follows { Follows (course_of (check property.now)) job_of (S.state store.old) (S.state store.new) result }
     ensures read { IfOk result (λ j. IsRead (job_of j)) }
 {
-    let property = load_typed(alloc, store, property)?;
+    let property = load_property(alloc, store, property)?;
     Ok(Job::Check(property))
 }
 

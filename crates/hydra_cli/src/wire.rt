@@ -3,11 +3,11 @@
 
 ghost use Rattle.std.specs.Prelude.{◌≡◌, ◌++◌, ◌∷◌, ◌<◌, ◌≤◌, ◌-◌, ◌*◌, ◌^◌, IfOk, OnOk, codes, count_by, length, map, nat_eq, string_bytes, sum_by, []};
 ghost use Rattle.indus_tree.specs.Small.{IsSmall};
+ghost use Rattle.indus_tree.specs.View.{property_of};
 ghost use Rattle.p4_tree.specs.View.{program_of};
 ghost use Rattle.wire_machine.specs.Machine.{machine_of};
 ghost use Rattle.wire_network.specs.Fates.{fate_of, net_of, told_of};
 ghost use Rattle.wire_network.specs.Travel.{travel};
-ghost use Rattle.hydra_cli.specs.Job.{typed_of};
 ghost use Rattle.linkage.specs.Linkage.{report_receiver};
 ghost use Rattle.wire_linkage.specs.Ways.{wire_line_links};
 ghost use Rattle.job_course.specs.Output.{file_of, files_of, out_of};
@@ -20,7 +20,6 @@ ghost use Rattle.hydra_cli.specs.Network.{link_limit, machine_for};
 ghost use Rattle.hydra_cli.specs.Output.{IsWireOutput};
 ghost use Rattle.hydra_cli.specs.Wire.{program_file};
 
-use crate::check::load_typed;
 use crate::job::WireJob;
 use crate::small::is_small;
 use indus_types::TypedProperty;
@@ -28,6 +27,7 @@ use job_course::{Area, Output, Refusal, Status, Stop, cause_text, read_file};
 use outside::Store;
 use p4_printer::print_program;
 use p4_tree::Program;
+use property_course::load_property;
 use std::alloc::{AllocError, Global};
 use wire_linker::link_wire;
 use wire_machine::Switch;
@@ -80,10 +80,10 @@ pub struct Counts {
 
 /// A property's file, whose property has to be well typed and small.
 pub fn load_small<S: Store>(alloc: Global, store: &mut S, name: &str) -> Result<TypedProperty, Stop>
-    ensures follows { Follows (small_property name.now) typed_of (S.state store.old) (S.state store.new) result }
-    ensures small { IfOk result (λ t. IsSmall (typed_of t)) }
+    ensures follows { Follows (small_property name.now) property_of (S.state store.old) (S.state store.new) result }
+    ensures small { IfOk result (λ t. IsSmall (property_of t)) }
 {
-    let property = load_typed(alloc, store, name)?;
+    let property = load_property(alloc, store, name)?;
     small(alloc, name, property)
 }
 
@@ -97,8 +97,8 @@ pub fn load_frame<S: Store>(alloc: Global, store: &mut S, name: &str) -> Result<
 
 /// The property, where it is small.
 fn small(alloc: Global, name: &str, property: TypedProperty) -> Result<TypedProperty, Stop>
-    ensures judged { Judged (IsBuilt (typed_of property)) (IsNotBuilt name.now (typed_of property)) typed_of result }
-    ensures small { IfOk result (λ t. IsSmall (typed_of t)) }
+    ensures judged { Judged (IsBuilt (property_of property)) (IsNotBuilt name.now (property_of property)) property_of result }
+    ensures small { IfOk result (λ t. IsSmall (property_of t)) }
 {
     if is_small(property.property()) {
         Ok(property)
@@ -114,8 +114,8 @@ fn small(alloc: Global, name: &str, property: TypedProperty) -> Result<TypedProp
 
 /// Links the property into the wire program on the three switches, and carries the frame.
 pub fn run_wire(alloc: Global, job: WireJob) -> Result<Output, AllocError>
-    requires small { IsSmall (typed_of job.property) }
-    ensures { IfOk result (λ o. IsWireOutput (typed_of job.property) job.frame.items (string_bytes job.out) (out_of o)) }
+    requires small { IsSmall (property_of job.property) }
+    ensures { IfOk result (λ o. IsWireOutput (property_of job.property) job.frame.items (string_bytes job.out) (out_of o)) }
 {
     let WireJob {
         property,
@@ -136,7 +136,7 @@ pub fn run_wire(alloc: Global, job: WireJob) -> Result<Output, AllocError>
 
 /// The linked programs: s1 has a link at port 2, s2 at ports 1 and 2, and s3 at port 1.
 fn link_line(alloc: Global, property: &TypedProperty) -> Result<LinkedLine, AllocError>
-    ensures { IfOk result (λ l. IsLinkedLine (typed_of property.now) l) }
+    ensures { IfOk result (λ l. IsLinkedLine (property_of property.now) l) }
 {
     let property = property.property();
     let s1 = link_wire(alloc, property, &[2])?;
@@ -219,7 +219,7 @@ fn carry_frame(
 
 /// The greatest length of a frame on a link: 65,535 bytes and the telemetry's, 256 at most.
 fn link_limit_of(property: &TypedProperty) -> u32
-    ensures limit { result ≡ link_limit (typed_of property.now) }
+    ensures limit { result ≡ link_limit (property_of property.now) }
     ensures low { result ≤ 65791 }
 {
     let fields = property.property().decls.len();

@@ -2,8 +2,8 @@ use Rattle.std.proofs.Common.{◌≡◌, length, refl, sym, ◌∙◌}
 use Rattle.std.proofs.lemmas.List.{length-map}
 use Rattle.path_runner.specs.Packets.{arrival_of}
 use Rattle.job_course.proofs.Courses.{follows_then, follows_first, follows_exit, follows_give}
+use Rattle.case_course.specs.Views.{ground_of, packets_view}
 use Rattle.forward_job.specs.Course.{loaded_course}
-use Rattle.forward_job.specs.Views.{ground_of, packets_view}
 use Rattle.forward_job.proofs.Steps.{of_count}
 use Rattle.forward_job.proofs.load.load_rest.Goals as goal
 

@@ -8,8 +8,7 @@ use Rattle.run_captures.specs.Views.{time_view}
 use Rattle.path_runner.specs.Packets.{sent_of, told_of}
 use Rattle.forward_texts.specs.Rows.{report_of, switches_cells}
 use Rattle.forward_run.specs.Run.{run_of}
-use Rattle.forward_texts.specs.Switches.{RunAll, KeepAll, switch_view}
-use Rattle.forward_run.specs.Switches.{log_view}
+use Rattle.forward_texts.specs.Switches.{RunAll, KeepAll, switch_view, log_view}
 use Rattle.forward_run.proofs.Written.{Files, three_more, short_items, captures_are, digests_are, cells_are, summary_is}
 use Rattle.forward_run.proofs.output.output_of.Goals as goal
 

@@ -10,7 +10,8 @@ use Rattle.run_captures.specs.Views.{time_view}
 use Rattle.job_course.specs.Output.{out_of}
 use Rattle.forward_run.specs.Files.{IsForwardOutput}
 use Rattle.forward_run.specs.Job.{Job}
-use Rattle.forward_run.specs.Switches.{IsEndOf, log_view}
+use Rattle.forward_texts.specs.Switches.{log_view}
+use Rattle.forward_run.specs.Switches.{IsEndOf}
 use Rattle.forward_run.specs.Views.{job_of}
 use Rattle.forward_run.proofs.Starting.{events_fit, start_unmapped}
 use Rattle.forward_run.proofs.Ending.{end_is, end_of}

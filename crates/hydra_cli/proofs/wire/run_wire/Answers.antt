@@ -9,7 +9,7 @@ use Rattle.small_monitor.specs.Small.{small_monitor, NoneKept, AnyView, NoVariab
 use Rattle.small_monitor.specs.SmallLaws.{small_laws}
 use Rattle.wire_program.specs.WireProgram.{wire_program}
 use Rattle.wire_program.specs.Network.{wire_line}
-use Rattle.hydra_cli.specs.Job.{typed_of}
+use Rattle.indus_tree.specs.View.{property_of}
 use Rattle.p4_meaning.specs.Parts.{parts_of}
 use Rattle.wire_linkage.specs.Line.{program_at, run_of_frame}
 use Rattle.wire_linkage.specs.Ways.{ShowsWay}
@@ -24,7 +24,7 @@ small_given p small =
 
 pub returns : goal.returns
 returns c =
-    let p = typed_of c.args.job.property in
+    let p = property_of c.args.job.property in
     let out = string_bytes c.args.job.out in
     let run = run_of_frame (program_at p) p c.args.job.frame.items in
     let net = net_of-line p c.in_ok-line.line c.in_ok-line.ensures _ _ c.in_ok-switches.ensures.machines c.new-told.ensures.items in
@@ -35,4 +35,4 @@ returns c =
     (c.in_ok-text.ensures ∙ (rw (c.deref.ensures.value, c.deref-2.ensures.value) at c.count-counts.ensures) ∙ summary-way p run _ shows)
 
 pub texts_of-requires : goal.texts_of-requires
-texts_of-requires c = can_print_line (typed_of c.args.job.property) c.requires.small c.in_ok-line.line c.in_ok-line.ensures
+texts_of-requires c = can_print_line (property_of c.args.job.property) c.requires.small c.in_ok-line.line c.in_ok-line.ensures

@@ -1,0 +1,16 @@
+-- What `run` writes: the files of a run of linked programs, and its summary. Read `Files` of run_texts before it, and `Ends` of
+-- run_output.
+use Rattle.std.specs.Prelude.{ℕ, List, length}
+use Rattle.job_course.specs.Output.{Out}
+use Rattle.run_output.specs.Ends as output
+use Rattle.run_output.specs.Ends.{Parts}
+use Rattle.linked_jobs.specs.Job.{Job}
+use Rattle.linked_jobs.specs.Run.{Linked, programs_of, run_of}
+
+abbrev pub parts_of : Job → Linked → Parts
+parts_of j l =
+    record { programs = programs_of j l; rows = l.rows; decls = j.property.decls; times = j.times; packets = length j.packets }
+
+-- the files of the run of these programs in the job's world, and the summary for the sink
+abbrev pub IsRunOutput : Job → Linked → (out : List ℕ) → Out → Type 0
+IsRunOutput j l out given = output.IsRunOutput out (parts_of j l) j.network.names (run_of j l) given

@@ -1,0 +1,9 @@
+//! The run of a property's linked programs over a job, and what is written of it.
+//!
+//! The layer above gets `run_linked`, whose contract is the headline (`specs/Headline`): there are linked
+//! programs which keep all that is claimed of them, and what is written is that of their run.
+#![tactic(auto)]
+
+mod run;
+
+pub use run::run_linked;
