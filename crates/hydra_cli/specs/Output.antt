@@ -7,7 +7,8 @@ use Rattle.wire_linkage.specs.Linkage.{IsWireLinkage}
 use Rattle.hydra_cli.specs.Headline.{Headline}
 use Rattle.job_course.specs.Output.{Out}
 use Rattle.forward_run.specs.Files.{IsForwardOutput}
-use Rattle.hydra_cli.specs.Job.{Job, wire, check, forward}
+use Rattle.linked_run.specs.Headline as linked
+use Rattle.hydra_cli.specs.Job.{Job, wire, check, forward, run}
 
 -- of `wire`: the headline, and all else that is said of linked programs
 pub record IsWireOutput (p : Property) (frame out : List ℕ) (given : Out) : Type 0 where
@@ -30,3 +31,4 @@ abbrev pub Outputs : Job → Out → Type 0
 Outputs (wire p f o) out = IsWireOutput p f o out
 Outputs (check p) out = IsCheckOutput p out
 Outputs (forward j o) out = IsForwardOutput j o out
+Outputs (run t o) out = linked.Headline t.job o out

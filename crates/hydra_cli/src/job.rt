@@ -4,6 +4,7 @@ ghost use Rattle.std.specs.Prelude.{◌≤◌, length};
 
 use forward_run::ForwardJob;
 use indus_types::TypedProperty;
+use linked_jobs::LinkedJob;
 
 /// What a command is to do.
 #[derive(Drop)]
@@ -12,6 +13,7 @@ pub enum Job {
     /// A property that breaks no rule of types.
     Check(TypedProperty),
     Forward(ForwardTask),
+    Run(RunTask),
 }
 
 /// A property, a raw frame, and the front of the names of what is written.
@@ -27,5 +29,12 @@ pub struct WireJob {
 #[derive(Drop)]
 pub struct ForwardTask {
     pub job: ForwardJob,
+    pub out: String,
+}
+
+/// A job of `run`, and the front of the names of what is written.
+#[derive(Drop)]
+pub struct RunTask {
+    pub job: LinkedJob,
     pub out: String,
 }

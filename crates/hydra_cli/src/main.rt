@@ -4,8 +4,9 @@
 //! `main` calls it over the system's files and standard output. So far it does
 //! `wire PROPERTY FRAME OUT`, which links the property into the built-in wire program on three
 //! switches and carries one raw frame through them; `check PROPERTY`, which reads a property of the
-//! whole language and says what it needs; and `forward CASE OUT`, which runs a program at every switch
-//! of a network over captures.
+//! whole language and says what it needs; `forward CASE OUT`, which runs a program at every switch of a
+//! network over captures; and `run CASE OUT`, which links a property into the program and runs what is
+//! linked.
 //!
 //! Not promised: what the system's files and standard output hold.
 #![tactic(auto)]
@@ -20,6 +21,7 @@ mod forward;
 #[cfg(test)]
 mod forward_tests;
 mod job;
+mod run;
 mod small;
 #[cfg(test)]
 mod tests;
