@@ -22,6 +22,8 @@ mod forward;
 mod forward_tests;
 mod job;
 mod run;
+#[cfg(test)]
+mod run_tests;
 mod small;
 #[cfg(test)]
 mod tests;
