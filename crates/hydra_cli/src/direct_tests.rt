@@ -52,6 +52,7 @@ line2 @ {\"s1\": {\"allowed\": [80]}} @ 1 @ header bool is_tcp = hdr.tcp.isValid
 line2 @ {} @ 3 @ sensor bit<8>[2] seen = 254; tele bit<8> mine; {} { seen[switch_id] = seen[switch_id] + 1; mine = seen[switch_id]; } { report(mine, first_hop, last_hop); if (mine == 0) { reject; } }";
 
 /// The parts of a row.
+#[derive(Clone, Copy)]
 struct Row<'a> {
     network: &'a str,
     control: &'a str,
@@ -74,6 +75,7 @@ fn row_of<'a>(text: &'a str) -> Option<Row<'a>> {
 }
 
 /// What a property says of its hops: its reports as lines, and how many packets it rejects.
+#[derive(Drop)]
 struct Said {
     lines: String,
     reports: u32,
