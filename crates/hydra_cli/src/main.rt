@@ -17,6 +17,8 @@ ghost use Rattle.hydra_cli.specs.Answers.{Answers, IsComplete};
 
 mod check;
 mod command;
+#[cfg(test)]
+mod direct_tests;
 mod forward;
 #[cfg(test)]
 mod forward_tests;

@@ -48,7 +48,7 @@ const HEAD: &[u8] = b"\xd4\xc3\xb2\xa1\x02\0\x04\0\0\0\0\0\0\0\0\0\0\0\x04\0\x01
 const TIME: &[u8] = b"\x01\0\0\0\x05\0\0\0";
 
 /// Where the captures enter a case, and what each case names.
-const CASE: &str = "\"captures\": [{\"switch\": \"s1\", \"port\": 1, \"file\": \"h.pcap\"}], \
+pub const CASE: &str = "\"captures\": [{\"switch\": \"s1\", \"port\": 1, \"file\": \"h.pcap\"}], \
 \"network\": \"n\", \"program\": \"f\", \"property\": \"p\"";
 
 /// The rows. A row is a network, an ingress, what an egress does, members of the case, a schedule, the contents of control
@@ -139,6 +139,11 @@ pub fn capture(alloc: Global, frames: &str) -> Result<Vec<u8>, AllocError> {
     Ok(bytes)
 }
 
+/// The network with a name.
+pub fn network(name: &str) -> &'static str {
+    named(NETWORKS, name).unwrap_or("")
+}
+
 /// A program of an ingress with a name, and an egress.
 pub fn program(alloc: Global, ingress: &str, egress: &str) -> Result<String, AllocError> {
     let ingress = named(INGRESSES, ingress).unwrap_or("");
@@ -152,8 +157,7 @@ fn held(
     failing: &[u64],
 ) -> Result<MemStore, AllocError> {
     let mut store = MemStore::new(alloc, failing.to_vec(alloc)?);
-    let network = named(NETWORKS, part(parts)).unwrap_or("");
-    store.hold(alloc, "n", network.as_bytes())?;
+    store.hold(alloc, "n", network(part(parts)).as_bytes())?;
     let (ingress, egress) = (part(parts), part(parts));
     store.hold(alloc, "f", program(alloc, ingress, egress)?.as_bytes())?;
     let more = part(parts);

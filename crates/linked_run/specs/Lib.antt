@@ -3,3 +3,5 @@ pub mod Output
 pub mod Headline
 -- What serves the proofs.
 pub mod Happening
+pub mod Finished
+pub mod Views

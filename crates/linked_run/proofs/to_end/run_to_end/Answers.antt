@@ -22,7 +22,7 @@ use Rattle.linked_run.specs.Headline.{Headline}
 use Rattle.linked_run.proofs.Written.{if_ok}
 use Rattle.linked_run.proofs.Started.{schedule_can_happen}
 use Rattle.linked_run.proofs.Ending.{is_end, at_end, network}
-use Rattle.linked_run.proofs.run.run_linked.Goals as goal
+use Rattle.linked_run.proofs.to_end.run_to_end.Goals as goal
 
 pub happen-requires : goal.happen-requires
 happen-requires c =

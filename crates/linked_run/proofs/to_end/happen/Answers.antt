@@ -8,7 +8,7 @@ use Rattle.path_runner.specs.Views.{state_of}
 use Rattle.path_runner.proofs.Running.{runs_then, same_then}
 use Rattle.linked_run.specs.Happening.{CanHappen}
 use Rattle.linked_run.proofs.Happens.{possible, behind}
-use Rattle.linked_run.proofs.run.happen.Goals as goal
+use Rattle.linked_run.proofs.to_end.happen.Goals as goal
 
 pub step-requires : goal.step-requires
 step-requires c =

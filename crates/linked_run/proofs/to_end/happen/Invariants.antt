@@ -3,7 +3,7 @@ use Rattle.network_file.specs.Events.{event_of}
 use Rattle.path_runner.specs.Nets.{IsSame, RunsTo, tables_of}
 use Rattle.path_runner.specs.Views.{state_of}
 use Rattle.linked_run.specs.Happening.{CanHappen}
-use Rattle.linked_run.proofs.run.happen.Given as goal
+use Rattle.linked_run.proofs.to_end.happen.Given as goal
 
 -- the events so far have happened, and the others can
 abbrev pub invariant-loop-event : goal.invariant-loop-event

@@ -1,6 +1,6 @@
 use Rattle.std.proofs.Common.{◌≡◌, map, take}
 use Rattle.p4_tree.specs.View.{program_of}
-use Rattle.linked_run.proofs.run.copies.Given as goal
+use Rattle.linked_run.proofs.to_end.copies.Given as goal
 
 -- so many programs were copied
 abbrev pub invariant-loop-program : goal.invariant-loop-program

@@ -3,7 +3,7 @@ use Rattle.std.proofs.lemmas.List.Elements.{All-take}
 use Rattle.p4_tree.specs.View.{program_of}
 use Rattle.p4_printer.specs.CanSpell.{CanSpell}
 use Rattle.linked_run.proofs.Copied.{copied_can}
-use Rattle.linked_run.proofs.run.copies.Goals as goal
+use Rattle.linked_run.proofs.to_end.copies.Goals as goal
 
 pub returns-clause-spelled : goal.returns-clause-spelled
 returns-clause-spelled c =

@@ -1,0 +1,4 @@
+-- What callers rest on, in reading order.
+pub mod Line
+pub mod Lines
+pub mod Course

@@ -1,0 +1,151 @@
+//! The files of `wire`, one after the other.
+
+ghost use Rattle.std.specs.Prelude.{◌≡◌, ◌≤◌, ◌∷◌, [], length, map, IfOk, None, option_map, string_bytes};
+ghost use Rattle.outside.specs.State.{StoreState};
+ghost use Rattle.indus_tree.specs.View.{property_of};
+ghost use Rattle.indus_rules.specs.Rules.{IsWellTyped};
+ghost use Rattle.property_course.specs.Files.{IsOfText};
+ghost use Rattle.job_course.specs.Steps.{Follows, Judged};
+ghost use Rattle.path_runner.specs.Packets.{arrival_of};
+ghost use Rattle.run_captures.specs.Views.{time_view};
+ghost use Rattle.linked_jobs.specs.Views.{IsLinkedJob};
+ghost use Rattle.run_job.specs.Views.{task_of};
+ghost use Rattle.wire_job.specs.Course as course;
+ghost use Rattle.wire_job.specs.Course.{IsUncontrolled, NeedsControl, arrival, linked_course, start, wire_course};
+ghost use Rattle.wire_job.specs.Lines.{control_line};
+
+use crate::line::{line_network, typed_program};
+use control_file::contents_before;
+use indus_tree::DeclKind;
+use indus_types::TypedProperty;
+use job_course::{Area, Refusal, Status, Stop, read_file};
+use link_course::load_link;
+use linked_jobs::LinkedJob;
+use outside::Store;
+use path_runner::Packet;
+use plain_texts::laws::{texts_are_plain, texts_declare_words};
+use property_course::load_property;
+use read_contents::files_fit;
+use run_captures::Time;
+use std::alloc::{AllocError, Global};
+use table_file::states_before;
+
+/// The greatest length of a frame, in bytes.
+const FRAME_LIMIT: u64 = 65_535;
+
+/// How many switches a packet may pass.
+const HOPS: u8 = 64;
+
+/// How many bytes of telemetry a frame may carry.
+const ROOM: u16 = 128;
+
+// ---- the property
+
+/// The name of the first control variable.
+fn first_control(property: &TypedProperty) -> Option<&str>
+    ensures { option_map (λ s. s.now) result ≡ course.first_control (property_of property.now).decls }
+{
+    for decl in &property.property().decls {
+        if let DeclKind::Control = decl.kind {
+            return Some(decl.name.as_str());
+        }
+    }
+    None
+}
+
+/// The line of a property that declares a control variable.
+fn control_text(alloc: Global, name: &str, variable: &str) -> Result<String, AllocError>
+    ensures { IfOk result (λ s. string_bytes s ≡ control_line name.now variable.now) }
+{
+    format!(in alloc; "hydra: property {name} NeedsControl {variable}\n")
+}
+
+/// The property declares no control variable.
+fn uncontrolled(alloc: Global, name: &str, property: &TypedProperty) -> Result<(), Stop>
+    ensures judged { Judged (IsUncontrolled (property_of property.now)) (NeedsControl name.now (property_of property.now)) (λ x. x) result }
+{
+    match first_control(property) {
+        None => Ok(()),
+        Some(variable) => Err(Stop::Refused(Refusal {
+            status: Status::BadProperty,
+            line: control_text(alloc, name, variable)?,
+        })),
+    }
+}
+
+// ---- the job
+
+/// The one packet, which comes to port 1 of the first switch.
+fn packet(alloc: Global, frame: Vec<u8>) -> Result<Vec<Packet>, AllocError>
+    ensures { IfOk result (λ v. map arrival_of v.items ≡ arrival frame.items ∷ []) }
+{
+    let mut packets = Vec::new(alloc);
+    packets.push(Packet {
+        switch: 0,
+        port: 1,
+        bytes: frame,
+    })?;
+    Ok(packets)
+}
+
+/// The time of its capture.
+fn time(alloc: Global) -> Result<Vec<Time>, AllocError>
+    ensures { IfOk result (λ v. map time_view v.items ≡ start ∷ []) }
+{
+    let mut times = Vec::new(alloc);
+    times.push(Time {
+        seconds: 0,
+        micros: 0,
+    })?;
+    Ok(times)
+}
+
+/// What the property and the wire program are linked to, and what is to be run of it.
+fn load_linked(alloc: Global, property: TypedProperty, frame: Vec<u8>) -> Result<LinkedJob, Stop>
+    requires typed { IsWellTyped (property_of property) }
+    requires read { IsOfText (property_of property) }
+    requires free { course.first_control (property_of property).decls ≡ None }
+    requires short { length frame.items ≤ 65535 }
+    ensures follows { (s : StoreState) → Follows (linked_course (property_of property) frame.items) task_of s s result }
+    ensures read { IfOk result IsLinkedJob }
+{
+    texts_are_plain();
+    texts_declare_words();
+    files_fit();
+    let program = typed_program(alloc)?;
+    let network = line_network(alloc)?;
+    let linked = load_link(alloc, &program, &property, &network, ROOM)?;
+    let tables = states_before(alloc, &program, &network)?;
+    let contents = contents_before(alloc, &property, &network)?;
+    let packets = packet(alloc, frame)?;
+    let times = time(alloc)?;
+    Ok(LinkedJob {
+        property,
+        program,
+        linked,
+        network,
+        hops: HOPS,
+        room: ROOM,
+        tables,
+        contents,
+        packets,
+        times,
+        events: Vec::new(alloc),
+    })
+}
+
+/// The job of a property's file and a frame's, with what is linked for it.
+pub fn load_wire<S: Store>(
+    alloc: Global,
+    store: &mut S,
+    property: &str,
+    frame: &str,
+) -> Result<LinkedJob, Stop>
+    ensures follows { Follows (wire_course property.now frame.now) task_of (S.state store.old) (S.state store.new) result }
+    ensures read { IfOk result IsLinkedJob }
+{
+    let tree = load_property(alloc, store, property)?;
+    uncontrolled(alloc, property, &tree)?;
+    let bytes = read_file(alloc, store, frame, FRAME_LIMIT, Area::Capture)?;
+    load_linked(alloc, tree, bytes)
+}
