@@ -10,7 +10,7 @@ use indus_reader::read_property;
 use indus_run::{has_short_reports, hop_step, is_shaped};
 use indus_tree::{Decl, DeclKind, Property};
 use indus_types::{TypedProperty, check_property};
-use indus_values::{ControlValue, HopResult, HopView, SensorState, TeleState, cut, shape_width};
+use indus_values::{ControlValue, HopResult, HopView, SensorState, TeleState};
 use job_course::Status;
 use json_parts::read_value;
 use network_file::read_network;
@@ -114,22 +114,21 @@ fn contents_of(
     }
 }
 
-/// What header variables read in a half of a passage.
-fn read_headers(alloc: Global, decls: &[Decl], egress: u128) -> Result<Vec<Bits>, AllocError> {
+/// What header variables read in a half of a passage, in which the egress port is as given.
+fn read_headers(alloc: Global, decls: &[Decl], egress: Bits) -> Result<Vec<Bits>, AllocError> {
     let mut words = Vec::new(alloc);
     for decl in decls {
         if decl.kind == DeclKind::Header {
-            let value = match decl.path.last() {
-                _ if decl.valid => 1,
+            let word = match decl.path.last() {
+                _ if decl.valid => Bits::new(1, 1),
                 Some(name) => match name.as_str() {
-                    "ingress_port" => 1,
+                    "ingress_port" => Bits::new(9, 1),
                     "egress_port" => egress,
-                    "dport" => 80,
-                    _ => 0,
+                    _ => Bits::new(16, 80),
                 },
-                None => 0,
+                None => Bits::new(1, 0),
             };
-            words.push(cut(shape_width(&decl.shape), value))?;
+            words.push(word)?;
         }
     }
     Ok(words)
@@ -151,8 +150,8 @@ fn hop_at(
         switch: switch as u16,
         first: switch == 0,
         last: switch + 1 == contents.len(),
-        entry_: read_headers(alloc, &p.decls, 0)?,
-        exit_: Some(read_headers(alloc, &p.decls, 2)?),
+        entry_: read_headers(alloc, &p.decls, Bits::new(9, 0))?,
+        exit_: Some(read_headers(alloc, &p.decls, Bits::new(9, 2))?),
         control,
     })
 }

@@ -1,12 +1,10 @@
 //! Hydra: runtime verification of networks.
 //!
 //! `hydra` does what the words of a command line say, over a store of files and a sink of bytes, and
-//! `main` calls it over the system's files and standard output. So far it does
-//! `wire PROPERTY FRAME OUT`, which links the property into the built-in wire program on three
-//! switches and carries one raw frame through them; `check PROPERTY`, which reads a property of the
-//! whole language and says what it needs; `forward CASE OUT`, which runs a program at every switch of a
-//! network over captures; and `run CASE OUT`, which links a property into the program and runs what is
-//! linked.
+//! `main` calls it over the system's files and standard output: `run CASE OUT` links a property into a
+//! program and runs what is linked at every switch of a network, over captures; `wire PROPERTY FRAME OUT`
+//! does so with the built-in program, on three switches and for one raw frame; `forward CASE OUT` runs
+//! the program without a property; and `check PROPERTY` reads a property and says what it needs.
 //!
 //! Not promised: what the system's files and standard output hold.
 #![tactic(auto)]
@@ -26,7 +24,6 @@ mod job;
 mod run;
 #[cfg(test)]
 mod run_tests;
-mod small;
 #[cfg(test)]
 mod tests;
 mod wire;
