@@ -149,7 +149,7 @@ fn hop_at(
         }
     }
     Ok(HopView {
-        switch: switch as u16,
+        switch: u16::try_from(switch).unwrap_or(0),
         first: switch == 0,
         last: switch.wrapping_add(1) == contents.len(),
         entry_: read_headers(alloc, &p.decls, Bits::new(9, 0))?,
