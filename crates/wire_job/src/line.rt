@@ -42,6 +42,13 @@ pub(crate) fn line_network(alloc: Global) -> Result<Network, AllocError>
     match read_network(alloc, &value) {
         Ok(network) => Ok(network),
         Err(NetworkFault::NoMemory) => Err(AllocError),
-        Err(_) => unreachable!(),
+        Err(
+            NetworkFault::Shape { .. }
+            | NetworkFault::NameTwice { .. }
+            | NetworkFault::NoSuchSwitch { .. }
+            | NetworkFault::PortTwice { .. }
+            | NetworkFault::BadPort { .. }
+            | NetworkFault::Limit,
+        ) => unreachable!(),
     }
 }

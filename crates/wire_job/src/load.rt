@@ -2,7 +2,7 @@
 
 ghost use Rattle.std.specs.Prelude.{◌≡◌, ◌≤◌, ◌∷◌, [], length, map, IfOk, None, option_map, string_bytes};
 ghost use Rattle.outside.specs.State.{StoreState};
-ghost use Rattle.indus_tree.specs.View.{property_of};
+ghost use Rattle.indus_tree.specs.View.{decl_of, property_of};
 ghost use Rattle.indus_rules.specs.Rules.{IsWellTyped};
 ghost use Rattle.property_course.specs.Files.{IsOfText};
 ghost use Rattle.job_course.specs.Steps.{Follows, Judged};
@@ -16,7 +16,7 @@ ghost use Rattle.wire_job.specs.Lines.{control_line};
 
 use crate::line::{line_network, typed_program};
 use control_file::contents_before;
-use indus_tree::DeclKind;
+use indus_tree::{Decl, DeclKind};
 use indus_types::TypedProperty;
 use job_course::{Area, Refusal, Status, Stop, read_file};
 use link_course::load_link;
@@ -42,11 +42,11 @@ const ROOM: u16 = 128;
 // ---- the property
 
 /// The name of the first control variable.
-fn first_control(property: &TypedProperty) -> Option<&str>
-    ensures { option_map (λ s. s.now) result ≡ course.first_control (property_of property.now).decls }
+fn first_control(decls: &[Decl]) -> Option<&str>
+    ensures { option_map (λ s. s.now) result ≡ course.first_control (map decl_of decls.now) }
 {
-    for decl in &property.property().decls {
-        if let DeclKind::Control = decl.kind {
+    for decl in decls {
+        if decl.kind == DeclKind::Control {
             return Some(decl.name.as_str());
         }
     }
@@ -64,7 +64,7 @@ fn control_text(alloc: Global, name: &str, variable: &str) -> Result<String, All
 fn uncontrolled(alloc: Global, name: &str, property: &TypedProperty) -> Result<(), Stop>
     ensures judged { Judged (IsUncontrolled (property_of property.now)) (NeedsControl name.now (property_of property.now)) (λ x. x) result }
 {
-    match first_control(property) {
+    match first_control(&property.property().decls) {
         None => Ok(()),
         Some(variable) => Err(Stop::Refused(Refusal {
             status: Status::BadProperty,
