@@ -1,18 +1,14 @@
 -- The command lines, and the course of each command. Read `Course` of the job's course before it and `Output` after it.
-use Rattle.std.specs.Prelude.{◌≡◌, ℕ, List, [], ◌∷◌, Option, Some, None, codes, if◌then◌else◌}
+use Rattle.std.specs.Prelude.{ℕ, List, [], ◌∷◌, Option, Some, None, codes, if◌then◌else◌}
 use Rattle.std.specs.Str.{bytes_eq}
-use Rattle.indus_tree.specs.Tree.{Property}
-use Rattle.indus_tree.specs.Small.{IsSmall}
-use Rattle.job_course.specs.declared.status.Status.{Status}
-use Rattle.job_course.specs.declared.status.Status.TheVariants.{BadProperty}
-use Rattle.job_course.specs.declared.status.Area.TheVariants as area
-use Rattle.job_course.specs.Course.{Course, file, decide, and_then, give}
+use Rattle.job_course.specs.Course.{Course, and_then, give}
 use Rattle.property_course.specs.Files.{typed_property}
 use Rattle.forward_job.specs.Course.{forward_course}
+use Rattle.run_job.specs.Course.{run_course}
+use Rattle.wire_job.specs.Course.{wire_course}
 use Rattle.hydra_cli.specs.declared.command.Command as said
 use Rattle.hydra_cli.specs.declared.command.Command.TheVariants as variants
 use Rattle.hydra_cli.specs.Job as jobs
-use Rattle.hydra_cli.specs.Lines.{not_built_line}
 
 pub data Command : Type 0 where
   -- the names of the property's and the frame's files, and the front of the names of what is written
@@ -21,38 +17,27 @@ pub data Command : Type 0 where
   check : (property : List ℕ) → Command
   -- the name of the case's file, and the front of the names of what is written
   forward : (case out : List ℕ) → Command
+  -- the name of the case's file, and the front of the names of what is written
+  run : (case out : List ℕ) → Command
 
 -- the command that words are, where they are one
 abbrev pub command_of : List (List ℕ) → Option Command
 command_of (word ∷ p ∷ f ∷ o ∷ []) = if bytes_eq word (codes "wire") then Some (wire p f o) else None
-command_of (word ∷ c ∷ o ∷ []) = if bytes_eq word (codes "forward") then Some (forward c o) else None
+command_of (word ∷ c ∷ o ∷ []) =
+    if bytes_eq word (codes "forward") then Some (forward c o) else if bytes_eq word (codes "run") then Some (run c o) else None
 command_of (word ∷ p ∷ []) = if bytes_eq word (codes "check") then Some (check p) else None
 command_of _ = None
 
--- the property is small
-abbrev pub IsBuilt : (tree p : Property) → Type 0
-IsBuilt tree p = (p ≡ tree) × IsSmall tree
-
--- the property is well typed, and not small
-abbrev pub IsNotBuilt : (name : List ℕ) (tree : Property) → Status → (line : List ℕ) → Type 0
-IsNotBuilt name tree s l = (s ≡ BadProperty) × (l ≡ not_built_line name) × (IsSmall tree → ⊥)
-
--- and a small one
-abbrev pub small_property : (name : List ℕ) → Course Property
-small_property name = and_then (typed_property name) (λ tree. decide (IsBuilt tree) (IsNotBuilt name tree))
-
--- a frame's file, of at most 65,535 bytes
-abbrev pub frame : (name : List ℕ) → Course (List ℕ)
-frame name = file name 65535 area.Capture
-
 -- the job of a command, or its first refusal
 abbrev pub course_of : Command → Course jobs.Job
-course_of (wire p f o) = and_then (small_property p) (λ tree. and_then (frame f) (λ bytes. give (jobs.wire tree bytes o)))
+course_of (wire p f o) = and_then (wire_course p f) (λ task. give (jobs.wire task o))
 course_of (check p) = and_then (typed_property p) (λ tree. give (jobs.check tree))
 course_of (forward c o) = and_then (forward_course c) (λ job. give (jobs.forward job o))
+course_of (run c o) = and_then (run_course c) (λ task. give (jobs.run task o))
 
 -- the command that a value says
 abbrev pub said_by : said.Command → Command
 said_by (variants.Wire p f o) = wire p.now f.now o.now
 said_by (variants.Check p) = check p.now
 said_by (variants.Forward c o) = forward c.now o.now
+said_by (variants.Run c o) = run c.now o.now

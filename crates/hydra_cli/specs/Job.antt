@@ -1,31 +1,37 @@
 -- What a command is to do.
 use Rattle.std.specs.Prelude.{ℕ, List, string_bytes}
-use Rattle.indus_tree.specs.Small.{IsSmall}
 use Rattle.indus_tree.specs.Tree.{Property}
 use Rattle.indus_tree.specs.View.{property_of}
 use Rattle.indus_rules.specs.Rules.{IsWellTyped}
 use Rattle.forward_run.specs.Job as forward_job
 use Rattle.forward_run.specs.Job.{IsReady}
 use Rattle.forward_run.specs.Views as forward_view
+use Rattle.linked_jobs.specs.Views.{IsLinkedJob}
+use Rattle.run_job.specs.Course.{Task}
+use Rattle.run_job.specs.Views.{task_of}
 use Rattle.hydra_cli.specs.declared.job.Job as code
 use Rattle.hydra_cli.specs.declared.job.Job.TheVariants as variants
 
 pub data Job : Type 0 where
-  -- a property, a raw frame, and the front of the names of what is written
-  wire : (property : Property) (frame out : List ℕ) → Job
+  -- what `wire` is to do, with what is linked for it, and the front of the names of what is written
+  wire : (task : Task) (out : List ℕ) → Job
   -- a property that breaks no rule of types
   check : (property : Property) → Job
-  -- what `forward` is to do, and the front of the names of what is written
+  -- what `forward` is to do, and the front of the names
   forward : (job : forward_job.Job) (out : List ℕ) → Job
+  -- what `run` is to do, with what is linked for it, and the front of the names
+  run : (task : Task) (out : List ℕ) → Job
 
 -- the job that a value of the program stands for
 abbrev pub job_of : code.Job → Job
-job_of (variants.Wire w) = wire (property_of w.property) w.frame.items (string_bytes w.out)
+job_of (variants.Wire w) = wire (task_of w.job) (string_bytes w.out)
 job_of (variants.Check t) = check (property_of t)
 job_of (variants.Forward f) = forward (forward_view.job_of f.job) (string_bytes f.out)
+job_of (variants.Run r) = run (task_of r.job) (string_bytes r.out)
 
--- what is known of a job that was read: its property is small, or well typed, or it is ready to be run
-abbrev pub IsRead : Job → Type 0
-IsRead (wire p f o) = IsSmall p
-IsRead (check p) = IsWellTyped p
-IsRead (forward j o) = IsReady j
+-- what is known of a job that was read: its property is well typed, or it is ready to be run
+abbrev pub IsRead : code.Job → Type 0
+IsRead (variants.Wire w) = IsLinkedJob w.job
+IsRead (variants.Check t) = IsWellTyped (property_of t)
+IsRead (variants.Forward f) = IsReady (forward_view.job_of f.job)
+IsRead (variants.Run r) = IsLinkedJob r.job

@@ -1,18 +1,12 @@
--- What a command's job writes, and what it hands to the sink. Read `Headline` before it.
+-- What a command's job writes, and what it hands to the sink. Read `Headline` of linked_run before it, and `Files` of forward_run.
 use Rattle.std.specs.Prelude.{◌≡◌, ℕ, ◌+◌, ◌/◌, List, [], ◌∷◌, ◌++◌, codes}
 use Rattle.std.specs.Fmt.{decimal}
 use Rattle.indus_tree.specs.Tree.{Property}
 use Rattle.indus_types.specs.Sums.{cut, cut_wide, property_bits, property_weight}
-use Rattle.wire_linkage.specs.Linkage.{IsWireLinkage}
-use Rattle.hydra_cli.specs.Headline.{Headline}
 use Rattle.job_course.specs.Output.{Out}
 use Rattle.forward_run.specs.Files.{IsForwardOutput}
-use Rattle.hydra_cli.specs.Job.{Job, wire, check, forward}
-
--- of `wire`: the headline, and all else that is said of linked programs
-pub record IsWireOutput (p : Property) (frame out : List ℕ) (given : Out) : Type 0 where
-  pub headline : Headline p frame out given
-  pub linkage : IsWireLinkage headline.programs p
+use Rattle.linked_run.specs.Headline.{Headline, WireHeadline}
+use Rattle.hydra_cli.specs.Job.{Job, wire, check, forward, run}
 
 -- the bytes that so many bits need
 abbrev pub bytes_of : ℕ → ℕ
@@ -26,7 +20,9 @@ pub record IsCheckOutput (p : Property) (given : Out) : Type 0 where
   pub files : given.files ≡ []
   pub text : given.text ≡ ok_line (bytes_of (cut_wide (property_bits p))) (cut (property_weight p))
 
+-- of `wire` and `run`: the headline
 abbrev pub Outputs : Job → Out → Type 0
-Outputs (wire p f o) out = IsWireOutput p f o out
+Outputs (wire t o) out = WireHeadline t.job o out
 Outputs (check p) out = IsCheckOutput p out
 Outputs (forward j o) out = IsForwardOutput j o out
+Outputs (run t o) out = Headline t.job o out

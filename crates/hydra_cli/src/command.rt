@@ -2,7 +2,7 @@
 
 ghost use Rattle.std.specs.Prelude.{◌≡◌, IfOk, MatchOption, None, Some, map, string_bytes};
 ghost use Rattle.job_course.specs.Output.{out_of};
-ghost use Rattle.hydra_cli.specs.Command.{check, command_of, course_of, said_by, wire};
+ghost use Rattle.hydra_cli.specs.Command.{check, command_of, course_of, said_by};
 ghost use Rattle.hydra_cli.specs.Job.{IsRead, job_of};
 ghost use Rattle.hydra_cli.specs.Output.{Outputs};
 ghost use Rattle.job_course.specs.Plan.{Plans};
@@ -10,8 +10,9 @@ ghost use Rattle.job_course.specs.Steps.{Follows};
 
 use crate::check::sums;
 use crate::forward::{read_forward, run_forward};
-use crate::job::{Job, WireJob};
-use crate::wire::{load_frame, load_small, run_wire};
+use crate::job::Job;
+use crate::run::{read_run, run_job};
+use crate::wire::{read_wire, run_wire};
 use job_course::{Output, Stop};
 use outside::Store;
 use property_course::load_property;
@@ -26,6 +27,8 @@ pub enum Command<'a> {
     Check(&'a str),
     /// `forward CASE OUT`
     Forward(&'a str, &'a str),
+    /// `run CASE OUT`
+    Run(&'a str, &'a str),
 }
 
 /// The command that the words are, if they are one.
@@ -43,6 +46,8 @@ pub fn read_words<'a>(words: &'a [String]) -> Option<Command<'a>>
         [word, case, out] => {
             if word.as_str() == "forward" {
                 Some(Command::Forward(case.as_str(), out.as_str()))
+            } else if word.as_str() == "run" {
+                Some(Command::Run(case.as_str(), out.as_str()))
             } else {
                 None
             }
@@ -68,50 +73,32 @@ pub fn plan<S: Store>(alloc: Global, store: &mut S, command: Command<'_>) -> Res
 
 fn read_job<S: Store>(alloc: Global, store: &mut S, command: Command<'_>) -> Result<Job, Stop>
     ensures follows { Follows (course_of (said_by command.entry)) job_of (S.state store.old) (S.state store.new) result }
-    ensures read { IfOk result (λ j. IsRead (job_of j)) }
+    ensures read { IfOk result IsRead }
 {
     match command {
         Command::Wire(property, frame, out) => read_wire(alloc, store, property, frame, out),
         Command::Check(property) => read_check(alloc, store, property),
         Command::Forward(case, out) => read_forward(alloc, store, case, out),
+        Command::Run(case, out) => read_run(alloc, store, case, out),
     }
-}
-
-fn read_wire<S: Store>(
-    alloc: Global,
-    store: &mut S,
-    property: &str,
-    frame: &str,
-    out: &str,
-) -> Result<Job, Stop>
-    ensures follows { Follows (course_of (wire property.now frame.now out.now)) job_of (S.state store.old) (S.state store.new) result }
-    ensures read { IfOk result (λ j. IsRead (job_of j)) }
-{
-    let property = load_small(alloc, store, property)?;
-    let frame = load_frame(alloc, store, frame)?;
-    let out = String::from_str(alloc, out)?;
-    Ok(Job::Wire(WireJob {
-        property,
-        frame,
-        out,
-    }))
 }
 
 fn read_check<S: Store>(alloc: Global, store: &mut S, property: &str) -> Result<Job, Stop>
     ensures follows { Follows (course_of (check property.now)) job_of (S.state store.old) (S.state store.new) result }
-    ensures read { IfOk result (λ j. IsRead (job_of j)) }
+    ensures read { IfOk result IsRead }
 {
     let property = load_property(alloc, store, property)?;
     Ok(Job::Check(property))
 }
 
 fn run(alloc: Global, job: Job) -> Result<Output, AllocError>
-    requires read { IsRead (job_of job) }
+    requires read { IsRead job }
     ensures { IfOk result (λ o. Outputs (job_of job) (out_of o)) }
 {
     match job {
-        Job::Wire(job) => run_wire(alloc, job),
+        Job::Wire(task) => run_wire(alloc, task),
         Job::Check(property) => sums(alloc, &property),
         Job::Forward(task) => run_forward(alloc, task),
+        Job::Run(task) => run_job(alloc, task),
     }
 }

@@ -23,7 +23,7 @@ pub fn read_forward<S: Store>(
     out: &str,
 ) -> Result<Job, Stop>
     ensures follows { Follows (course_of (forward case.now out.now)) job_of (S.state store.old) (S.state store.new) result }
-    ensures read { IfOk result (λ j. IsRead (job_of j)) }
+    ensures read { IfOk result IsRead }
 {
     let job = load_forward(alloc, store, case)?;
     let out = String::from_str(alloc, out)?;

@@ -1,11 +1,10 @@
 //! Hydra: runtime verification of networks.
 //!
 //! `hydra` does what the words of a command line say, over a store of files and a sink of bytes, and
-//! `main` calls it over the system's files and standard output. So far it does
-//! `wire PROPERTY FRAME OUT`, which links the property into the built-in wire program on three
-//! switches and carries one raw frame through them; `check PROPERTY`, which reads a property of the
-//! whole language and says what it needs; and `forward CASE OUT`, which runs a program at every switch
-//! of a network over captures.
+//! `main` calls it over the system's files and standard output: `run CASE OUT` links a property into a
+//! program and runs what is linked at every switch of a network, over captures; `wire PROPERTY FRAME OUT`
+//! does so with the built-in program, on three switches and for one raw frame; `forward CASE OUT` runs
+//! the program without a property; and `check PROPERTY` reads a property and says what it needs.
 //!
 //! Not promised: what the system's files and standard output hold.
 #![tactic(auto)]
@@ -16,11 +15,15 @@ ghost use Rattle.hydra_cli.specs.Answers.{Answers, IsComplete};
 
 mod check;
 mod command;
+#[cfg(test)]
+mod direct_tests;
 mod forward;
 #[cfg(test)]
 mod forward_tests;
 mod job;
-mod small;
+mod run;
+#[cfg(test)]
+mod run_tests;
 #[cfg(test)]
 mod tests;
 mod wire;

@@ -139,7 +139,11 @@ check p | tele bit<8> n {} => BadProperty hydra: property p Syntax 6/
 check p | {} {} {} /* => BadProperty hydra: property p Lex OpenComment 9/
 wire q f o | {} {} {} => ReadFault hydra: read q/
 wire p g o | {} {} {} => ReadFault hydra: read g/
-wire p g o | sensor bit<8> s; {} {} {} => BadProperty hydra: property p NotBuilt/
+wire p g o | tele bit<8> n; control bit<8> c; control bool d; {} {} {} => BadProperty hydra: property p NeedsControl c/
+wire p f o | tele bit<128>[8] a; {} {} {} => NotLinked hydra: link RoomShort 130 128/
+wire p f o | header bit<16> d = hdr.tcp.dport; {} {} {} => NotLinked hydra: link NoSuchField hdr.tcp.dport/
+wire p f o | tele bit<9>[2] l; {} {l.push((bit<9>) switch_id);} {report(length(l), 2 in l, 1 in l);} => Done 0 s3 0 2 0 1/packets 1/sent 1/dropped 0/rejected 0/lost 0/reports 1/
+wire p f o | sensor bit<8> s = 7; {} {s = s + 1;} {report(s); reject;} => Done 0 s3 0 8/packets 1/sent 0/dropped 0/rejected 1/lost 0/reports 1/
 wire p f o | tele bit<8> first_hop; {} {} {} => BadProperty hydra: property p Type 0 NameTwice/
 wire p f o | tele bit<8> in; {} {} {} => BadProperty hydra: property p Syntax 5/",
     )

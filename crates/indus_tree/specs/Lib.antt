@@ -15,5 +15,4 @@ pub mod Law
 pub mod Shapes
 pub mod Words
 pub mod Names
-pub mod Small
 pub mod Reports

@@ -41,7 +41,7 @@ pub(crate) struct Finished {
 impl Finished {
     /// What was run.
     pub(crate) fn parts(&self) -> RunParts<'_>
-        ensures view { parts_view result ≡ parts_in self.now }
+        ensures parts { parts_view result ≡ parts_in self.now }
         ensures programs { result.programs.now ≡ self.now.programs.items }
     {
         RunParts {

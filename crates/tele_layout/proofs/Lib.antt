@@ -5,4 +5,3 @@ pub mod SoundLemmas
 pub mod WholeLemmas
 pub mod PlacesLemmas
 pub mod StateLemmas
-pub mod SmallLemmas

@@ -2,15 +2,12 @@
 use Rattle.std.specs.Prelude.{◌≡◌, ℕ, List, length, Some}
 use Rattle.bit_values.specs.Bits.{Word}
 use Rattle.indus_tree.specs.Tree.{Decl, Property}
-use Rattle.indus_tree.specs.State.{Held, lookup}
+use Rattle.indus_tree.specs.State.{lookup}
 use Rattle.indus_tree.specs.Shapes.{IsHeld, IsTeleCount}
-use Rattle.indus_tree.specs.Small.{IsSmall}
 use Rattle.indus_tree.specs.declared.tree.DeclKind.TheVariants.{Tele}
 use Rattle.indus_rules.specs.Rules.{IsWellTyped}
 use Rattle.indus_values.specs.View.{seats, tele_of}
 use Rattle.indus_values.specs.declared.state.TeleState.{TeleState}
-use Rattle.small_monitor.specs.Telemetry as linked
-use Rattle.small_monitor.specs.Telemetry.{IsFitTele}
 use Rattle.tele_layout.specs.Telemetry.{tele_bytes}
 use Rattle.tele_layout.specs.Layouts.{layout_bytes, lists_of, FitSlots, IsLayout, IsLayoutOf}
 use Rattle.tele_layout.specs.declared.slots.Layout.{Layout}
@@ -45,9 +42,3 @@ pub record IsLaidOut (p : Property) (l : Layout) (t : TeleState) : Type 0 where
 
 abbrev pub LayoutsServeProperties : Type 0
 LayoutsServeProperties = (p : Property) (l : Layout) (t : TeleState) → IsWellTyped p → IsLayoutOf p l → KeepsDeclared p.decls t → IsLaidOut p l t
-
--- ---- small properties
-
--- the telemetry is that of the linked parts of small properties
-abbrev pub SmallTelemetryIsLinked : Type 0
-SmallTelemetryIsLinked = (p : Property) (t : Held) → IsSmall p → IsFitTele p.decls t → tele_bytes p t ≡ linked.tele_bytes p.decls t

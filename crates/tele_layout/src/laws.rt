@@ -1,7 +1,7 @@
 //! What holds of the definitions that the contracts of this crate cite. The functions do nothing:
 //! each is there for its clauses.
 
-ghost use Rattle.tele_layout.specs.Laws.{BytesFillLayouts, BytesTellStates, LayoutsArePlaced, LayoutsServeProperties, SmallTelemetryIsLinked};
+ghost use Rattle.tele_layout.specs.Laws.{BytesFillLayouts, BytesTellStates, LayoutsArePlaced, LayoutsServeProperties};
 
 /// A state has as many bytes as its layout says, and no other state has the same.
 pub fn bytes_tell_states()
@@ -14,9 +14,4 @@ pub fn bytes_tell_states()
 pub fn layouts_serve_properties()
     ensures placed { LayoutsArePlaced }
     ensures served { LayoutsServeProperties }
-{}
-
-/// The telemetry of a small property is that of its linked programs.
-pub fn small_telemetry_is_linked()
-    ensures { SmallTelemetryIsLinked }
 {}

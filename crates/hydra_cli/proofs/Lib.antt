@@ -1,3 +1,0 @@
-pub mod WireRun
-pub mod Checking
-pub mod SmallTests

@@ -1,2 +1,0 @@
--- What callers rest on: what a switch keeps.
-pub mod Machine

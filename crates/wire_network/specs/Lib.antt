@@ -1,3 +1,0 @@
--- What callers rest on.
-pub mod Travel
-pub mod Fates
