@@ -16,7 +16,6 @@ use Rattle.network_file.specs.Shape.{fault_of}
 use Rattle.network_file.specs.Named.{is_name, name_at, port_at, NamedLink, NamedFile, link_path, link_from, link_at, switch_path, switch_at, links_of, switches_of, file_of}
 use Rattle.network_file.specs.Network.{Network, Port, with_name, different, numbered, all_numbered, with_ports, free, low, in_range, sized, network_of}
 use Rattle.network_file.specs.Wiring.{wiring_of}
-use Rattle.network_file.specs.declared.fault.NetworkFault.{NetworkFault}
 use Rattle.wire_job.specs.Line.{wire_network, link_data, line_data}
 
 -- ---- in turn
@@ -138,10 +137,6 @@ network_is = rw (file_is, names_differ, links_numbered, ports_free, ports_low) r
 pub is_line : (d : Data) (n : Network) → d ≡ line_data → network_of d ≡ Ok n → n ≡ wire_network
 is_line d n same is =
     let both : Ok wire_network ≡ Ok n = sym network_is ∙ (ap network_of (sym same) ∙ is) in cc
-
-pub has_no_fault : (d : Data) (e : NetworkFault) → d ≡ line_data → network_of d ≡ Err e → ⊥
-has_no_fault d e same is =
-    let both : Ok wire_network ≡ Err e = sym network_is ∙ (ap network_of (sym same) ∙ is) in absurd cc
 
 -- ---- the network
 

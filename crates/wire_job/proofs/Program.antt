@@ -1,9 +1,14 @@
 -- The wire program breaks no rule, is spelled, leaves room for a monitor, and has no tables.
-use Rattle.std.proofs.Common.{◌≡◌, ℕ, ◌≤◌, codes, List, [], ◌∷◌, None, refl, inl, arith}
+use Rattle.std.proofs.Common.{◌≡◌, ℕ, ◌≤◌, codes, List, [], ◌∷◌, None, refl, inl, subst, arith}
+use Rattle.p4_tree.specs.Tree.{Program}
 use Rattle.p4_meaning.specs.Standard.{ingress_port, egress_spec}
 use Rattle.p4_scopes.specs.Scopes.{declare, core}
 use Rattle.p4_rules.specs.Limits.{header_bytes, most_of_program, cells}
 use Rattle.p4_rules.specs.ProgramRules.{program_scope, first_fault, IsWellTyped}
+use Rattle.p4_statement_rules.specs.declared.rule.ProgramRule.{ProgramRule}
+use Rattle.p4_types.specs.Faults.{HasCause}
+use Rattle.p4_types.specs.declared.fault.ProgramTypeFault.{ProgramTypeFault}
+use Rattle.p4_types.specs.declared.fault.ProgramTypeFault.TheVariants.{Type_}
 use Rattle.p4_types.proofs.Checked.{no_fault}
 use Rattle.p4_printer.specs.CanSpell.{CanSpell, EachCan, SomeCan, CanSpellParam, CanSpellState, CanSpellStmts, CanSpellPath}
 use Rattle.p4_tables.specs.Programs.{state_before}
@@ -18,6 +23,11 @@ no_rule_is_broken = refl
 
 pub is_well_typed : IsWellTyped wire_program
 is_well_typed = no_fault wire_program no_rule_is_broken
+
+pub is_not_refused : (p : Program) (f : ProgramTypeFault) (at : ℕ) (r : ProgramRule) → p ≡ wire_program → f ≡ Type_ at r → HasCause p f → ⊥
+is_not_refused p f at r same is cause =
+    let refused : HasCause wire_program (Type_ at r) = subst (λ x. HasCause wire_program x) is (subst (λ x. HasCause x f) same cause) in
+    is_well_typed r at refused.broken
 
 -- ---- room
 
@@ -49,25 +59,25 @@ no_tables = refl
 -- ---- spelling
 
 two_can : SomeCan CanSpellParam two_params
-two_can = (((refl, refl), (refl, refl)), ((refl, refl), (refl, refl)), tt)
+two_can = (((refl, refl), (refl, refl)), (((refl, refl), (refl, refl)), tt))
 
 three_can : SomeCan CanSpellParam three_params
-three_can = (((refl, refl), (refl, refl)), ((refl, refl), (refl, refl)), ((refl, refl), (refl, refl)), tt)
+three_can = (((refl, refl), (refl, refl)), (((refl, refl), (refl, refl)), (((refl, refl), (refl, refl)), tt)))
 
 parser_can : SomeCan CanSpellParam parser_params
-parser_can = (((refl, refl), (refl, refl)), ((refl, refl), (refl, refl)), ((refl, refl), (refl, refl)), ((refl, refl), (refl, refl)), tt)
+parser_can = (((refl, refl), (refl, refl)), (((refl, refl), (refl, refl)), (((refl, refl), (refl, refl)), (((refl, refl), (refl, refl)), tt))))
 
 deparser_can : SomeCan CanSpellParam deparser_params
-deparser_can = (((refl, refl), (refl, refl)), ((refl, refl), (refl, refl)), tt)
+deparser_can = (((refl, refl), (refl, refl)), (((refl, refl), (refl, refl)), tt))
 
 state_can : CanSpellState (passing_state (codes "start") (codes "accept"))
 state_can = ((refl, refl), tt, (refl, refl))
 
 port_can : CanSpellPath ingress_port
-port_can = ((refl, refl), (refl, refl), tt)
+port_can = ((refl, refl), ((refl, refl), tt))
 
 spec_can : CanSpellPath egress_spec
-spec_can = ((refl, refl), (refl, refl), tt)
+spec_can = ((refl, refl), ((refl, refl), tt))
 
 send_can : (n : ℕ) → n ≤ 2 → CanSpellStmts (send_by n)
 send_can n low = (inl (spec_can, (omega arith, omega (arith, low))), tt)

@@ -6,7 +6,7 @@ ghost use Rattle.p4_tree.specs.View.{program_of};
 ghost use Rattle.wire_program.specs.WireProgram as wire;
 ghost use Rattle.wire_job.specs.Line as line;
 
-use network_file::{Network, NetworkFault, read_network};
+use network_file::{Network, read_network};
 use p4_types::{ProgramTypeFault, TypedProgram, check_program};
 use serde_json::{Value, json};
 use std::alloc::{AllocError, Global};
@@ -34,21 +34,13 @@ fn line_value(alloc: Global) -> Result<Value, AllocError>
     })
 }
 
-/// The network, whose file has no fault.
+/// The network, whose file has no fault, so that an error is want of memory.
 pub(crate) fn line_network(alloc: Global) -> Result<Network, AllocError>
     ensures { IfOk result (λ n. n ≡ line.wire_network) }
 {
     let value = line_value(alloc)?;
     match read_network(alloc, &value) {
         Ok(network) => Ok(network),
-        Err(NetworkFault::NoMemory) => Err(AllocError),
-        Err(
-            NetworkFault::Shape { .. }
-            | NetworkFault::NameTwice { .. }
-            | NetworkFault::NoSuchSwitch { .. }
-            | NetworkFault::PortTwice { .. }
-            | NetworkFault::BadPort { .. }
-            | NetworkFault::Limit,
-        ) => unreachable!(),
+        Err(_starved) => Err(AllocError),
     }
 }

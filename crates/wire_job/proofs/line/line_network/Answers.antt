@@ -1,4 +1,4 @@
-use Rattle.wire_job.proofs.Network.{is_line, has_no_fault}
+use Rattle.wire_job.proofs.Network.{is_line}
 use Rattle.wire_job.proofs.line.line_network.Goals as goal
 
 pub returns-in-Ok : goal.returns-in-Ok

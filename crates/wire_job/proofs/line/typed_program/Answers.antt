@@ -1,5 +1,5 @@
-use Rattle.wire_job.proofs.Program.{is_well_typed}
+use Rattle.wire_job.proofs.Program.{is_not_refused}
 use Rattle.wire_job.proofs.line.typed_program.Goals as goal
 
 pub unreachable-requires : goal.unreachable-requires
-unreachable-requires c = is_well_typed c.in-Err-Type_.field-0-1 c.in-Err-Type_.field-0-0 (rw (c.in-Err-Type_.field-0-is, c.in_ok-program.ensures) at c.in-Err-Type_.ensures.cause).broken
+unreachable-requires c = is_not_refused _ _ _ _ c.in_ok-program.ensures c.in-Err-Type_.field-0-is c.in-Err-Type_.ensures.cause
