@@ -7,39 +7,40 @@ use Rattle.indus_tree.specs.View.{decl_of}
 use Rattle.indus_tree.specs.State.{Contents}
 use Rattle.indus_tree.specs.Hops.{same_kind}
 use Rattle.indus_tree.specs.declared.tree.Decl.{Decl}
-use Rattle.indus_tree.specs.declared.tree.DeclKind.{DeclKind}
-use Rattle.indus_tree.specs.declared.tree.DeclKind.TheVariants.{Tele, Sensor, Header, Control}
+use Rattle.indus_tree.specs.declared.tree.DeclKind.TheVariants.{Control}
 use Rattle.network_run.specs.Events.{Event}
 use Rattle.table_items.specs.Items.{items_from, reads_of, greatest_items, within_limits, all_items, too_many_of}
-use Rattle.wire_job.specs.Course.{first_control}
+use Rattle.job_course.specs.declared.status.Status.TheVariants.{BadProperty}
+use Rattle.job_course.specs.Steps.{Rejects}
+use Rattle.wire_job.specs.Lines.{control_line}
+use Rattle.wire_job.specs.Course.{first_control, IsUncontrolled, NeedsControl}
 
 -- ---- the first
-
-is_control : (k : DeclKind) → k ≡ Control → same_kind Control k ≡ true
-is_control Tele e = absurd cc
-is_control Sensor e = absurd cc
-is_control Header e = absurd cc
-is_control Control e = refl
-
-is_none : (k : DeclKind) → (k ≡ Control → ⊥) → same_kind Control k ≡ false
-is_none Tele h = refl
-is_none Sensor h = refl
-is_none Header h = refl
-is_none Control h = absurd (h refl)
 
 module _ (ds : List Decl) (i : ℕ) (d : Decl) (within : i < length ds) (is : d ≡ get_or ds i d) where
   left : map decl_of (drop i ds) ≡ decl_of d ∷ map decl_of (drop (i + 1) ds)
   left = ap (map decl_of) (drop_more ds i d within) ∙ ap (λ x. decl_of x ∷ map decl_of (drop (i + 1) ds)) (sym is)
 
-  pub found_here : d.kind ≡ Control → first_control (map decl_of (drop i ds)) ≡ Some d.name
-  found_here kind =
-      ap first_control left
-      ∙ ap (λ (b : Bool). cond b (Some d.name) (first_control (map decl_of (drop (i + 1) ds)))) (is_control d.kind kind)
+  choice : (b : Bool) → same_kind Control d.kind ≡ b → first_control (map decl_of (drop i ds)) ≡ cond b (Some d.name) (first_control (map decl_of (drop (i + 1) ds)))
+  choice b kind = ap first_control left ∙ ap (λ (b : Bool). cond b (Some d.name) (first_control (map decl_of (drop (i + 1) ds)))) kind
 
-  pub found_behind : (d.kind ≡ Control → ⊥) → first_control (map decl_of (drop i ds)) ≡ first_control (map decl_of (drop (i + 1) ds))
-  found_behind kind =
-      ap first_control left
-      ∙ ap (λ (b : Bool). cond b (Some d.name) (first_control (map decl_of (drop (i + 1) ds)))) (is_none d.kind kind)
+  pub found_here : same_kind Control d.kind ≡ true → first_control (map decl_of (drop i ds)) ≡ Some d.name
+  found_here kind = choice true kind
+
+  pub found_behind : same_kind Control d.kind ≡ false → first_control (map decl_of (drop i ds)) ≡ first_control (map decl_of (drop (i + 1) ds))
+  found_behind kind = choice false kind
+
+-- it is a reason to refuse the property
+pub rejects :
+    (name : List ℕ) (p : Property) (x line : List ℕ) → first_control p.decls ≡ Some x → line ≡ control_line name x →
+    Rejects (IsUncontrolled p) (NeedsControl name p) BadProperty line
+rejects name p x line found is =
+    record {
+      kind = tt;
+      admitted = (refl, (x, found, is));
+      given = λ free none. (let both : Some x ≡ None = sym found ∙ none in absurd cc);
+      other = λ s l h. h.0;
+    }
 
 -- ---- none
 

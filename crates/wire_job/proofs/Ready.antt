@@ -1,5 +1,5 @@
 -- The job of a property without control variables and a frame is ready to be run.
-use Rattle.std.proofs.Common.{◌≡◌, ℕ, ◌≤◌, List, [], ◌∷◌, length, map, None, Ok, refl, sym, ap, ◌∙◌, subst, arith}
+use Rattle.std.proofs.Common.{◌≡◌, ℕ, ◌≤◌, List, [], ◌∷◌, length, map, None, Ok, refl, sym, ap, ap₂, ◌∙◌, subst, arith}
 use Rattle.std.specs.Prelude.{Result}
 use Rattle.std.specs.List.{All}
 use Rattle.std.proofs.lemmas.List.Elements.{All-nil, All-cons}
@@ -29,10 +29,11 @@ use Rattle.program_linker.specs.declared.linking.Linked as code
 use Rattle.link_course.specs.Links.{LinksTo, IsNotLinked, link_course}
 use Rattle.link_course.specs.Views.{linked_of}
 use Rattle.linked_jobs.specs.Job.{Job, IsReady}
+use Rattle.run_captures.specs.Captures.{Time}
 use Rattle.run_job.proofs.Given.{IsFitProperty}
 use Rattle.wire_program.specs.WireProgram.{wire_program}
 use Rattle.wire_job.specs.Line.{wire_network}
-use Rattle.wire_job.specs.Course.{first_control, arrival, wire_job}
+use Rattle.wire_job.specs.Course.{first_control, arrival, start, wire_job}
 use Rattle.wire_job.proofs.Program.{is_well_typed, is_spelled, leaves_room, no_tables}
 use Rattle.wire_job.proofs.Network.{is_wiring}
 use Rattle.wire_job.proofs.Control.{few_items}
@@ -49,6 +50,16 @@ links_follow f g same p m n line room s r judged =
     (judged_follows (LinksTo f p m room) (IsNotLinked f p room) linked_of s r judged))
 
 -- ---- the job
+
+-- what the program makes is the job
+pub job_is :
+    (p : Property) (bytes : List ℕ) (f : Program) (n : Network) (ts : List (List Held)) (css : List (List Contents)) (arrivals : List Arrival) (times : List Time)
+    → f ≡ wire_program → n ≡ wire_network → ts ≡ states_before f n.names → css ≡ map (λ name. all_unset p.decls) n.names → arrivals ≡ arrival bytes ∷ [] → times ≡ start ∷ []
+    → record { property = p; program = f; network = n; hops = 64; room = 128; tables = ts; contents = css; packets = arrivals; times = times; events = [] } ≡ wire_job p bytes
+job_is p bytes f n ts css arrivals times program network held contents packets time =
+    let tables = held ∙ ap₂ states_before program (ap (λ (x : Network). x.names) network) in
+    let all_contents = contents ∙ ap (λ (x : Network). map (λ name. all_unset p.decls) x.names) network in
+    λ i. record { property = p; program = program i; network = network i; hops = 64; room = 128; tables = tables i; contents = all_contents i; packets = packets i; times = time i; events = [] }
 
 -- the tables of all switches, where those of one are these
 module _ (st : List Held) (is : st ≡ []) where

@@ -3,6 +3,8 @@
 ghost use Rattle.std.specs.Prelude.{◌≡◌, ◌≤◌, ◌∷◌, [], length, map, IfOk, None, option_map, string_bytes};
 ghost use Rattle.outside.specs.State.{StoreState};
 ghost use Rattle.indus_tree.specs.View.{decl_of, property_of};
+ghost use Rattle.indus_tree.specs.Hops.{same_kind};
+ghost use Rattle.indus_tree.specs.declared.tree.DeclKind.TheVariants.{Control};
 ghost use Rattle.indus_rules.specs.Rules.{IsWellTyped};
 ghost use Rattle.property_course.specs.Files.{IsOfText};
 ghost use Rattle.job_course.specs.Steps.{Follows, Judged};
@@ -41,12 +43,22 @@ const ROOM: u16 = 128;
 
 // ---- the property
 
+/// Whether variables of a kind are control variables.
+fn is_control(kind: DeclKind) -> bool
+    ensures { result ≡ same_kind Control kind }
+{
+    match kind {
+        DeclKind::Control => true,
+        DeclKind::Tele | DeclKind::Sensor | DeclKind::Header => false,
+    }
+}
+
 /// The name of the first control variable.
 fn first_control(decls: &[Decl]) -> Option<&str>
     ensures { option_map (λ s. s.now) result ≡ course.first_control (map decl_of decls.now) }
 {
     for decl in decls {
-        if decl.kind == DeclKind::Control {
+        if is_control(decl.kind) {
             return Some(decl.name.as_str());
         }
     }
