@@ -1,5 +1,5 @@
 -- The wire program breaks no rule, is spelled, leaves room for a monitor, and has no tables.
-use Rattle.std.proofs.Common.{◌≡◌, ℕ, ◌≤◌, codes, List, [], ◌∷◌, None, refl, inl, subst, arith}
+use Rattle.std.proofs.Common.{◌≡◌, ℕ, ◌≤◌, codes, List, [], ◌∷◌, None, refl, sym, inl, subst, arith}
 use Rattle.p4_tree.specs.Tree.{Program}
 use Rattle.p4_meaning.specs.Standard.{ingress_port, egress_spec}
 use Rattle.p4_scopes.specs.Scopes.{declare, core}
@@ -13,7 +13,8 @@ use Rattle.p4_types.proofs.Checked.{no_fault}
 use Rattle.p4_printer.specs.CanSpell.{CanSpell, EachCan, SomeCan, CanSpellParam, CanSpellState, CanSpellStmts, CanSpellPath}
 use Rattle.p4_tables.specs.Programs.{state_before}
 use Rattle.faultless_programs.specs.Within.{LeavesRoom}
-use Rattle.wire_program.specs.WireProgram.{wire_program, two_params, three_params, parser_params, deparser_params, passing_state, send_by, wire_ingress, main_names}
+use Rattle.wire_program.specs.WireProgram.{wire_program, two_params, three_params, parser_params, deparser_params, passing_state, send_by, wire_ingress}
+use Rattle.wire_job.specs.Known.{IsWireProgram}
 
 -- ---- rules
 
@@ -21,7 +22,7 @@ no_rule_is_broken : first_fault wire_program ≡ None
 unfolding declare core
 no_rule_is_broken = refl
 
-pub is_well_typed : IsWellTyped wire_program
+is_well_typed : IsWellTyped wire_program
 is_well_typed = no_fault wire_program no_rule_is_broken
 
 pub is_not_refused : (p : Program) (f : ProgramTypeFault) (at : ℕ) (r : ProgramRule) → p ≡ wire_program → f ≡ Type_ at r → HasCause p f → ⊥
@@ -42,7 +43,7 @@ no_digests = refl
 no_cells : cells wire_program ≡ 0
 no_cells = refl
 
-pub leaves_room : LeavesRoom wire_program
+leaves_room : LeavesRoom wire_program
 leaves_room =
     record {
       bytes = (let none = no_headers in omega (arith, none));
@@ -52,7 +53,7 @@ leaves_room =
 
 -- ---- tables
 
-pub no_tables : state_before wire_program ≡ []
+no_tables : state_before wire_program ≡ []
 unfolding state_before
 no_tables = refl
 
@@ -85,7 +86,7 @@ send_can n low = (inl (spec_can, (omega arith, omega (arith, low))), tt)
 ingress_can : CanSpellStmts wire_ingress
 ingress_can = (inl ((port_can, (omega arith, omega arith)), send_can 2 (omega arith), send_can 1 (omega arith)), tt)
 
-pub is_spelled : CanSpell wire_program
+is_spelled : CanSpell wire_program
 is_spelled =
     record {
       tops =
@@ -99,3 +100,8 @@ is_spelled =
           (((refl, refl), deparser_can, tt, tt), tt))))))));
       main = ((refl, refl), ((refl, refl), ((refl, refl), ((refl, refl), ((refl, refl), ((refl, refl), tt))))));
     }
+
+-- ---- all of these
+
+pub is_wire : (p : Program) → p ≡ wire_program → IsWireProgram p
+is_wire p same = subst IsWireProgram (sym same) (record { same = refl; typed = is_well_typed; spelled = is_spelled; leaves = leaves_room; tables = no_tables })

@@ -3,8 +3,8 @@
 ghost use Rattle.std.specs.Prelude.{◌≡◌, IfOk};
 ghost use Rattle.serde_json.specs.View.{view};
 ghost use Rattle.p4_tree.specs.View.{program_of};
-ghost use Rattle.wire_program.specs.WireProgram as wire;
 ghost use Rattle.wire_job.specs.Line as line;
+ghost use Rattle.wire_job.specs.Known.{IsWireProgram};
 
 use network_file::{Network, read_network};
 use p4_types::{ProgramTypeFault, TypedProgram, check_program};
@@ -14,7 +14,7 @@ use wire_program::wire_program;
 
 /// The wire program, which breaks no rule.
 pub(crate) fn typed_program(alloc: Global) -> Result<TypedProgram, AllocError>
-    ensures { IfOk result (λ t. program_of t ≡ wire.wire_program) }
+    ensures { IfOk result (λ t. IsWireProgram (program_of t)) }
 {
     let program = wire_program(alloc)?;
     match check_program(alloc, program) {
