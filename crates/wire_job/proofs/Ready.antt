@@ -35,7 +35,7 @@ use Rattle.run_job.proofs.Given.{IsFitProperty}
 use Rattle.wire_program.specs.WireProgram.{wire_program}
 use Rattle.wire_job.specs.Line.{wire_network}
 use Rattle.wire_job.specs.Known.{IsWireProgram}
-use Rattle.wire_job.specs.Course.{first_control, arrival, start, wire_job}
+use Rattle.wire_job.specs.Course.{first_control, arrival, beginning, wire_job}
 use Rattle.wire_job.proofs.Network.{is_wiring}
 use Rattle.wire_job.proofs.Control.{few_items}
 
@@ -55,7 +55,7 @@ links_follow f g same p m n line room s r judged =
 -- what the program makes is the job, but for its program
 pub job_is :
     (p : Property) (bytes : List ℕ) (f : Program) (n : Network) (ts : List (List Held)) (css : List (List Contents)) (arrivals : List Arrival) (times : List Time)
-    → n ≡ wire_network → ts ≡ states_before f n.names → css ≡ map (λ name. all_unset p.decls) n.names → arrivals ≡ arrival bytes ∷ [] → times ≡ start ∷ []
+    → n ≡ wire_network → ts ≡ states_before f n.names → css ≡ map (λ name. all_unset p.decls) n.names → arrivals ≡ arrival bytes ∷ [] → times ≡ beginning ∷ []
     → record { property = p; program = f; network = n; hops = 64; room = 128; tables = ts; contents = css; packets = arrivals; times = times; events = [] }
     ≡ record (wire_job p bytes) { program = f; tables = states_before f wire_network.names }
 job_is p bytes f n ts css arrivals times network held contents packets time =
