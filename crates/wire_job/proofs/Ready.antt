@@ -54,14 +54,14 @@ links_follow f g same p m n line room s r judged =
 
 -- what the program makes is the job, but for its program
 pub job_is :
-    (p : Property) (bytes : List ℕ) (f : Program) (n : Network) (ts : List (List Held)) (css : List (List Contents)) (arrivals : List Arrival) (times : List Time)
-    → n ≡ wire_network → ts ≡ states_before f n.names → css ≡ map (λ name. all_unset p.decls) n.names → arrivals ≡ arrival bytes ∷ [] → times ≡ beginning ∷ []
-    → record { property = p; program = f; network = n; hops = 64; room = 128; tables = ts; contents = css; packets = arrivals; times = times; events = [] }
+    (p : Property) (bytes : List ℕ) (f : Program) (n : Network) (ts : List (List Held)) (css : List (List Contents)) (arrivals : List Arrival) (times : List Time) (events : List (Event Contents))
+    → n ≡ wire_network → ts ≡ states_before f n.names → css ≡ map (λ name. all_unset p.decls) n.names → arrivals ≡ arrival bytes ∷ [] → times ≡ beginning ∷ [] → events ≡ []
+    → record { property = p; program = f; network = n; hops = 64; room = 128; tables = ts; contents = css; packets = arrivals; times = times; events = events }
     ≡ record (wire_job p bytes) { program = f; tables = states_before f wire_network.names }
-job_is p bytes f n ts css arrivals times network held contents packets time =
+job_is p bytes f n ts css arrivals times events network held contents packets time none =
     let tables = held ∙ ap (λ (x : Network). states_before f x.names) network in
     let all_contents = contents ∙ ap (λ (x : Network). map (λ name. all_unset p.decls) x.names) network in
-    λ i. record { property = p; program = f; network = network i; hops = 64; room = 128; tables = tables i; contents = all_contents i; packets = packets i; times = time i; events = [] }
+    λ i. record { property = p; program = f; network = network i; hops = 64; room = 128; tables = tables i; contents = all_contents i; packets = packets i; times = time i; events = none i }
 
 -- and with it, where that is the wire program
 pub job_whole : (p : Property) (bytes : List ℕ) (f : Program) → f ≡ wire_program → record (wire_job p bytes) { program = f; tables = states_before f wire_network.names } ≡ wire_job p bytes

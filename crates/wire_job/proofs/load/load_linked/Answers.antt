@@ -1,5 +1,6 @@
-use Rattle.std.proofs.Common.{◌∙◌, ap}
+use Rattle.std.proofs.Common.{map, ap, ◌∙◌}
 use Rattle.indus_tree.specs.View.{property_of}
+use Rattle.network_file.specs.Events.{event_of}
 use Rattle.job_course.proofs.Courses.{reads_none, follows_then, follows_first, follows_exit, follows_give}
 use Rattle.link_course.specs.Views.{linked_of}
 use Rattle.linked_jobs.specs.Job.{Job}
@@ -38,7 +39,7 @@ unfolding linked_course
 returns-clause-follows c = λ s.
     let p = property_of c.args.property in
     let bytes = c.args.frame.items in
-    let job = job_is p bytes _ _ _ _ _ _ c.in_ok-line.ensures.network c.in_ok-line.ensures.tables c.in_ok-start.ensures.contents c.in_ok-start.ensures.packets c.in_ok-start.ensures.times ∙ job_whole p bytes _ c.in_ok-line.ensures.program.same in
+    let job = job_is p bytes _ _ _ _ _ _ _ c.in_ok-line.ensures.network c.in_ok-line.ensures.tables c.in_ok-start.ensures.contents c.in_ok-start.ensures.packets c.in_ok-start.ensures.times (ap (map event_of) c.new.ensures.items) ∙ job_whole p bytes _ c.in_ok-line.ensures.program.same in
     follows_then _ {first = linked_of} {q = c.in_ok-linked.linked} (links_follow _ wire_program c.in_ok-line.ensures.program.same _ _ wire_network c.in_ok-line.ensures.network 128 s _ c.in_ok-linked.ensures.judged)
     (follows_give _ (ap (λ (j : Job). record { job = j; linked = linked_of c.in_ok-linked.linked }) job))
 
@@ -48,7 +49,7 @@ returns-clause-read c =
     let bytes = c.args.frame.items in
     let fit = text_is_fit c.texts_are_plain.ensures c.texts_declare_words.ensures p c.requires.typed c.requires.read in
     let links = c.in_ok-linked.ensures.judged.given in
-    let job = job_is p bytes _ _ _ _ _ _ c.in_ok-line.ensures.network c.in_ok-line.ensures.tables c.in_ok-start.ensures.contents c.in_ok-start.ensures.packets c.in_ok-start.ensures.times in
+    let job = job_is p bytes _ _ _ _ _ _ _ c.in_ok-line.ensures.network c.in_ok-line.ensures.tables c.in_ok-start.ensures.contents c.in_ok-start.ensures.packets c.in_ok-start.ensures.times (ap (map event_of) c.new.ensures.items) in
     record {
       ready = wire_is_ready _ c.in_ok-line.ensures.program p bytes fit c.requires.free c.requires.short c.files_fit.ensures _ job c.in_ok-line.ensures.kept links.faultless;
       linked = links.linked;
