@@ -1,4 +1,4 @@
-use Rattle.std.proofs.Common.{◌≡◌, ◌++◌, List, map, sym, ap, ◌∙◌, subst, arith}
+use Rattle.std.proofs.Common.{ℕ, List, [], ◌∷◌, ◌++◌, codes, map, ap, ◌∙◌, arith}
 use Rattle.std.proofs.lemmas.List.{take_all}
 use Rattle.job_course.specs.Output.{files_of}
 use Rattle.path_runner.specs.Packets.{sent_of}
@@ -8,7 +8,9 @@ use Rattle.run_output.proofs.Written.{frames_more}
 use Rattle.run_output.proofs.wire.put_frames.Goals as goal
 
 pub loop-sent-preserved : goal.loop-sent-preserved
-loop-sent-preserved c = frames_more c.args.out.now c.args.frames.now c.loop-sent.sent-index c.sent-item.result _ _ _ (omega arith) c.sent-item.is c.loop-sent.invariant c.in_ok-put_frame.ensures
+loop-sent-preserved c =
+    let more = c.in_ok-put_frame.ensures ∙ ap (λ (b : List ℕ). files_of c.loop-sent.files.items ++ (c.args.out.now ++ codes ".frame", b) ∷ []) c.deref.ensures.value in
+    frames_more c.args.out.now c.args.frames.now c.loop-sent.sent-index c.sent-item.result _ _ _ (omega arith) c.sent-item.is c.loop-sent.invariant more
 
 pub returns : goal.returns
 returns c =
