@@ -35,7 +35,7 @@ pub record IsFitProperty (p : Property) : Type 0 where
   pub names : AreTextNames p.decls
 
 module _ (plain : TextsArePlain) (words : TextsDeclareWords) (p : Property) where
-  text_is_fit : indus.IsWellTyped p → IsOfText p → IsFitProperty p
+  pub text_is_fit : indus.IsWellTyped p → IsOfText p → IsFitProperty p
   text_is_fit typed t =
       let wide : length t.text ≤ 4294967296 = omega (arith, t.short) in
       record {

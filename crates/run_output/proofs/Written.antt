@@ -1,18 +1,21 @@
 -- The files that are written, and the summary.
-use Rattle.std.proofs.Common.{◌≡◌, ℕ, ◌-◌, ◌≤◌, List, [], ◌∷◌, ◌++◌, length, map, All, refl, ap, sym, ◌∙◌, subst, arith, append_assoc}
+use Rattle.std.proofs.Common.{◌≡◌, ℕ, ◌+◌, ◌-◌, ◌<◌, ◌≤◌, List, [], ◌∷◌, ◌++◌, length, map, take, get_or, codes, All, refl, ap, sym, ◌∙◌, subst, arith, append_assoc}
 use Rattle.std.proofs.Math.ListN.{get_or-map}
-use Rattle.std.proofs.lemmas.List.{length-map}
+use Rattle.std.proofs.lemmas.List.{length-map, map-append, map_more}
 use Rattle.bit_values.specs.Bits.{cast}
 use Rattle.p4_tree.specs.Tree.{Program}
 use Rattle.network_run.specs.Network.{Sent}
 use Rattle.report_writer.specs.Texts.{summary_of}
 use Rattle.path_runner.specs.Nets.{State, Traffic, Shows}
+use Rattle.path_runner.specs.Packets.{sent_of}
+use Rattle.path_runner.specs.declared.packet.Sent as code
 use Rattle.switch_machines.specs.Programs.{Programs}
 use Rattle.run_texts.specs.Told.{reports_in}
 use Rattle.run_texts.specs.Registers.{rejected_from}
 use Rattle.run_texts.specs.Files.{Run, summary_text_of}
 use Rattle.run_output.specs.Counted.{counts_in}
 use Rattle.run_output.specs.Ends.{IsShort}
+use Rattle.run_output.specs.Wire.{frame_files}
 
 abbrev pub Files : Type 0
 Files = List (List ℕ × List ℕ)
@@ -45,3 +48,16 @@ summary_is n sent dropped rejected lost reports r t a b c d e =
 -- what a state counts is what each network counts for which it stands
 pub ended : (ps : List Program) (n : ℕ) (p : Programs) (w : Run) (s : State) → Shows p s w → summary_of (counts_in n (cast 32 (rejected_from ps w.switches 0)) s.traffic) ≡ summary_text_of ps n w
 ended ps n p w s shows = rw (sym shows.edges, sym shows.told, sym shows.dropped, sym shows.lost) refl
+
+-- the file of one frame more
+pub frames_more :
+    (o : List ℕ) (xs : List code.Sent) (i : ℕ) (x : code.Sent) (first before now : Files) → i < length xs → x ≡ get_or xs i x →
+    before ≡ first ++ frame_files o (map sent_of (take i xs)) → now ≡ before ++ (o ++ codes ".frame", x.frame.items) ∷ [] → now ≡ first ++ frame_files o (map sent_of (take (i + 1) xs))
+frames_more o xs i x first before now lt at so_far is =
+    let file : Sent → List ℕ × List ℕ = λ y. (o ++ codes ".frame", y.frame) in
+    let sent = map sent_of (take i xs) in
+    is
+    ∙ ap (λ (fs : Files). fs ++ file (sent_of x) ∷ []) so_far
+    ∙ append_assoc first (map file sent) (file (sent_of x) ∷ [])
+    ∙ ap (λ (fs : Files). first ++ fs)
+    (sym (map-append file sent (sent_of x ∷ [])) ∙ ap (λ (ys : List Sent). map file ys) (ap (λ (y : code.Sent). sent ++ sent_of y ∷ []) at ∙ sym (map_more sent_of xs i x lt)))

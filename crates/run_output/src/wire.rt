@@ -62,12 +62,12 @@ fn put_frame(
     alloc: Global,
     files: &mut Vec<(String, Vec<u8>)>,
     out: &str,
-    frame: &Vec<u8>,
+    frame: &[u8],
 ) -> Result<(), AllocError>
-    ensures { OnOk result (files_of files.new.items ≡ files_of files.old.items ++ (out.now ++ codes ".frame", frame.now.items) ∷ []) }
+    ensures { OnOk result (files_of files.new.items ≡ files_of files.old.items ++ (out.now ++ codes ".frame", frame.now) ∷ []) }
 {
     let name = format!(in alloc; "{out}.frame")?;
-    let bytes = frame.clone()?;
+    let bytes = frame.to_vec(alloc)?;
     files.push((name, bytes))?;
     Ok(())
 }

@@ -51,8 +51,8 @@ abbrev pub arrival : (bytes : List ℕ) → Arrival
 arrival bytes = record { switch = 0; port = 1; frame = bytes }
 
 -- its time, which nothing that is written tells
-abbrev pub start : Time
-start = record { seconds = 0; micros = 0 }
+abbrev pub beginning : Time
+beginning = record { seconds = 0; micros = 0 }
 
 -- the wire program at three switches in a line, where nothing is put into tables and no variable is set, and one packet
 abbrev pub wire_job : Property → (bytes : List ℕ) → Job
@@ -66,7 +66,7 @@ wire_job p bytes =
       tables = states_before wire_program wire_network.names;
       contents = map (λ name. all_unset p.decls) wire_network.names;
       packets = arrival bytes ∷ [];
-      times = start ∷ [];
+      times = beginning ∷ [];
       events = [];
     }
 

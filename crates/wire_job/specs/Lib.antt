@@ -2,3 +2,5 @@
 pub mod Line
 pub mod Lines
 pub mod Course
+-- What serves the proofs.
+pub mod Known

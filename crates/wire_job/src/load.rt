@@ -2,25 +2,31 @@
 
 ghost use Rattle.std.specs.Prelude.{◌≡◌, ◌≤◌, ◌∷◌, [], length, map, IfOk, None, option_map, string_bytes};
 ghost use Rattle.outside.specs.State.{StoreState};
-ghost use Rattle.indus_tree.specs.View.{property_of};
+ghost use Rattle.indus_tree.specs.View.{decl_of, property_of};
+ghost use Rattle.indus_tree.specs.Hops.{same_kind};
+ghost use Rattle.indus_tree.specs.declared.tree.DeclKind.TheVariants.{Control};
 ghost use Rattle.indus_rules.specs.Rules.{IsWellTyped};
 ghost use Rattle.property_course.specs.Files.{IsOfText};
 ghost use Rattle.job_course.specs.Steps.{Follows, Judged};
+ghost use Rattle.control_file.specs.Control.{all_unset};
+ghost use Rattle.control_file.specs.Views.{decls_of, switches_view};
 ghost use Rattle.path_runner.specs.Packets.{arrival_of};
 ghost use Rattle.run_captures.specs.Views.{time_view};
 ghost use Rattle.linked_jobs.specs.Views.{IsLinkedJob};
 ghost use Rattle.run_job.specs.Views.{task_of};
 ghost use Rattle.wire_job.specs.Course as course;
-ghost use Rattle.wire_job.specs.Course.{IsUncontrolled, NeedsControl, arrival, linked_course, start, wire_course};
+ghost use Rattle.wire_job.specs.Course.{IsUncontrolled, NeedsControl, arrival, beginning, linked_course, wire_course};
 ghost use Rattle.wire_job.specs.Lines.{control_line};
 
-use crate::line::{line_network, typed_program};
+use crate::line::wire_line;
 use control_file::contents_before;
-use indus_tree::DeclKind;
+use indus_tree::{Decl, DeclKind};
 use indus_types::TypedProperty;
+use indus_values::ControlValue;
 use job_course::{Area, Refusal, Status, Stop, read_file};
 use link_course::load_link;
 use linked_jobs::LinkedJob;
+use network_file::Network;
 use outside::Store;
 use path_runner::Packet;
 use plain_texts::laws::{texts_are_plain, texts_declare_words};
@@ -28,7 +34,6 @@ use property_course::load_property;
 use read_contents::files_fit;
 use run_captures::Time;
 use std::alloc::{AllocError, Global};
-use table_file::states_before;
 
 /// The greatest length of a frame, in bytes.
 const FRAME_LIMIT: u64 = 65_535;
@@ -41,12 +46,22 @@ const ROOM: u16 = 128;
 
 // ---- the property
 
-/// The name of the first control variable.
-fn first_control(property: &TypedProperty) -> Option<&str>
-    ensures { option_map (λ s. s.now) result ≡ course.first_control (property_of property.now).decls }
+/// Whether variables of a kind are control variables.
+fn is_control(kind: DeclKind) -> bool
+    ensures { result ≡ same_kind Control kind }
 {
-    for decl in &property.property().decls {
-        if let DeclKind::Control = decl.kind {
+    match kind {
+        DeclKind::Control => true,
+        DeclKind::Tele | DeclKind::Sensor | DeclKind::Header => false,
+    }
+}
+
+/// The name of the first control variable.
+fn first_control(decls: &[Decl]) -> Option<&str>
+    ensures { option_map (λ s. s.now) result ≡ course.first_control (map decl_of decls.now) }
+{
+    for decl in decls {
+        if is_control(decl.kind) {
             return Some(decl.name.as_str());
         }
     }
@@ -64,7 +79,7 @@ fn control_text(alloc: Global, name: &str, variable: &str) -> Result<String, All
 fn uncontrolled(alloc: Global, name: &str, property: &TypedProperty) -> Result<(), Stop>
     ensures judged { Judged (IsUncontrolled (property_of property.now)) (NeedsControl name.now (property_of property.now)) (λ x. x) result }
 {
-    match first_control(property) {
+    match first_control(&property.property().decls) {
         None => Ok(()),
         Some(variable) => Err(Stop::Refused(Refusal {
             status: Status::BadProperty,
@@ -75,7 +90,35 @@ fn uncontrolled(alloc: Global, name: &str, property: &TypedProperty) -> Result<(
 
 // ---- the job
 
-/// The one packet, which comes to port 1 of the first switch.
+/// What the control variables of each switch hold, and the one packet with its time.
+#[derive(Drop)]
+struct Start {
+    contents: Vec<Vec<ControlValue>>,
+    packets: Vec<Packet>,
+    times: Vec<Time>,
+}
+
+/// No variable is set, and the packet comes to port 1 of the first switch.
+fn start_of(
+    alloc: Global,
+    property: &TypedProperty,
+    network: &Network,
+    frame: Vec<u8>,
+) -> Result<Start, AllocError>
+    ensures contents { IfOk result (λ s. switches_view s.contents ≡ map (λ name. all_unset (decls_of property.now)) network.now.names) }
+    ensures packets { IfOk result (λ s. map arrival_of s.packets.items ≡ arrival frame.items ∷ []) }
+    ensures times { IfOk result (λ s. map time_view s.times.items ≡ beginning ∷ []) }
+{
+    let contents = contents_before(alloc, property, network)?;
+    let packets = packet(alloc, frame)?;
+    let times = time(alloc)?;
+    Ok(Start {
+        contents,
+        packets,
+        times,
+    })
+}
+
 fn packet(alloc: Global, frame: Vec<u8>) -> Result<Vec<Packet>, AllocError>
     ensures { IfOk result (λ v. map arrival_of v.items ≡ arrival frame.items ∷ []) }
 {
@@ -88,9 +131,8 @@ fn packet(alloc: Global, frame: Vec<u8>) -> Result<Vec<Packet>, AllocError>
     Ok(packets)
 }
 
-/// The time of its capture.
 fn time(alloc: Global) -> Result<Vec<Time>, AllocError>
-    ensures { IfOk result (λ v. map time_view v.items ≡ start ∷ []) }
+    ensures { IfOk result (λ v. map time_view v.items ≡ beginning ∷ []) }
 {
     let mut times = Vec::new(alloc);
     times.push(Time {
@@ -112,24 +154,20 @@ fn load_linked(alloc: Global, property: TypedProperty, frame: Vec<u8>) -> Result
     texts_are_plain();
     texts_declare_words();
     files_fit();
-    let program = typed_program(alloc)?;
-    let network = line_network(alloc)?;
-    let linked = load_link(alloc, &program, &property, &network, ROOM)?;
-    let tables = states_before(alloc, &program, &network)?;
-    let contents = contents_before(alloc, &property, &network)?;
-    let packets = packet(alloc, frame)?;
-    let times = time(alloc)?;
+    let line = wire_line(alloc)?;
+    let linked = load_link(alloc, &line.program, &property, &line.network, ROOM)?;
+    let start = start_of(alloc, &property, &line.network, frame)?;
     Ok(LinkedJob {
         property,
-        program,
+        program: line.program,
         linked,
-        network,
+        network: line.network,
         hops: HOPS,
         room: ROOM,
-        tables,
-        contents,
-        packets,
-        times,
+        tables: line.tables,
+        contents: start.contents,
+        packets: start.packets,
+        times: start.times,
         events: Vec::new(alloc),
     })
 }

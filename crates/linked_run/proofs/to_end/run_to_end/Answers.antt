@@ -1,25 +1,20 @@
-use Rattle.std.proofs.Common.{◌≡◌, length, map, All, refl, sym, ap, ◌∙◌, subst}
+use Rattle.std.proofs.Common.{◌≡◌, length, map, refl, sym, ap, ◌∙◌, subst}
 use Rattle.std.proofs.lemmas.List.{length-map}
 use Rattle.indus_tree.specs.View.{decl_of}
 use Rattle.p4_tree.specs.View.{program_of}
 use Rattle.p4_statements.specs.Runs.{cells_in}
-use Rattle.p4_printer.specs.CanSpell.{CanSpell}
 use Rattle.network_file.specs.Events.{event_of}
 use Rattle.network_run.specs.NetworkRun.{Limits}
 use Rattle.path_runner.specs.Nets.{RunsTo, tables_of}
 use Rattle.path_runner.specs.Packets.{arrival_of}
 use Rattle.path_runner.specs.Views.{state_of, log_of}
 use Rattle.run_captures.specs.Views.{time_view}
-use Rattle.job_course.specs.Output.{out_of}
-use Rattle.run_output.specs.Ends as output
-use Rattle.run_output.specs.Ends.{Parts, IsEnd, IsOutput}
-use Rattle.linked_jobs.specs.Run.{IsLinked, linked_programs, run_of}
+use Rattle.run_output.specs.Ends.{Parts, IsEnd}
+use Rattle.linked_jobs.specs.Run.{IsLinked}
 use Rattle.linked_jobs.specs.Views.{AreThese, job_of, programs_in, rows_in}
 use Rattle.run_headline.specs.Law.{linked_of}
 use Rattle.linked_run.specs.Happening.{CanHappen}
 use Rattle.linked_run.specs.Output.{parts_of}
-use Rattle.linked_run.specs.Headline.{Headline}
-use Rattle.linked_run.proofs.Written.{if_ok}
 use Rattle.linked_run.proofs.Started.{schedule_can_happen}
 use Rattle.linked_run.proofs.Ending.{is_end, at_end, network}
 use Rattle.linked_run.proofs.to_end.run_to_end.Goals as goal
@@ -36,27 +31,8 @@ happen-requires c =
     subst (λ es. CanHappen (length s.places) s.maps (tables_of s) (map event_of es)) (sym events)
     (schedule_can_happen j l s (c.in_ok-net.ensures.first l these) (c.jobs_have_room.ensures j l c.requires.ready is_linked))
 
-pub output_of-requires-clause-end : goal.output_of-requires-clause-end
-output_of-requires-clause-end c =
-    let job = c.args.job in
-    let j = job_of job in
-    let l = linked_of j (programs_in job.linked) (rows_in job.linked) c.requires.linked in
-    let these : AreThese job l = record { programs = sym c.requires.linked.trees; rows = refl } in
-    let s = state_of c.in_ok-net.field-0.net in
-    let t = state_of c.happen.new.net in
-    let u = log_of (λ s. program_of s.program) (λ s. s.tables) (λ s. cells_in s.registers) t.limits c.in_ok-log.log in
-    let events = c.deref-2.ensures.value ∙ ap (λ v. v.items) c.in_ok-net.ensures.rest.events in
-    let runs : RunsTo s j.events t = subst (λ es. RunsTo s (map event_of es) t) events c.in_ok-happen.ensures.runs in
-    let programs = ap (map program_of) c.deref-3.ensures.value ∙ (c.in_ok-programs.ensures.same ∙ (ap (map program_of) c.deref.ensures.value ∙ c.requires.linked.trees)) in
-    let none : Limits = record { hops = 0; link = 0 } in
-    subst (λ ps. IsEnd ps (record u { limits = none })) (sym programs)
-    (is_end j l s t u (c.in_ok-net.ensures.first l these) c.happen.ensures.same runs c.in_ok-log.ensures.ends c.in_ok-log.ensures.kept c.requires.ready none)
-
-pub output_of-requires-clause-spelled : goal.output_of-requires-clause-spelled
-output_of-requires-clause-spelled c = subst (λ xs. All (λ t. CanSpell (program_of t)) xs) (sym c.deref-3.ensures.value) c.in_ok-programs.ensures.spelled
-
-pub returns : goal.returns
-returns c =
+pub returns-clause-finished : goal.returns-clause-finished
+returns-clause-finished c =
     let job = c.args.job in
     let j = job_of job in
     let l = linked_of j (programs_in job.linked) (rows_in job.linked) c.requires.linked in
@@ -69,28 +45,26 @@ returns c =
     let runs : RunsTo s j.events t = subst (λ es. RunsTo s (map event_of es) t) events c.in_ok-happen.ensures.runs in
     let none : Limits = record { hops = 0; link = 0 } in
     let first = c.in_ok-net.ensures.first l these in
-    let shows = at_end j l s t u first c.happen.ensures.same runs c.in_ok-log.ensures.ends c.in_ok-log.ensures.kept c.requires.ready none in
-    let names = ap (λ n. n.names) (network j l s t u first c.happen.ensures.same runs c.in_ok-log.ensures.ends c.in_ok-log.ensures.kept) in
-    let programs = ap (map program_of) c.deref-3.ensures.value ∙ (c.in_ok-programs.ensures.same ∙ (ap (map program_of) c.deref.ensures.value ∙ c.requires.linked.trees)) in
+    let programs = c.in_ok-programs.ensures.same ∙ (ap (map program_of) c.deref.ensures.value ∙ c.requires.linked.trees) in
     let rows = ap (λ m. m.tables.items) rest.map in
-    let decls = ap (map decl_of) (c.deref-4.ensures.value ∙ ap (λ p. p.decls.items) (c.property-2.ensures.same ∙ rest.property)) in
-    let times = ap (map time_view) (c.deref-5.ensures.value ∙ ap (λ v. v.items) rest.times) in
+    let decls = ap (λ p. map decl_of p.decls.items) rest.property in
+    let times = ap (λ v. map time_view v.items) rest.times in
     let packets = rest.packets ∙ sym (length-map job.packets.items arrival_of) in
     let before : Parts = record {
-      programs = map program_of c.deref-3.result.now;
+      programs = map program_of c.in_ok-programs.programs.items;
       rows = c.in_ok-net.field-0.map.tables.items;
-      decls = map decl_of c.deref-4.result.now;
-      times = map time_view c.deref-5.result.now;
+      decls = map decl_of c.in_ok-net.field-0.property.decls.items;
+      times = map time_view c.in_ok-net.field-0.times.items;
       packets = c.in_ok-net.field-0.packets;
     } in
     let parts : before ≡ parts_of j l = λ i. record { programs = programs i; rows = rows i; decls = decls i; times = times i; packets = packets i } in
-    let out = c.args.out.now in
-    let claims = c.linked_programs_keep_the_claims.ensures j c.requires.ready (programs_in job.linked) (rows_in job.linked) c.requires.linked in
-    if_ok (λ o. IsOutput out before (record u { limits = none }) (out_of o)) (λ o. Headline j out (out_of o)) c.output_of.result
-    (λ o given. record {
+    record {
       linked = l;
-      claims = claims;
-      writes =
-          subst (λ x. output.IsRunOutput out x j.network.names (run_of j l) (out_of o)) parts
-          (subst (λ ns. output.IsRunOutput out before ns (run_of j l) (out_of o)) names (given (linked_programs l) (run_of j l) shows));
-    }) c.output_of.ensures
+      claims = c.linked_programs_keep_the_claims.ensures j c.requires.ready (programs_in job.linked) (rows_in job.linked) c.requires.linked;
+      parts = parts;
+      network = network j l s t u first c.happen.ensures.same runs c.in_ok-log.ensures.ends c.in_ok-log.ensures.kept;
+      end =
+          subst (λ ps. IsEnd ps (record u { limits = none })) (sym programs)
+          (is_end j l s t u first c.happen.ensures.same runs c.in_ok-log.ensures.ends c.in_ok-log.ensures.kept c.requires.ready none);
+      shows = at_end j l s t u first c.happen.ensures.same runs c.in_ok-log.ensures.ends c.in_ok-log.ensures.kept c.requires.ready none;
+    }

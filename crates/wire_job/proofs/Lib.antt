@@ -1,0 +1,4 @@
+mod Program
+mod Network
+mod Control
+mod Ready
