@@ -131,7 +131,11 @@ fn put_told(
 }
 
 /// The six lines of the summary. Dropped are those that were not rejected.
-pub(crate) fn summary(alloc: Global, parts: &RunParts<'_>, log: &RunLog<Switch>) -> Result<String, AllocError>
+pub(crate) fn summary(
+    alloc: Global,
+    parts: &RunParts<'_>,
+    log: &RunLog<Switch>,
+) -> Result<String, AllocError>
     requires count { length log.now.switches.items ≡ length log.now.net.names }
     requires programs { programs_in (map switch_view log.now.switches.items) ≡ (parts_view parts.now).programs }
     requires few { length log.now.edges.items ≤ most_packets }

@@ -9,7 +9,7 @@ use Rattle.indus_tree.specs.Hops.{same_kind}
 use Rattle.indus_tree.specs.declared.tree.Decl.{Decl}
 use Rattle.indus_tree.specs.declared.tree.DeclKind.TheVariants.{Control}
 use Rattle.network_run.specs.Events.{Event}
-use Rattle.table_items.specs.Items.{items_from, reads_of, greatest_items, within_limits, all_items, too_many_of}
+use Rattle.table_items.specs.Items.{items_from, reads_of, greatest_items, within_limits}
 use Rattle.job_course.specs.declared.status.Status.TheVariants.{BadProperty}
 use Rattle.job_course.specs.Steps.{Rejects}
 use Rattle.wire_job.specs.Lines.{control_line}
@@ -21,14 +21,8 @@ module _ (ds : List Decl) (i : ℕ) (d : Decl) (within : i < length ds) (is : d 
   left : map decl_of (drop i ds) ≡ decl_of d ∷ map decl_of (drop (i + 1) ds)
   left = ap (map decl_of) (drop_more ds i d within) ∙ ap (λ x. decl_of x ∷ map decl_of (drop (i + 1) ds)) (sym is)
 
-  choice : (b : Bool) → same_kind Control d.kind ≡ b → first_control (map decl_of (drop i ds)) ≡ cond b (Some d.name) (first_control (map decl_of (drop (i + 1) ds)))
-  choice b kind = ap first_control left ∙ ap (λ (b : Bool). cond b (Some d.name) (first_control (map decl_of (drop (i + 1) ds)))) kind
-
-  pub found_here : same_kind Control d.kind ≡ true → first_control (map decl_of (drop i ds)) ≡ Some d.name
-  found_here kind = choice true kind
-
   pub found_behind : same_kind Control d.kind ≡ false → first_control (map decl_of (drop i ds)) ≡ first_control (map decl_of (drop (i + 1) ds))
-  found_behind kind = choice false kind
+  found_behind kind = ap first_control left ∙ ap (λ (b : Bool). cond b (Some d.name) (first_control (map decl_of (drop (i + 1) ds)))) kind
 
 -- it is a reason to refuse the property
 pub rejects :

@@ -1,20 +1,17 @@
 -- The network's file has no fault, and says three switches in a line.
-use Rattle.std.proofs.Common.{◌≡◌, ℕ, ◌+◌, ◌<◌, codes, Bool, true, false, cond, List, [], ◌∷◌, ◌++◌, Option, Some, None, Result, Ok, Err, refl, sym, ap, ◌∙◌, arith}
-use Rattle.std.specs.Prelude.{⊤}
+use Rattle.std.proofs.Common.{◌≡◌, ℕ, ◌+◌, codes, Bool, true, cond, List, [], ◌∷◌, ◌++◌, Some, None, Result, Ok, Err, refl, sym, ap, ◌∙◌, arith}
 use Rattle.std.specs.List.{All}
 use Rattle.std.specs.Option.{option_map_or}
 use Rattle.std.proofs.lemmas.List.Elements.{All-nil, All-cons}
 use Rattle.serde_json.specs.Data.{Data, string, number, unsigned}
 use Rattle.network_run.specs.Network.{Link, IsLinkOf, IsWiring}
-use Rattle.json_parts.specs.Answers.{◌>>=◌, with_fault}
+use Rattle.json_parts.specs.Answers.{◌>>=◌}
 use Rattle.json_parts.specs.Turns.{in_turn, all_of, behind}
 use Rattle.json_parts.specs.Paths.{item_below}
 use Rattle.json_parts.specs.Object.{Object, members_of, list_at, maybe_at}
-use Rattle.json_parts.specs.declared.fault.ShapeFault.{ShapeFault}
 use Rattle.json_parts.specs.declared.fault.ShapeFault.TheVariants.{Shape}
-use Rattle.network_file.specs.Shape.{fault_of}
-use Rattle.network_file.specs.Named.{is_name, name_at, port_at, NamedLink, NamedFile, link_path, link_from, link_at, switch_path, switch_at, links_of, switches_of, file_of}
-use Rattle.network_file.specs.Network.{Network, Port, with_name, different, numbered, all_numbered, with_ports, free, low, in_range, sized, network_of}
+use Rattle.network_file.specs.Named.{is_name, name_at, port_at, NamedFile, link_path, link_at, switch_path, switch_at, links_of, switches_of, file_of}
+use Rattle.network_file.specs.Network.{Network, with_name, different, numbered, all_numbered, with_ports, free, low, in_range, network_of}
 use Rattle.network_file.specs.Wiring.{wiring_of}
 use Rattle.wire_job.specs.Line.{wire_network, link_data, line_data}
 

@@ -1,5 +1,5 @@
 -- The wire program breaks no rule, is spelled, leaves room for a monitor, and has no tables.
-use Rattle.std.proofs.Common.{◌≡◌, ℕ, ◌≤◌, codes, List, [], ◌∷◌, None, refl, sym, inl, subst, arith}
+use Rattle.std.proofs.Common.{◌≡◌, ℕ, ◌≤◌, codes, [], None, refl, sym, inl, subst, arith}
 use Rattle.p4_tree.specs.Tree.{Program}
 use Rattle.p4_meaning.specs.Standard.{ingress_port, egress_spec}
 use Rattle.p4_scopes.specs.Scopes.{declare, core}
@@ -10,7 +10,7 @@ use Rattle.p4_types.specs.Faults.{HasCause}
 use Rattle.p4_types.specs.declared.fault.ProgramTypeFault.{ProgramTypeFault}
 use Rattle.p4_types.specs.declared.fault.ProgramTypeFault.TheVariants.{Type_}
 use Rattle.p4_types.proofs.Checked.{no_fault}
-use Rattle.p4_printer.specs.CanSpell.{CanSpell, EachCan, SomeCan, CanSpellParam, CanSpellState, CanSpellStmts, CanSpellPath}
+use Rattle.p4_printer.specs.CanSpell.{CanSpell, SomeCan, CanSpellParam, CanSpellState, CanSpellStmts, CanSpellPath}
 use Rattle.p4_tables.specs.Programs.{state_before}
 use Rattle.faultless_programs.specs.Within.{LeavesRoom}
 use Rattle.wire_program.specs.WireProgram.{wire_program, two_params, three_params, parser_params, deparser_params, passing_state, send_by, wire_ingress}
@@ -89,15 +89,28 @@ ingress_can = (inl ((port_can, (omega arith, omega arith)), send_can 2 (omega ar
 is_spelled : CanSpell wire_program
 is_spelled =
     record {
-      tops =
-          (((refl, refl), tt),
-          (((refl, refl), tt),
-          (((refl, refl), parser_can, (state_can, tt)),
-          (((refl, refl), two_can, tt, tt),
-          (((refl, refl), three_can, tt, ingress_can),
-          (((refl, refl), three_can, tt, tt),
-          (((refl, refl), two_can, tt, tt),
-          (((refl, refl), deparser_can, tt, tt), tt))))))));
+      tops = (
+        ((refl, refl), tt),
+        (
+          ((refl, refl), tt),
+          (
+            ((refl, refl), parser_can, (state_can, tt)),
+            (
+              ((refl, refl), two_can, tt, tt),
+              (
+                ((refl, refl), three_can, tt, ingress_can),
+                (
+                  ((refl, refl), three_can, tt, tt),
+                  (
+                    ((refl, refl), two_can, tt, tt),
+                    (((refl, refl), deparser_can, tt, tt), tt),
+                  ),
+                ),
+              ),
+            ),
+          ),
+        ),
+      );
       main = ((refl, refl), ((refl, refl), ((refl, refl), ((refl, refl), ((refl, refl), ((refl, refl), tt))))));
     }
 

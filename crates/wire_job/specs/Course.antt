@@ -13,7 +13,7 @@ use Rattle.job_course.specs.declared.status.Status.TheVariants.{BadProperty}
 use Rattle.job_course.specs.declared.status.Area.TheVariants as area
 use Rattle.job_course.specs.Course.{Course, file, decide, and_then, give}
 use Rattle.property_course.specs.Files.{typed_property}
-use Rattle.link_course.specs.Links.{Linked, link_course}
+use Rattle.link_course.specs.Links.{link_course}
 use Rattle.linked_jobs.specs.Job.{Job}
 use Rattle.run_job.specs.Course.{Task}
 use Rattle.wire_program.specs.WireProgram.{wire_program}

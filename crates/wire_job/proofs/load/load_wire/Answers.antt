@@ -1,4 +1,3 @@
-use Rattle.std.proofs.Common.{ℕ, List, refl}
 use Rattle.std.specs.Prelude.{⊤}
 use Rattle.indus_tree.specs.View.{property_of}
 use Rattle.indus_tree.specs.declared.tree.Property.{Property}
