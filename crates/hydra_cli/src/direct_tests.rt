@@ -10,7 +10,7 @@ use indus_reader::read_property;
 use indus_run::{has_short_reports, hop_step, is_shaped};
 use indus_tree::{Decl, DeclKind, Property};
 use indus_types::{TypedProperty, check_property};
-use indus_values::{ControlValue, HopResult, HopView, SensorState, TeleState};
+use indus_values::{ControlValue, HopResult, HopView, Report, SensorState, TeleState};
 use job_course::Status;
 use json_parts::read_value;
 use network_file::read_network;
@@ -149,9 +149,9 @@ fn hop_at(
         }
     }
     Ok(HopView {
-        switch: switch as u16,
+        switch: u16::try_from(switch).unwrap_or(0),
         first: switch == 0,
-        last: switch + 1 == contents.len(),
+        last: switch.wrapping_add(1) == contents.len(),
         entry_: read_headers(alloc, &p.decls, Bits::new(9, 0))?,
         exit_: Some(read_headers(alloc, &p.decls, Bits::new(9, 2))?),
         control,
@@ -164,105 +164,156 @@ fn step(
     p: &Property,
     view: &HopView,
     tele: &mut TeleState,
-    sensors: &mut [SensorState],
+    sensors: &mut SensorState,
 ) -> Result<HopResult, Fail> {
-    let Some(sensors) = sensors.get_mut(view.switch as usize) else {
-        return Err(Fail::new("no such switch"));
-    };
     if !has_short_reports(p) || !is_shaped(p, tele, sensors) {
         return Err(Fail::new("the property or its states are not as they should be"));
     }
     Ok(hop_step(alloc, p, view, tele, sensors)?)
 }
 
-/// A hop's reports go behind the others, as lines.
-fn tell(alloc: Global, said: &mut Said, packet: u32, switch: usize, hop: &HopResult) -> Result<(), AllocError> {
-    for report in &hop.reports {
-        let place = switch.wrapping_add(1);
-        let number = report.number;
-        let front = format!(in alloc; "{packet} s{place} {number}")?;
-        said.lines.push_str(&front)?;
-        for word in &report.values {
-            let value = word.value;
-            let text = format!(in alloc; " {value}")?;
-            said.lines.push_str(&text)?;
-        }
-        said.lines.push_str("\n")?;
-        said.reports = said.reports.wrapping_add(1);
+/// A report goes behind the others, as a line.
+fn put_report(
+    alloc: Global,
+    lines: &mut String,
+    packet: u32,
+    switch: usize,
+    report: &Report,
+) -> Result<(), AllocError> {
+    let place = switch.wrapping_add(1);
+    let number = report.number;
+    lines.push_str(&format!(in alloc; "{packet} s{place} {number}")?)?;
+    for word in &report.values {
+        let value = word.value;
+        lines.push_str(&format!(in alloc; " {value}")?)?;
     }
-    if hop.rejected {
-        said.rejected = said.rejected.wrapping_add(1);
+    lines.push_str("\n")
+}
+
+impl Said {
+    /// What comes of a hop.
+    fn tell(
+        &mut self,
+        alloc: Global,
+        packet: u32,
+        switch: usize,
+        hop: &HopResult,
+    ) -> Result<(), AllocError> {
+        for report in &hop.reports {
+            put_report(alloc, &mut self.lines, packet, switch, report)?;
+            self.reports = self.reports.wrapping_add(1);
+        }
+        if hop.rejected {
+            self.rejected = self.rejected.wrapping_add(1);
+        }
+        Ok(())
+    }
+}
+
+/// The hops of a packet along the switches.
+fn pass(
+    alloc: Global,
+    p: &Property,
+    contents: &[Vec<ControlValue>],
+    sensors: &mut Vec<SensorState>,
+    said: &mut Said,
+    packet: u32,
+) -> Result<(), Fail> {
+    let mut tele = TeleState::start(alloc, p)?;
+    for (switch, cells) in sensors.iter_mut().enumerate() {
+        let view = hop_at(alloc, p, contents, switch)?;
+        let hop = step(alloc, p, &view, &mut tele, cells)?;
+        said.tell(alloc, packet, switch, &hop)?;
     }
     Ok(())
+}
+
+/// The sensors of so many switches, before any packet.
+fn sensors_of(alloc: Global, p: &Property, count: usize) -> Result<Vec<SensorState>, AllocError> {
+    let mut sensors = Vec::new(alloc);
+    for _ in 0..count {
+        sensors.push(SensorState::start(alloc, p)?)?;
+    }
+    Ok(sensors)
 }
 
 /// What the direct evaluator says of a row.
 fn evaluated(alloc: Global, row: &Row<'_>) -> Result<Said, Fail> {
     let typed = property_of(alloc, row.property)?;
-    let p = typed.property();
     let contents = contents_of(alloc, row, &typed)?;
-    let mut sensors = Vec::new(alloc);
-    for _ in &contents {
-        sensors.push(SensorState::start(alloc, p)?)?;
-    }
+    let mut sensors = sensors_of(alloc, typed.property(), contents.len())?;
     let mut said = Said {
         lines: String::new(alloc),
         reports: 0,
         rejected: 0,
     };
     for packet in 0..row.packets {
-        let mut tele = TeleState::start(alloc, p)?;
-        for switch in 0..contents.len() {
-            let view = hop_at(alloc, p, &contents, switch)?;
-            let hop = step(alloc, p, &view, &mut tele, &mut sensors)?;
-            tell(alloc, &mut said, packet, switch, &hop)?;
-        }
+        pass(alloc, typed.property(), &contents, &mut sensors, &mut said, packet)?;
     }
     Ok(said)
 }
 
-/// What `run` answers on a row, and the store and the sink behind it.
-fn ran(alloc: Global, row: &Row<'_>) -> Result<(Status, MemStore, MemSink), AllocError> {
-    let mut store = MemStore::new(alloc, Vec::new(alloc));
-    let mut frames = String::from_str(alloc, FRAME)?;
-    for _ in 1..row.packets {
-        frames.push_str(",")?;
-        frames.push_str(FRAME)?;
+/// A capture of so many frames.
+fn frames(alloc: Global, count: u32) -> Result<Vec<u8>, AllocError> {
+    let mut text = String::from_str(alloc, FRAME)?;
+    for _ in 1..count {
+        text.push_str(",")?;
+        text.push_str(FRAME)?;
     }
-    let text = if row.property.contains("hdr.tcp") {
-        String::from_str(alloc, TCP)?
-    } else {
-        program(alloc, "wire", "")?
-    };
-    let case = format!(in alloc; "{{{CASE}, \"control\": \"k\"}}")?;
-    store.hold(alloc, "c", case.as_bytes())?;
+    capture(alloc, &text)
+}
+
+/// What a row's store holds.
+fn held(alloc: Global, row: &Row<'_>) -> Result<MemStore, AllocError> {
+    let mut store = MemStore::new(alloc, Vec::new(alloc));
     store.hold(alloc, "n", network(row.network).as_bytes())?;
-    store.hold(alloc, "f", text.as_bytes())?;
     store.hold(alloc, "k", row.control.as_bytes())?;
     store.hold(alloc, "p", row.property.as_bytes())?;
-    store.hold(alloc, "h.pcap", capture(alloc, &frames)?.as_slice())?;
+    store.hold(alloc, "h.pcap", frames(alloc, row.packets)?.as_slice())?;
+    if row.property.contains("hdr.tcp") {
+        store.hold(alloc, "f", TCP.as_bytes())?;
+    } else {
+        store.hold(alloc, "f", program(alloc, "wire", "")?.as_bytes())?;
+    }
+    let case = format!(in alloc; "{{{CASE}, \"control\": \"k\"}}")?;
+    store.hold(alloc, "c", case.as_bytes())?;
+    Ok(store)
+}
+
+/// What `run` answers on a row, and the store and the sink behind it.
+fn ran(alloc: Global, row: &Row<'_>) -> Result<(Status, MemStore, MemSink), AllocError> {
+    let mut store = held(alloc, row)?;
     let mut out = MemSink::new(alloc, 1000, Vec::new(alloc))?;
     let status = hydra(alloc, &words_of(alloc, "run c o")?, &mut store, &mut out);
     Ok((status, store, out))
 }
 
+/// What `run` has to put where the evaluator says this.
+fn wanted(alloc: Global, row: &Row<'_>, said: &Said) -> Result<String, AllocError> {
+    let packets = row.packets;
+    let Said {
+        reports, rejected, ..
+    } = said;
+    let sent = packets.wrapping_sub(*rejected);
+    format!(in alloc; "Done packets {packets}/sent {sent}/dropped 0/rejected {rejected}/lost 0/reports {reports}/")
+}
+
+/// Whether `run` says what the evaluator says.
+fn agree(alloc: Global, row: &Row<'_>) -> Result<bool, Fail> {
+    let said = evaluated(alloc, row)?;
+    let wanted = wanted(alloc, row, &said)?;
+    let (status, store, out) = ran(alloc, row)?;
+    Ok(is_answer(alloc, status, out.taken(), &wanted)?
+        && store.file("o.reports.txt") == Some(said.lines.as_bytes()))
+}
+
 #[test]
 fn runs_say_what_the_evaluator_says(rt: HostRuntime) -> Result<(), Fail> {
-    let alloc = rt.alloc();
     for text in ROWS.lines() {
         let Some(row) = row_of(text) else {
             return Err(Fail::new("a row has too few parts"));
         };
-        let Said {
-            lines,
-            reports,
-            rejected,
-        } = evaluated(alloc, &row)?;
-        let (status, store, out) = ran(alloc, &row)?;
-        let (packets, sent) = (row.packets, row.packets.wrapping_sub(rejected));
-        let wanted = format!(in alloc; "Done packets {packets}/sent {sent}/dropped 0/rejected {rejected}/lost 0/reports {reports}/")?;
-        assert!(rt; is_answer(alloc, status, out.taken(), &wanted)?, "{text}");
-        assert!(rt; store.file("o.reports.txt") == Some(lines.as_bytes()), "{text}");
+        assert!(rt; agree(rt.alloc(), &row)?, "{text}");
     }
     Ok(())
 }

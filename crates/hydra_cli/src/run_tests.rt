@@ -130,7 +130,7 @@ pub fn capture(alloc: Global, frames: &str) -> Result<Vec<u8>, AllocError> {
     bytes.extend_from_slice(HEAD)?;
     for text in frames.split(',') {
         let frame = frame(alloc, text)?;
-        let length = (frame.len() as u32).to_le_bytes();
+        let length = u32::try_from(frame.len()).unwrap_or(0).to_le_bytes();
         bytes.extend_from_slice(TIME)?;
         bytes.extend_from_slice(&length)?;
         bytes.extend_from_slice(&length)?;

@@ -66,7 +66,7 @@ Ing.u: default Ing.go 9:7 => WidthDiffers
 Ing.u: default Ing.go 8:7 => ConstDefault";
 
 /// The program with these tables.
-pub fn program_with(alloc: Global, tables: &str) -> Tried<TypedProgram> {
+fn program_with(alloc: Global, tables: &str) -> Tried<TypedProgram> {
     let mut text = String::from_str(alloc, BEFORE)?;
     text.push_str(tables)?;
     text.push_str(BEHIND)?;

@@ -1,13 +1,11 @@
-//! Tests of the P4 machine: which entries its tables take, what they choose, and what no command reaches. What programs
-//! do with a frame stands as rows of `forward` under `tests/` at the top of the repository.
+//! Tests of the P4 machine: which entries its tables take, and what no command reaches. What tables choose, full ones
+//! too, and what programs do with a frame stands as rows of `forward` under `tests/` at the top of the repository.
 #![tactic(auto)]
 
 #[cfg(test)]
 mod carried;
 #[cfg(test)]
 mod entries;
-#[cfg(test)]
-mod indexed;
 #[cfg(test)]
 mod lengths;
 #[cfg(test)]
