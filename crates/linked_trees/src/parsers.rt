@@ -12,10 +12,11 @@ ghost use Rattle.linked_programs.specs.Linked.{first_state, linked_parser, own_s
 
 use crate::lengths::{expr_with, exprs_with, length_at};
 use crate::roots::parser_roots;
+use crate::statements::assign_with;
 use lex_text::Name;
 use p4_resolved::Roots;
 use p4_tree::{Expr, Keyset, Op, Param, Parser, ParserState, Stmt, Transition, copy_params};
-use p4_values::{copy_path, same_text};
+use p4_values::same_text;
 use port_tests::link_cases;
 use small_trees::{assign, at_path, binary, call, number, one_arg, two_names};
 use std::alloc::{AllocError, Global};
@@ -31,17 +32,27 @@ fn own_name(alloc: Global, x: &Name) -> Result<Name, AllocError>
     }
 }
 
+fn masked_with(
+    alloc: Global,
+    roots: &Roots,
+    at: u32,
+    e: &Expr,
+    mask: &Expr,
+) -> Result<Keyset, AllocError>
+    ensures { IfOk result (λ t. keyset_of t
+        ≡ keyset_with (roots_in roots.now) (p4.masked at (expr_of e.now) (expr_of mask.now))) }
+{
+    let e = expr_with(alloc, roots, e)?;
+    Ok(Keyset::Masked(at, e, expr_with(alloc, roots, mask)?))
+}
+
 fn keyset_with(alloc: Global, roots: &Roots, k: &Keyset) -> Result<Keyset, AllocError>
     ensures { IfOk result (λ t. keyset_of t ≡ keyset_with (roots_in roots.now) (keyset_of k.now)) }
 {
     match k {
         Keyset::Any(at) => Ok(Keyset::Any(*at)),
         Keyset::One(at, e) => Ok(Keyset::One(*at, expr_with(alloc, roots, e)?)),
-        Keyset::Masked(at, e, m) => {
-            let e = expr_with(alloc, roots, e)?;
-            let m = expr_with(alloc, roots, m)?;
-            Ok(Keyset::Masked(*at, e, m))
-        }
+        Keyset::Masked(at, e, m) => masked_with(alloc, roots, *at, e, m),
     }
 }
 
@@ -82,6 +93,20 @@ fn own_cases(
     Ok(copies)
 }
 
+fn own_select(
+    alloc: Global,
+    roots: &Roots,
+    at: u32,
+    list: &[Expr],
+    cases: &[(Vec<Keyset>, Name)],
+) -> Result<Transition, AllocError>
+    ensures { IfOk result (λ t. transition_of t ≡ renamed_transition
+        (transition_with (roots_in roots.now) (p4.select at (map expr_of list.now) (map case_of cases.now)))) }
+{
+    let list = exprs_with(alloc, roots, list)?;
+    Ok(Transition::Select(at, list, own_cases(alloc, roots, cases)?))
+}
+
 fn own_transition(alloc: Global, roots: &Roots, next: &Transition) -> Result<Transition, AllocError>
     ensures { IfOk result (λ t. transition_of t
         ≡ renamed_transition (transition_with (roots_in roots.now) (transition_of next.now))) }
@@ -89,11 +114,7 @@ fn own_transition(alloc: Global, roots: &Roots, next: &Transition) -> Result<Tra
     match next {
         Transition::None(at) => Ok(Transition::None(*at)),
         Transition::To(at, name) => Ok(Transition::To(*at, own_name(alloc, name)?)),
-        Transition::Select(at, list, cases) => {
-            let list = exprs_with(alloc, roots, list)?;
-            let cases = own_cases(alloc, roots, cases)?;
-            Ok(Transition::Select(*at, list, cases))
-        }
+        Transition::Select(at, list, cases) => own_select(alloc, roots, *at, list, cases),
     }
 }
 
@@ -102,11 +123,7 @@ fn parse_with(alloc: Global, roots: &Roots, s: &Stmt) -> Result<Stmt, AllocError
     ensures { IfOk result (λ t. stmt_of t ≡ parse_with (roots_in roots.now) (stmt_of s.now)) }
 {
     match s {
-        Stmt::Assign(at, path, e) => {
-            let path = copy_path(alloc, path)?;
-            let e = expr_with(alloc, roots, e)?;
-            Ok(Stmt::Assign(*at, path, e))
-        }
+        Stmt::Assign(at, path, e) => assign_with(alloc, roots, *at, path, e),
         Stmt::Nothing(_) => s.copy(alloc),
         Stmt::Block(_, _) => s.copy(alloc),
         Stmt::Var(_, _, _, _) => s.copy(alloc),
