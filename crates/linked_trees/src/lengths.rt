@@ -13,7 +13,6 @@ use p4_tree::Expr;
 use p4_values::{copy_path, same_text};
 use small_trees::two_names;
 use std::alloc::{AllocError, Global};
-use tree_parts::{binary, cast, conditional, inversion, negation, opposite, slice};
 
 /// Whether a path is the packet's length.
 fn is_length(roots: &Roots, path: &[Name]) -> bool
@@ -52,6 +51,7 @@ fn path_with(alloc: Global, roots: &Roots, path: &[Name]) -> Result<Vec<Name>, A
 }
 
 /// An expression.
+#[cycle(expr_with)]
 pub(crate) fn expr_with(alloc: Global, roots: &Roots, e: &Expr) -> Result<Expr, AllocError>
     ensures { IfOk result (λ t. expr_of t ≡ expr_with (roots_in roots.now) (expr_of e.now)) }
 {
@@ -62,23 +62,38 @@ pub(crate) fn expr_with(alloc: Global, roots: &Roots, e: &Expr) -> Result<Expr, 
         Expr::Valid(at, path) => Ok(Expr::Valid(*at, copy_path(alloc, path)?)),
         Expr::Applied(at, table, hit) => Ok(Expr::Applied(*at, table.copy(alloc)?, *hit)),
         Expr::ErrorName(at, name) => Ok(Expr::ErrorName(*at, name.copy(alloc)?)),
-        Expr::Not(at, a) => negation(alloc, *at, expr_with(alloc, roots, a)?),
-        Expr::Invert(at, a) => inversion(alloc, *at, expr_with(alloc, roots, a)?),
-        Expr::Negate(at, a) => opposite(alloc, *at, expr_with(alloc, roots, a)?),
+        Expr::Not(at, a) => Ok(Expr::Not(*at, boxed_with(alloc, roots, a)?)),
+        Expr::Invert(at, a) => Ok(Expr::Invert(*at, boxed_with(alloc, roots, a)?)),
+        Expr::Negate(at, a) => Ok(Expr::Negate(*at, boxed_with(alloc, roots, a)?)),
         Expr::Bin(at, op, a, b) => {
-            let a = expr_with(alloc, roots, a)?;
-            binary(alloc, *at, *op, a, expr_with(alloc, roots, b)?)
+            let a = boxed_with(alloc, roots, a)?;
+            let b = boxed_with(alloc, roots, b)?;
+            Ok(Expr::Bin(*at, *op, a, b))
         }
         Expr::Choice(at, test, a, b) => {
-            let test = expr_with(alloc, roots, test)?;
-            let a = expr_with(alloc, roots, a)?;
-            conditional(alloc, *at, test, a, expr_with(alloc, roots, b)?)
+            let test = boxed_with(alloc, roots, test)?;
+            let a = boxed_with(alloc, roots, a)?;
+            let b = boxed_with(alloc, roots, b)?;
+            Ok(Expr::Choice(*at, test, a, b))
         }
         Expr::Slice(at, a, high, low) => {
-            slice(alloc, *at, expr_with(alloc, roots, a)?, *high, *low)
+            let a = boxed_with(alloc, roots, a)?;
+            Ok(Expr::Slice(*at, a, *high, *low))
         }
-        Expr::Cast(at, ty, a) => cast(alloc, *at, ty.copy(alloc)?, expr_with(alloc, roots, a)?),
+        Expr::Cast(at, ty, a) => {
+            let ty = ty.copy(alloc)?;
+            let a = boxed_with(alloc, roots, a)?;
+            Ok(Expr::Cast(*at, ty, a))
+        }
     }
+}
+
+#[cycle(expr_with)]
+fn boxed_with(alloc: Global, roots: &Roots, e: &Box<Expr>) -> Result<Box<Expr>, AllocError>
+    ensures { IfOk result (λ b. expr_of b.value ≡ expr_with (roots_in roots.now) (expr_of e.now.value)) }
+{
+    let e = expr_with(alloc, roots, e)?;
+    Ok(Box::new(alloc, e)?)
 }
 
 /// Expressions.

@@ -181,6 +181,38 @@ fn by_port(alloc: Global, roots: &Roots, linked_ports: &[u16]) -> Result<Transit
     Ok(Transition::Select(0, keys, cases))
 }
 
+/// A state of a name, at place 0.
+fn new_state(
+    alloc: Global,
+    name: &str,
+    body: Vec<Stmt>,
+    next: Transition,
+) -> Result<ParserState, AllocError>
+    ensures { IfOk result (λ s. state_of s ≡ record {
+      at = 0;
+      name = name.now;
+      body = map stmt_of body.items;
+      next = transition_of next;
+    }) }
+{
+    Ok(ParserState {
+        at: 0,
+        name: Name::new(alloc, name)?,
+        body,
+        next,
+    })
+}
+
+/// The length is kept as it came.
+fn first_body(alloc: Global, roots: &Roots) -> Result<Vec<Stmt>, AllocError>
+    ensures { IfOk result (λ v. map stmt_of v.items ≡ (first_state (roots_in roots.now) []).body) }
+{
+    let whole = whole_length(alloc, roots)?;
+    let mut body = Vec::new(alloc);
+    body.push(length_kept(alloc, roots, whole)?)?;
+    Ok(body)
+}
+
 /// How the frame arrived.
 fn first_state(
     alloc: Global,
@@ -189,16 +221,8 @@ fn first_state(
 ) -> Result<ParserState, AllocError>
     ensures { IfOk result (λ s. state_of s ≡ first_state (roots_in roots.now) linked_ports.now) }
 {
-    let name = Name::new(alloc, "start")?;
-    let mut body = Vec::new(alloc);
-    body.push(length_kept(alloc, roots, whole_length(alloc, roots)?)?)?;
-    let next = by_port(alloc, roots, linked_ports)?;
-    Ok(ParserState {
-        at: 0,
-        name,
-        body,
-        next,
-    })
+    let body = first_body(alloc, roots)?;
+    new_state(alloc, "start", body, by_port(alloc, roots, linked_ports)?)
 }
 
 /// The telemetry, of so many bytes, is taken off the frame, and the length is less by them.
@@ -233,15 +257,8 @@ fn taken_state(
 ) -> Result<ParserState, AllocError>
     ensures { IfOk result (λ s. state_of s ≡ taken_state packet.now (roots_in roots.now) size) }
 {
-    let name = Name::new(alloc, "hydra_taken")?;
-    let body = taken_body(alloc, packet, roots, size)?;
     let next = Transition::To(0, Name::new(alloc, "hydra_start")?);
-    Ok(ParserState {
-        at: 0,
-        name,
-        body,
-        next,
-    })
+    new_state(alloc, "hydra_taken", taken_body(alloc, packet, roots, size)?, next)
 }
 
 /// The name of the first parameter.

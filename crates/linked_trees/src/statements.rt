@@ -13,7 +13,6 @@ use p4_resolved::Roots;
 use p4_tree::{Arg, Expr, PTy, Stmt};
 use p4_values::copy_path;
 use std::alloc::{AllocError, Global};
-use tree_parts::choice;
 
 fn arg_with(alloc: Global, roots: &Roots, a: &Arg) -> Result<Arg, AllocError>
     ensures { IfOk result (λ t. arg_of t ≡ arg_with (roots_in roots.now) (arg_of a.now)) }
@@ -85,13 +84,13 @@ fn choice_with(
     roots: &Roots,
     at: u32,
     test: &Expr,
-    one: Stmt,
+    one: Box<Stmt>,
     other: Option<Box<Stmt>>,
 ) -> Result<Stmt, AllocError>
-    ensures { IfOk result (λ s. stmt_of s
-        ≡ p4.choice at (expr_with (roots_in roots.now) (expr_of test.now)) (stmt_of one) (else_of other)) }
+    ensures { IfOk result (λ s. stmt_of s ≡ p4.choice at
+        (expr_with (roots_in roots.now) (expr_of test.now)) (stmt_of one.value) (else_of other)) }
 {
-    choice(alloc, at, expr_with(alloc, roots, test)?, one, other)
+    Ok(Stmt::If(at, expr_with(alloc, roots, test)?, one, other))
 }
 
 /// A statement.
@@ -105,13 +104,21 @@ fn stmt_with(alloc: Global, roots: &Roots, s: &Stmt) -> Result<Stmt, AllocError>
         Stmt::Var(at, ty, name, start) => var_with(alloc, roots, *at, ty, name, start),
         Stmt::Assign(at, path, e) => assign_with(alloc, roots, *at, path, e),
         Stmt::If(at, e, a, b) => {
-            let a = stmt_with(alloc, roots, a)?;
+            let a = boxed_with(alloc, roots, a)?;
             choice_with(alloc, roots, *at, e, a, else_with(alloc, roots, b)?)
         }
         Stmt::Return(at) => Ok(Stmt::Return(*at)),
         Stmt::Exit(at) => Ok(Stmt::Exit(*at)),
         Stmt::Call(at, path, args) => call_with(alloc, roots, *at, path, args),
     }
+}
+
+#[cycle(stmts_with)]
+fn boxed_with(alloc: Global, roots: &Roots, s: &Box<Stmt>) -> Result<Box<Stmt>, AllocError>
+    ensures { IfOk result (λ b. stmt_of b.value ≡ stmt_with (roots_in roots.now) (stmt_of s.now.value)) }
+{
+    let s = stmt_with(alloc, roots, s)?;
+    Ok(Box::new(alloc, s)?)
 }
 
 #[cycle(stmts_with)]
@@ -124,10 +131,7 @@ fn else_with(
 {
     match other {
         None => Ok(None),
-        Some(s) => {
-            let s = stmt_with(alloc, roots, s)?;
-            Ok(Some(Box::new(alloc, s)?))
-        }
+        Some(s) => Ok(Some(boxed_with(alloc, roots, s)?)),
     }
 }
 
