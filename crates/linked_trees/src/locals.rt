@@ -25,6 +25,13 @@ fn action_with(alloc: Global, roots: &Roots, a: &Action) -> Result<Action, Alloc
     })
 }
 
+fn key_with(alloc: Global, roots: &Roots, key: &(Expr, Name)) -> Result<(Expr, Name), AllocError>
+    ensures { IfOk result (λ k. key_of k ≡ key_with (roots_in roots.now) (key_of key.now)) }
+{
+    let kind = key.1.copy(alloc)?;
+    Ok((expr_with(alloc, roots, &key.0)?, kind))
+}
+
 fn keys_with(
     alloc: Global,
     roots: &Roots,
@@ -34,9 +41,7 @@ fn keys_with(
 {
     let mut copies = Vec::new(alloc);
     for key in keys {
-        let e = expr_with(alloc, roots, &key.0)?;
-        let kind = key.1.copy(alloc)?;
-        copies.push((e, kind))?;
+        copies.push(key_with(alloc, roots, key)?)?;
     }
     Ok(copies)
 }

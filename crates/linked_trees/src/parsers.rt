@@ -1,15 +1,18 @@
 //! The parser of a linked program: it asks how the frame arrived, takes the telemetry where it stands,
 //! and goes on with the program's own states. All new places are 0.
 
-ghost use Rattle.std.specs.Prelude.{◌≡◌, ◌∷◌, [], IfOk, codes, map};
+ghost use Rattle.std.specs.Prelude.{◌≡◌, ◌∷◌, ◌++◌, [], IfOk, codes, map};
 ghost use Rattle.p4_tree.specs.Tree as p4;
 ghost use Rattle.p4_tree.specs.View.{case_of, expr_of, keyset_of, parser_of, state_of, stmt_of, transition_of};
+ghost use Rattle.p4_tree.specs.declared.statement.Op.TheVariants as op;
 ghost use Rattle.p4_meaning.specs.Scope.{param_at, param_name};
 ghost use Rattle.p4_resolved.specs.Scopes.{roots_in};
+ghost use Rattle.monitor_laws.specs.Trees as monitor;
 ghost use Rattle.linked_halves.specs.ParserStates.{link_cases, own_name, renamed_case, renamed_transition};
 ghost use Rattle.linked_programs.specs.Rewritten.{case_with, keyset_with, length_at, parse_with, transition_with};
 ghost use Rattle.linked_programs.specs.Linked.{first_state, linked_parser, own_state, standard_at, taken_state};
 
+use crate::around::on_packet;
 use crate::lengths::{expr_with, exprs_with, length_at};
 use crate::roots::parser_roots;
 use crate::statements::assign_with;
@@ -18,7 +21,7 @@ use p4_resolved::Roots;
 use p4_tree::{Expr, Keyset, Op, Param, Parser, ParserState, Stmt, Transition, copy_params};
 use p4_values::same_text;
 use port_tests::link_cases;
-use small_trees::{assign, at_path, binary, call, number, one_arg, two_names};
+use small_trees::{assign, at_path, binary, number, two_names};
 use std::alloc::{AllocError, Global};
 
 /// The program's own first state has another name.
@@ -225,6 +228,15 @@ fn first_state(
     new_state(alloc, "start", body, by_port(alloc, roots, linked_ports)?)
 }
 
+/// What the packet's length holds, less so many bytes.
+fn less_length(alloc: Global, roots: &Roots, size: u16) -> Result<Expr, AllocError>
+    ensures { IfOk result (λ e. expr_of e ≡ p4.binary 0 op.Sub
+        (p4.path 0 (standard_at (roots_in roots.now) (codes "packet_length"))) (monitor.number 0 size)) }
+{
+    let whole = whole_length(alloc, roots)?;
+    binary(alloc, Op::Sub, whole, number(0, u128::from(size)))
+}
+
 /// The telemetry, of so many bytes, is taken off the frame, and the length is less by them.
 fn taken_body(
     alloc: Global,
@@ -234,17 +246,11 @@ fn taken_body(
 ) -> Result<Vec<Stmt>, AllocError>
     ensures { IfOk result (λ v. map stmt_of v.items ≡ (taken_state packet.now (roots_in roots.now) size).body) }
 {
-    let header = at_path(two_names(alloc, roots.headers.as_str(), "hydra_tele")?);
-    let path = two_names(alloc, packet, "extract")?;
+    let less = less_length(alloc, roots, size)?;
+    let kept = length_kept(alloc, roots, less)?;
     let mut body = Vec::new(alloc);
-    body.push(call(path, one_arg(alloc, header)?))?;
-    let less = binary(
-        alloc,
-        Op::Sub,
-        whole_length(alloc, roots)?,
-        number(0, u128::from(size)),
-    )?;
-    body.push(length_kept(alloc, roots, less)?)?;
+    body.push(on_packet(alloc, packet, "extract", roots.headers.as_str())?)?;
+    body.push(kept)?;
     Ok(body)
 }
 
@@ -271,26 +277,36 @@ fn first_name(params: &[Param]) -> &str
     }
 }
 
+/// The program's own states go behind those that are there.
+fn add_states(
+    alloc: Global,
+    roots: &Roots,
+    list: &[ParserState],
+    all: &mut Vec<ParserState>,
+) -> Result<(), AllocError>
+    ensures { IfOk result (λ _. map state_of all.new.items
+        ≡ map state_of all.old.items ++ map (own_state (roots_in roots.now)) (map state_of list.now)) }
+{
+    for s in list {
+        all.push(own_state(alloc, roots, s)?)?;
+    }
+    Ok(())
+}
+
 /// How the frame arrived, the telemetry where it stands, and the program's own states.
 fn linked_states(
     alloc: Global,
-    packet: &str,
-    roots: &Roots,
     size: u16,
     linked_ports: &[u16],
-    list: &[ParserState],
+    d: &Parser,
 ) -> Result<Vec<ParserState>, AllocError>
-    ensures { IfOk result (λ v. map state_of v.items
-        ≡ first_state (roots_in roots.now) linked_ports.now
-        ∷ taken_state packet.now (roots_in roots.now) size
-        ∷ map (own_state (roots_in roots.now)) (map state_of list.now)) }
+    ensures { IfOk result (λ v. map state_of v.items ≡ (linked_parser size linked_ports.now (parser_of d.now)).states) }
 {
+    let roots = parser_roots(alloc, d)?;
     let mut states = Vec::new(alloc);
-    states.push(first_state(alloc, roots, linked_ports)?)?;
-    states.push(taken_state(alloc, packet, roots, size)?)?;
-    for s in list {
-        states.push(own_state(alloc, roots, s)?)?;
-    }
+    states.push(first_state(alloc, &roots, linked_ports)?)?;
+    states.push(taken_state(alloc, first_name(&d.params), &roots, size)?)?;
+    add_states(alloc, &roots, &d.states, &mut states)?;
     Ok(states)
 }
 
@@ -303,13 +319,12 @@ pub(crate) fn linked_parser(
 ) -> Result<Parser, AllocError>
     ensures { IfOk result (λ p. parser_of p ≡ linked_parser size linked_ports.now (parser_of d.now)) }
 {
-    let roots = parser_roots(alloc, d)?;
-    let packet = first_name(&d.params);
-    let states = linked_states(alloc, packet, &roots, size, linked_ports, &d.states)?;
+    let name = d.name.copy(alloc)?;
+    let params = copy_params(alloc, &d.params)?;
     Ok(Parser {
         at: d.at,
-        name: d.name.copy(alloc)?,
-        params: copy_params(alloc, &d.params)?,
-        states,
+        name,
+        params,
+        states: linked_states(alloc, size, linked_ports, d)?,
     })
 }
