@@ -18,7 +18,7 @@ use p4_resolved::Roots;
 use p4_tree::{Arg, Expr, Op, PTy, Stmt};
 use port_tests::none_of;
 use small_trees::{
-    assign, at_path, binary, both, call, number, one_arg, one_name, pair, single, three_names,
+    assign, at_path, binary, both, call, number, one_arg, one_name, single, three_names,
     two_args, two_names, when,
 };
 use std::alloc::{AllocError, Global};
@@ -76,8 +76,8 @@ fn header_made(alloc: Global, roots: &Roots, mark: u8) -> Result<Vec<Stmt>, Allo
         (p4.next (p4.assign 0 ((roots_in roots.now).headers ∷ codes "hydra_tele" ∷ mark_name ∷ [])
         (monitor.number 8 mark)) p4.done)) }
 {
-    let made = on_header(alloc, roots, "setValid")?;
-    pair(alloc, made, marked(alloc, roots, mark)?)
+    let made = single(alloc, on_header(alloc, roots, "setValid")?)?;
+    both(made, single(alloc, marked(alloc, roots, mark)?)?)
 }
 
 /// What is done where the port of arrival has no link.
@@ -145,8 +145,8 @@ fn count_one_more(alloc: Global) -> Result<Vec<Stmt>, AllocError>
     ensures { IfOk result (λ v. stmts_of v.items
         ≡ p4.next halves.read_count (p4.next halves.write_count p4.done)) }
 {
-    let read = read_count(alloc)?;
-    pair(alloc, read, write_count(alloc)?)
+    let read = single(alloc, read_count(alloc)?)?;
+    both(read, single(alloc, write_count(alloc)?)?)
 }
 
 fn drop_packet(alloc: Global, roots: &Roots) -> Result<Stmt, AllocError>
@@ -187,8 +187,9 @@ fn flagged(alloc: Global, flag: &str, body: Vec<Stmt>) -> Result<Stmt, AllocErro
 fn end_stmts(alloc: Global, roots: &Roots) -> Result<Vec<Stmt>, AllocError>
     ensures { IfOk result (λ v. stmts_of v.items ≡ end_stmts (roots_in roots.now)) }
 {
-    let rejects = flagged(alloc, "hydra_rejected", reject_stmts(alloc, roots)?)?;
-    pair(alloc, on_header(alloc, roots, "setInvalid")?, rejects)
+    let gone = single(alloc, on_header(alloc, roots, "setInvalid")?)?;
+    let rejects = reject_stmts(alloc, roots)?;
+    both(gone, single(alloc, flagged(alloc, "hydra_rejected", rejects)?)?)
 }
 
 /// At the last hop the header goes, and a rejected packet too.
@@ -220,8 +221,9 @@ fn flags(alloc: Global, roots: &Roots, linked_ports: &[u16]) -> Result<Vec<Stmt>
         (p4.next (p4.assign 0 (last_name ∷ []) (halves.none_of (standard_at (roots_in roots.now) (codes "egress_port")) linked_ports.now)) p4.done)) }
 {
     let first = flag_set(alloc, roots, "hydra_first", "ingress_port", linked_ports)?;
+    let first = single(alloc, first)?;
     let last = flag_set(alloc, roots, "hydra_last", "egress_port", linked_ports)?;
-    pair(alloc, first, last)
+    both(first, single(alloc, last)?)
 }
 
 /// What is done where forwarding does not drop the packet.

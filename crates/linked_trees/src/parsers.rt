@@ -9,7 +9,7 @@ ghost use Rattle.p4_meaning.specs.Scope.{param_at, param_name};
 ghost use Rattle.p4_resolved.specs.Scopes.{roots_in};
 ghost use Rattle.monitor_laws.specs.Trees as monitor;
 ghost use Rattle.linked_halves.specs.ParserStates.{link_cases, own_name, renamed_case, renamed_transition};
-ghost use Rattle.linked_programs.specs.Rewritten.{case_with, keyset_with, length_at, parse_with, transition_with};
+ghost use Rattle.linked_programs.specs.Rewritten.{case_with, keyset_with, parse_with, transition_with};
 ghost use Rattle.linked_programs.specs.Linked.{first_state, linked_parser, own_state, standard_at, taken_state};
 
 use crate::around::on_packet;
@@ -166,13 +166,6 @@ fn whole_length(alloc: Global, roots: &Roots) -> Result<Expr, AllocError>
     Ok(at_path(two_names(alloc, roots.standard.as_str(), "packet_length")?))
 }
 
-/// The length without telemetry is kept.
-fn length_kept(alloc: Global, roots: &Roots, value: Expr) -> Result<Stmt, AllocError>
-    ensures { IfOk result (λ s. stmt_of s ≡ p4.assign 0 (length_at (roots_in roots.now)) (expr_of value)) }
-{
-    Ok(assign(length_at(alloc, roots)?, value))
-}
-
 /// The port by which the frame came says what follows.
 fn by_port(alloc: Global, roots: &Roots, linked_ports: &[u16]) -> Result<Transition, AllocError>
     ensures { IfOk result (λ t. transition_of t
@@ -210,9 +203,9 @@ fn new_state(
 fn first_body(alloc: Global, roots: &Roots) -> Result<Vec<Stmt>, AllocError>
     ensures { IfOk result (λ v. map stmt_of v.items ≡ (first_state (roots_in roots.now) []).body) }
 {
-    let whole = whole_length(alloc, roots)?;
+    let path = length_at(alloc, roots)?;
     let mut body = Vec::new(alloc);
-    body.push(length_kept(alloc, roots, whole)?)?;
+    body.push(assign(path, whole_length(alloc, roots)?))?;
     Ok(body)
 }
 
@@ -246,11 +239,10 @@ fn taken_body(
 ) -> Result<Vec<Stmt>, AllocError>
     ensures { IfOk result (λ v. map stmt_of v.items ≡ (taken_state packet.now (roots_in roots.now) size).body) }
 {
-    let less = less_length(alloc, roots, size)?;
-    let kept = length_kept(alloc, roots, less)?;
     let mut body = Vec::new(alloc);
     body.push(on_packet(alloc, packet, "extract", roots.headers.as_str())?)?;
-    body.push(kept)?;
+    let path = length_at(alloc, roots)?;
+    body.push(assign(path, less_length(alloc, roots, size)?))?;
     Ok(body)
 }
 
