@@ -140,6 +140,16 @@ fn exit_stmts(
     single(alloc, exit_stmt(alloc, roots, linked_ports, exit)?)
 }
 
+/// A control with other statements.
+fn with_apply(alloc: Global, c: &Control, apply: Vec<Stmt>) -> Result<Control, AllocError>
+    ensures { IfOk result (λ k. control_of k
+        ≡ record (control_of c.now) { apply = stmts_of apply.items; }) }
+{
+    let mut copy = c.copy(alloc)?;
+    copy.apply = apply;
+    Ok(copy)
+}
+
 /// Init stands before ingress.
 fn linked_ingress(
     alloc: Global,
@@ -183,9 +193,7 @@ fn linked_deparser(
     ensures { IfOk result (λ k. control_of k
         ≡ control_at (lowered_of parts.now) linked_ports.now linked.is_deparser (control_of c.now)) }
 {
-    let copy = c.copy(alloc)?;
-    let apply = deparser_apply(alloc, c)?;
-    control_with(alloc, c, copy.locals, apply)
+    with_apply(alloc, c, deparser_apply(alloc, c)?)
 }
 
 fn linked_other(
@@ -198,9 +206,7 @@ fn linked_other(
         ≡ control_at (lowered_of parts.now) linked_ports.now linked.is_other (control_of c.now)) }
 {
     let roots = control_roots(alloc, c)?;
-    let copy = c.copy(alloc)?;
-    let apply = stmts_with(alloc, &roots, &c.apply)?;
-    control_with(alloc, c, copy.locals, apply)
+    with_apply(alloc, c, stmts_with(alloc, &roots, &c.apply)?)
 }
 
 /// A control of a linked program.

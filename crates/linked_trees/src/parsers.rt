@@ -285,6 +285,23 @@ fn add_states(
     Ok(())
 }
 
+/// How the frame arrived, and the telemetry where it stands.
+fn new_states(
+    alloc: Global,
+    packet: &str,
+    roots: &Roots,
+    size: u16,
+    linked_ports: &[u16],
+) -> Result<Vec<ParserState>, AllocError>
+    ensures { IfOk result (λ v. map state_of v.items ≡ first_state (roots_in roots.now) linked_ports.now
+        ∷ taken_state packet.now (roots_in roots.now) size ∷ []) }
+{
+    let mut states = Vec::new(alloc);
+    states.push(first_state(alloc, roots, linked_ports)?)?;
+    states.push(taken_state(alloc, packet, roots, size)?)?;
+    Ok(states)
+}
+
 /// How the frame arrived, the telemetry where it stands, and the program's own states.
 fn linked_states(
     alloc: Global,
@@ -295,9 +312,8 @@ fn linked_states(
     ensures { IfOk result (λ v. map state_of v.items ≡ (linked_parser size linked_ports.now (parser_of d.now)).states) }
 {
     let roots = parser_roots(alloc, d)?;
-    let mut states = Vec::new(alloc);
-    states.push(first_state(alloc, &roots, linked_ports)?)?;
-    states.push(taken_state(alloc, first_name(&d.params), &roots, size)?)?;
+    let packet = first_name(&d.params);
+    let mut states = new_states(alloc, packet, &roots, size, linked_ports)?;
     add_states(alloc, &roots, &d.states, &mut states)?;
     Ok(states)
 }

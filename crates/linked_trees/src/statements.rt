@@ -104,21 +104,13 @@ fn stmt_with(alloc: Global, roots: &Roots, s: &Stmt) -> Result<Stmt, AllocError>
         Stmt::Var(at, ty, name, start) => var_with(alloc, roots, *at, ty, name, start),
         Stmt::Assign(at, path, e) => assign_with(alloc, roots, *at, path, e),
         Stmt::If(at, e, a, b) => {
-            let a = boxed_with(alloc, roots, a)?;
+            let a = Box::new(alloc, stmt_with(alloc, roots, a)?)?;
             choice_with(alloc, roots, *at, e, a, else_with(alloc, roots, b)?)
         }
         Stmt::Return(at) => Ok(Stmt::Return(*at)),
         Stmt::Exit(at) => Ok(Stmt::Exit(*at)),
         Stmt::Call(at, path, args) => call_with(alloc, roots, *at, path, args),
     }
-}
-
-#[cycle(stmts_with)]
-fn boxed_with(alloc: Global, roots: &Roots, s: &Box<Stmt>) -> Result<Box<Stmt>, AllocError>
-    ensures { IfOk result (λ b. stmt_of b.value ≡ stmt_with (roots_in roots.now) (stmt_of s.now.value)) }
-{
-    let s = stmt_with(alloc, roots, s)?;
-    Ok(Box::new(alloc, s)?)
 }
 
 #[cycle(stmts_with)]
@@ -131,7 +123,10 @@ fn else_with(
 {
     match other {
         None => Ok(None),
-        Some(s) => Ok(Some(boxed_with(alloc, roots, s)?)),
+        Some(s) => {
+            let s = stmt_with(alloc, roots, s)?;
+            Ok(Some(Box::new(alloc, s)?))
+        }
     }
 }
 
