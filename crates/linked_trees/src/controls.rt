@@ -1,15 +1,15 @@
 //! The controls of a linked program.
 
-ghost use Rattle.std.specs.Prelude.{◌≡◌, ◌∷◌, [], IfOk, codes, map};
+ghost use Rattle.std.specs.Prelude.{◌≡◌, IfOk, map};
 ghost use Rattle.p4_tree.specs.Tree as p4;
 ghost use Rattle.p4_tree.specs.View.{control_of, local_of, stmt_of, stmts_of};
 ghost use Rattle.p4_resolved.specs.Scopes.{roots_in};
 ghost use Rattle.linked_programs.specs.Rewritten.{stmts_with};
 ghost use Rattle.linked_programs.specs.Linked as linked;
-ghost use Rattle.linked_programs.specs.Linked.{control_at, emit_call, place_in};
+ghost use Rattle.linked_programs.specs.Linked.{control_at, emit_call, entry_stmt, exit_stmt, place_in};
 ghost use Rattle.linked_trees.specs.View.{lowered_of, place_of};
 
-use crate::around::{entry_stmt, exit_stmt};
+use crate::around::{entry_stmt, exit_stmt, on_packet};
 use crate::declarations::Parts;
 use crate::locals::locals_with;
 use crate::roots::control_roots;
@@ -18,7 +18,7 @@ use lex_text::Name;
 use p4_resolved::{Roots, named_in};
 use p4_tree::{Control, Local, Stmt, copy_params};
 use p4_values::same_text;
-use small_trees::{at_path, both, call, one_arg, single, two_names};
+use small_trees::{both, single};
 use std::alloc::{AllocError, Global};
 
 /// Where a control stands in `main`.
@@ -44,16 +44,6 @@ pub(crate) fn place_in(main: &[Name], x: &Name) -> Place
     }
 }
 
-/// The call that writes the telemetry header.
-fn emit_call(alloc: Global, packet: &str, headers: &str) -> Result<Stmt, AllocError>
-    ensures { IfOk result (λ s. stmt_of s ≡ p4.call 0 (packet.now ∷ codes "emit" ∷ [])
-        (p4.one 0 (p4.path 0 (headers.now ∷ codes "hydra_tele" ∷ [])) ∷ [])) }
-{
-    let path = two_names(alloc, packet, "emit")?;
-    let header = at_path(two_names(alloc, headers, "hydra_tele")?);
-    Ok(call(path, one_arg(alloc, header)?))
-}
-
 /// Copies of statements.
 fn copy_stmts(alloc: Global, list: &[Stmt]) -> Result<Vec<Stmt>, AllocError>
     ensures { IfOk result (λ v. stmts_of v.items ≡ stmts_of list.now) }
@@ -65,14 +55,22 @@ fn copy_stmts(alloc: Global, list: &[Stmt]) -> Result<Vec<Stmt>, AllocError>
     Ok(copies)
 }
 
+/// The telemetry header is written.
+fn emit_stmts(alloc: Global, c: &Control) -> Result<Vec<Stmt>, AllocError>
+    ensures { IfOk result (λ v. stmts_of v.items ≡ p4.next (emit_call (control_of c.now)) p4.done) }
+{
+    let roots = control_roots(alloc, c)?;
+    let packet = roots.headers.as_str();
+    single(alloc, on_packet(alloc, packet, "emit", roots.metadata.as_str())?)
+}
+
 /// The telemetry header is written first.
 fn deparser_apply(alloc: Global, c: &Control) -> Result<Vec<Stmt>, AllocError>
     ensures { IfOk result (λ v. stmts_of v.items
         ≡ p4.next (emit_call (control_of c.now)) (stmts_of c.now.apply.items)) }
 {
-    let roots = control_roots(alloc, c)?;
-    let first = emit_call(alloc, roots.headers.as_str(), roots.metadata.as_str())?;
-    both(single(alloc, first)?, copy_stmts(alloc, &c.apply)?)
+    let first = emit_stmts(alloc, c)?;
+    both(first, copy_stmts(alloc, &c.apply)?)
 }
 
 /// Some statements and then others, with reads of the packet's length rewritten.
@@ -114,6 +112,44 @@ fn control_with(
     })
 }
 
+/// What stands before ingress.
+fn entry_stmts(
+    alloc: Global,
+    parts: &Parts,
+    roots: &Roots,
+    linked_ports: &[u16],
+) -> Result<Vec<Stmt>, AllocError>
+    ensures { IfOk result (λ v. stmts_of v.items ≡ p4.next (entry_stmt (roots_in roots.now)
+        linked_ports.now parts.now.mark (stmts_of parts.now.entry.items)) p4.done) }
+{
+    let entry = copy_stmts(alloc, &parts.entry)?;
+    single(alloc, entry_stmt(alloc, roots, linked_ports, parts.mark, entry)?)
+}
+
+/// What stands behind egress.
+fn exit_stmts(
+    alloc: Global,
+    parts: &Parts,
+    roots: &Roots,
+    linked_ports: &[u16],
+) -> Result<Vec<Stmt>, AllocError>
+    ensures { IfOk result (λ v. stmts_of v.items ≡ p4.next (exit_stmt (roots_in roots.now)
+        linked_ports.now (stmts_of parts.now.exit.items)) p4.done) }
+{
+    let exit = copy_stmts(alloc, &parts.exit)?;
+    single(alloc, exit_stmt(alloc, roots, linked_ports, exit)?)
+}
+
+/// A control with other statements.
+fn with_apply(alloc: Global, c: &Control, apply: Vec<Stmt>) -> Result<Control, AllocError>
+    ensures { IfOk result (λ k. control_of k
+        ≡ record (control_of c.now) { apply = stmts_of apply.items; }) }
+{
+    let mut copy = c.copy(alloc)?;
+    copy.apply = apply;
+    Ok(copy)
+}
+
 /// Init stands before ingress.
 fn linked_ingress(
     alloc: Global,
@@ -125,9 +161,7 @@ fn linked_ingress(
         ≡ control_at (lowered_of parts.now) linked_ports.now linked.is_ingress (control_of c.now)) }
 {
     let roots = control_roots(alloc, c)?;
-    let entry = copy_stmts(alloc, &parts.entry)?;
-    let first = entry_stmt(alloc, &roots, linked_ports, parts.mark, entry)?;
-    let first = single(alloc, first)?;
+    let first = entry_stmts(alloc, parts, &roots, linked_ports)?;
     let apply = both_with(alloc, &roots, &first, &c.apply)?;
     let locals = locals_with(alloc, &roots, &parts.entry_locals, &c.locals)?;
     control_with(alloc, c, locals, apply)
@@ -144,9 +178,7 @@ fn linked_egress(
         ≡ control_at (lowered_of parts.now) linked_ports.now linked.is_egress (control_of c.now)) }
 {
     let roots = control_roots(alloc, c)?;
-    let exit = copy_stmts(alloc, &parts.exit)?;
-    let last = exit_stmt(alloc, &roots, linked_ports, exit)?;
-    let last = single(alloc, last)?;
+    let last = exit_stmts(alloc, parts, &roots, linked_ports)?;
     let apply = both_with(alloc, &roots, &c.apply, &last)?;
     let locals = locals_with(alloc, &roots, &parts.exit_locals, &c.locals)?;
     control_with(alloc, c, locals, apply)
@@ -161,9 +193,7 @@ fn linked_deparser(
     ensures { IfOk result (λ k. control_of k
         ≡ control_at (lowered_of parts.now) linked_ports.now linked.is_deparser (control_of c.now)) }
 {
-    let copy = c.copy(alloc)?;
-    let apply = deparser_apply(alloc, c)?;
-    control_with(alloc, c, copy.locals, apply)
+    with_apply(alloc, c, deparser_apply(alloc, c)?)
 }
 
 fn linked_other(
@@ -176,9 +206,7 @@ fn linked_other(
         ≡ control_at (lowered_of parts.now) linked_ports.now linked.is_other (control_of c.now)) }
 {
     let roots = control_roots(alloc, c)?;
-    let copy = c.copy(alloc)?;
-    let apply = stmts_with(alloc, &roots, &c.apply)?;
-    control_with(alloc, c, copy.locals, apply)
+    with_apply(alloc, c, stmts_with(alloc, &roots, &c.apply)?)
 }
 
 /// A control of a linked program.

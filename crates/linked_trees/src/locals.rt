@@ -1,7 +1,9 @@
 //! What a control declares, with reads of the packet's length rewritten.
 
 ghost use Rattle.std.specs.Prelude.{◌≡◌, ◌++◌, IfOk, map};
-ghost use Rattle.p4_tree.specs.View.{action_of, key_of, local_of, table_of};
+ghost use Rattle.std.specs.Option.{option_map};
+ghost use Rattle.p4_tree.specs.Tree as p4;
+ghost use Rattle.p4_tree.specs.View.{action_of, expr_of, key_of, local_of, table_of};
 ghost use Rattle.p4_resolved.specs.Scopes.{roots_in};
 ghost use Rattle.linked_programs.specs.Rewritten.{action_with, key_with, local_with, table_with};
 
@@ -9,7 +11,7 @@ use crate::lengths::{expr_with, start_with};
 use crate::statements::stmts_with;
 use lex_text::Name;
 use p4_resolved::Roots;
-use p4_tree::{Action, Expr, Local, Table, copy_fields};
+use p4_tree::{Action, Expr, Local, PTy, Table, copy_fields};
 use std::alloc::{AllocError, Global};
 
 fn action_with(alloc: Global, roots: &Roots, a: &Action) -> Result<Action, AllocError>
@@ -23,6 +25,13 @@ fn action_with(alloc: Global, roots: &Roots, a: &Action) -> Result<Action, Alloc
     })
 }
 
+fn key_with(alloc: Global, roots: &Roots, key: &(Expr, Name)) -> Result<(Expr, Name), AllocError>
+    ensures { IfOk result (λ k. key_of k ≡ key_with (roots_in roots.now) (key_of key.now)) }
+{
+    let kind = key.1.copy(alloc)?;
+    Ok((expr_with(alloc, roots, &key.0)?, kind))
+}
+
 fn keys_with(
     alloc: Global,
     roots: &Roots,
@@ -32,9 +41,7 @@ fn keys_with(
 {
     let mut copies = Vec::new(alloc);
     for key in keys {
-        let e = expr_with(alloc, roots, &key.0)?;
-        let kind = key.1.copy(alloc)?;
-        copies.push((e, kind))?;
+        copies.push(key_with(alloc, roots, key)?)?;
     }
     Ok(copies)
 }
@@ -48,6 +55,22 @@ fn table_with(alloc: Global, roots: &Roots, t: &Table) -> Result<Table, AllocErr
     Ok(copy)
 }
 
+fn var_with(
+    alloc: Global,
+    roots: &Roots,
+    at: u32,
+    ty: &PTy,
+    name: &Name,
+    start: &Option<Expr>,
+) -> Result<Local, AllocError>
+    ensures { IfOk result (λ l. local_of l ≡ local_with (roots_in roots.now)
+        (p4.local_var at ty.now name.now (option_map expr_of start.now))) }
+{
+    let ty = ty.copy(alloc)?;
+    let name = name.copy(alloc)?;
+    Ok(Local::Var(at, ty, name, start_with(alloc, roots, start)?))
+}
+
 fn local_with(alloc: Global, roots: &Roots, l: &Local) -> Result<Local, AllocError>
     ensures { IfOk result (λ r. local_of r ≡ local_with (roots_in roots.now) (local_of l.now)) }
 {
@@ -56,12 +79,7 @@ fn local_with(alloc: Global, roots: &Roots, l: &Local) -> Result<Local, AllocErr
         Local::Tab(at, t) => Ok(Local::Tab(*at, table_with(alloc, roots, t)?)),
         Local::Reg(_, _) => l.copy(alloc),
         Local::Const(_, _, _, _) => l.copy(alloc),
-        Local::Var(at, ty, name, start) => {
-            let ty = ty.copy(alloc)?;
-            let name = name.copy(alloc)?;
-            let start = start_with(alloc, roots, start)?;
-            Ok(Local::Var(*at, ty, name, start))
-        }
+        Local::Var(at, ty, name, start) => var_with(alloc, roots, *at, ty, name, start),
     }
 }
 

@@ -1,13 +1,16 @@
 //! Statements whose reads of the packet's length are rewritten. What a statement writes to stays.
 
 ghost use Rattle.std.specs.Prelude.{◌≡◌, IfOk, map};
-ghost use Rattle.p4_tree.specs.View.{arg_of, else_of, stmt_of, stmts_of};
+ghost use Rattle.std.specs.Option.{option_map};
+ghost use Rattle.p4_tree.specs.Tree as p4;
+ghost use Rattle.p4_tree.specs.View.{arg_of, else_of, expr_of, stmt_of, stmts_of};
 ghost use Rattle.p4_resolved.specs.Scopes.{roots_in};
-ghost use Rattle.linked_programs.specs.Rewritten.{arg_with, else_with, stmt_with, stmts_with};
+ghost use Rattle.linked_programs.specs.Rewritten.{arg_with, else_with, expr_with, stmt_with, stmts_with};
 
 use crate::lengths::{expr_with, exprs_with, start_with};
+use lex_text::Name;
 use p4_resolved::Roots;
-use p4_tree::{Arg, Stmt};
+use p4_tree::{Arg, Expr, PTy, Stmt};
 use p4_values::copy_path;
 use std::alloc::{AllocError, Global};
 
@@ -30,6 +33,66 @@ fn args_with(alloc: Global, roots: &Roots, list: &[Arg]) -> Result<Vec<Arg>, All
     Ok(copies)
 }
 
+fn var_with(
+    alloc: Global,
+    roots: &Roots,
+    at: u32,
+    ty: &PTy,
+    name: &Name,
+    start: &Option<Expr>,
+) -> Result<Stmt, AllocError>
+    ensures { IfOk result (λ s. stmt_of s ≡ stmt_with (roots_in roots.now)
+        (p4.var at ty.now name.now (option_map expr_of start.now))) }
+{
+    let ty = ty.copy(alloc)?;
+    let name = name.copy(alloc)?;
+    Ok(Stmt::Var(at, ty, name, start_with(alloc, roots, start)?))
+}
+
+/// What is assigned is rewritten.
+pub(crate) fn assign_with(
+    alloc: Global,
+    roots: &Roots,
+    at: u32,
+    path: &[Name],
+    e: &Expr,
+) -> Result<Stmt, AllocError>
+    ensures { IfOk result (λ s. stmt_of s
+        ≡ p4.assign at path.now (expr_with (roots_in roots.now) (expr_of e.now))) }
+{
+    let path = copy_path(alloc, path)?;
+    Ok(Stmt::Assign(at, path, expr_with(alloc, roots, e)?))
+}
+
+fn call_with(
+    alloc: Global,
+    roots: &Roots,
+    at: u32,
+    path: &[Name],
+    args: &[Arg],
+) -> Result<Stmt, AllocError>
+    ensures { IfOk result (λ s. stmt_of s
+        ≡ stmt_with (roots_in roots.now) (p4.call at path.now (map arg_of args.now))) }
+{
+    let path = copy_path(alloc, path)?;
+    Ok(Stmt::Call(at, path, args_with(alloc, roots, args)?))
+}
+
+/// The test is rewritten, and the branches are given.
+fn choice_with(
+    alloc: Global,
+    roots: &Roots,
+    at: u32,
+    test: &Expr,
+    one: Box<Stmt>,
+    other: Option<Box<Stmt>>,
+) -> Result<Stmt, AllocError>
+    ensures { IfOk result (λ s. stmt_of s ≡ p4.choice at
+        (expr_with (roots_in roots.now) (expr_of test.now)) (stmt_of one.value) (else_of other)) }
+{
+    Ok(Stmt::If(at, expr_with(alloc, roots, test)?, one, other))
+}
+
 /// A statement.
 #[cycle(stmts_with)]
 fn stmt_with(alloc: Global, roots: &Roots, s: &Stmt) -> Result<Stmt, AllocError>
@@ -38,30 +101,15 @@ fn stmt_with(alloc: Global, roots: &Roots, s: &Stmt) -> Result<Stmt, AllocError>
     match s {
         Stmt::Nothing(at) => Ok(Stmt::Nothing(*at)),
         Stmt::Block(at, body) => Ok(Stmt::Block(*at, stmts_with(alloc, roots, body)?)),
-        Stmt::Var(at, ty, name, start) => {
-            let ty = ty.copy(alloc)?;
-            let name = name.copy(alloc)?;
-            let start = start_with(alloc, roots, start)?;
-            Ok(Stmt::Var(*at, ty, name, start))
-        }
-        Stmt::Assign(at, path, e) => {
-            let path = copy_path(alloc, path)?;
-            let e = expr_with(alloc, roots, e)?;
-            Ok(Stmt::Assign(*at, path, e))
-        }
+        Stmt::Var(at, ty, name, start) => var_with(alloc, roots, *at, ty, name, start),
+        Stmt::Assign(at, path, e) => assign_with(alloc, roots, *at, path, e),
         Stmt::If(at, e, a, b) => {
-            let e = expr_with(alloc, roots, e)?;
             let a = Box::new(alloc, stmt_with(alloc, roots, a)?)?;
-            let b = else_with(alloc, roots, b)?;
-            Ok(Stmt::If(*at, e, a, b))
+            choice_with(alloc, roots, *at, e, a, else_with(alloc, roots, b)?)
         }
         Stmt::Return(at) => Ok(Stmt::Return(*at)),
         Stmt::Exit(at) => Ok(Stmt::Exit(*at)),
-        Stmt::Call(at, path, args) => {
-            let path = copy_path(alloc, path)?;
-            let args = args_with(alloc, roots, args)?;
-            Ok(Stmt::Call(*at, path, args))
-        }
+        Stmt::Call(at, path, args) => call_with(alloc, roots, *at, path, args),
     }
 }
 

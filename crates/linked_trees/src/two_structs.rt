@@ -1,6 +1,7 @@
 //! A program whose headers and metadata are one struct, with two.
 
-ghost use Rattle.std.specs.Prelude.{◌≡◌, ◌∷◌, [], IfOk, if◌then◌else◌, map};
+ghost use Rattle.std.specs.Prelude.{◌≡◌, ◌∷◌, [], IfOk, codes, if◌then◌else◌, map};
+ghost use Rattle.p4_tree.specs.Tree as p4;
 ghost use Rattle.p4_tree.specs.View.{control_of, parser_of, program_of, top_of};
 ghost use Rattle.parted_programs.specs.Parted.{control_parted, params_parted, parted, parser_parted, retyped, top_parted, tops_parted, with_new, with_two};
 ghost use Rattle.linked_trees.specs.View.{place_of};
@@ -84,12 +85,18 @@ fn top_parted(alloc: Global, main: &[Name], top: &Top) -> Result<Top, AllocError
     }
 }
 
+fn new_struct(alloc: Global) -> Result<Top, AllocError>
+    ensures { IfOk result (λ t. top_of t ≡ p4.struct_type 0 (codes "hydra_x_metadata") []) }
+{
+    Ok(Top::Struct(0, Name::new(alloc, NEW_METADATA)?, Vec::new(alloc)))
+}
+
 /// The new struct stands in front.
 fn tops_parted(alloc: Global, main: &[Name], list: &[Top]) -> Result<Vec<Top>, AllocError>
     ensures { IfOk result (λ v. map top_of v.items ≡ tops_parted main.now (map top_of list.now)) }
 {
     let mut tops = Vec::new(alloc);
-    tops.push(Top::Struct(0, Name::new(alloc, NEW_METADATA)?, Vec::new(alloc)))?;
+    tops.push(new_struct(alloc)?)?;
     for top in list {
         tops.push(top_parted(alloc, main, top)?)?;
     }

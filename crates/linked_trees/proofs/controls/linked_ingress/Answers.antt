@@ -17,17 +17,14 @@ returns c =
     let own = control_of c.args.c.now in
     let locals : map local_of c.in_ok-locals.locals.items ≡ map (local_with R) (map local_of c.args.parts.now.entry_locals.items ++ own.locals) =
     c.in_ok-locals.ensures
-    ∙ ap (λ (ls : List code_local.Local). map (local_with R) (map local_of ls ++ map local_of c.deref-5.result.now)) c.deref-4.ensures.value
-    ∙ ap (λ (ls : List code_local.Local). map (local_with R) (map local_of c.args.parts.now.entry_locals.items ++ map local_of ls)) c.deref-5.ensures.value in
+    ∙ ap (λ (ls : List code_local.Local). map (local_with R) (map local_of ls ++ map local_of c.deref-4.result.now)) c.deref-3.ensures.value
+    ∙ ap (λ (ls : List code_local.Local). map (local_with R) (map local_of c.args.parts.now.entry_locals.items ++ map local_of ls)) c.deref-4.ensures.value in
     let mark = c.args.parts.now.mark in
-    let first : stmts_of c.in_ok-first-2.first.items ≡ next (entry_stmt R links mark (stmts_of c.args.parts.now.entry.items)) done =
-    c.in_ok-first-2.ensures
-    ∙ ap (λ (s : Stmt). next s done)
-    (c.in_ok-first.ensures ∙ ap (λ (ss : Stmts). entry_stmt R links mark ss) (c.in_ok-entry.ensures ∙ ap (λ (ss : List code_stmt.Stmt). stmts_of ss) c.deref.ensures.value)) in
+    let first : stmts_of c.in_ok-first.first.items ≡ next (entry_stmt R links mark (stmts_of c.args.parts.now.entry.items)) done = c.in_ok-first.ensures in
     let apply : stmts_of c.in_ok-apply.apply.items ≡ stmts_with R (next (entry_stmt R links mark (stmts_of c.args.parts.now.entry.items)) own.apply) =
     c.in_ok-apply.ensures
-    ∙ ap (λ (ss : List code_stmt.Stmt). stmts_with R (and_then (stmts_of ss) (stmts_of c.deref-3.result.now))) c.deref-2.ensures.value
-    ∙ ap (λ (ss : List code_stmt.Stmt). stmts_with R (and_then (stmts_of c.in_ok-first-2.first.items) (stmts_of ss))) c.deref-3.ensures.value
+    ∙ ap (λ (ss : List code_stmt.Stmt). stmts_with R (and_then (stmts_of ss) (stmts_of c.deref-2.result.now))) c.deref.ensures.value
+    ∙ ap (λ (ss : List code_stmt.Stmt). stmts_with R (and_then (stmts_of c.in_ok-first.first.items) (stmts_of ss))) c.deref-2.ensures.value
     ∙ ap (λ (ss : Stmts). stmts_with R (and_then ss own.apply)) first in
     subst (λ (k : Control). IfOk c.control_with.result (λ q. control_of q ≡ k))
     (ingress_built (lowered_of c.args.parts.now) links own R c.in_ok-roots.ensures (map local_of c.in_ok-locals.locals.items) (stmts_of c.in_ok-apply.apply.items) locals apply)
