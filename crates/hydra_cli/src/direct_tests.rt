@@ -248,7 +248,14 @@ fn evaluated(alloc: Global, row: &Row<'_>) -> Result<Said, Fail> {
         rejected: 0,
     };
     for packet in 0..row.packets {
-        pass(alloc, typed.property(), &contents, &mut sensors, &mut said, packet)?;
+        pass(
+            alloc,
+            typed.property(),
+            &contents,
+            &mut sensors,
+            &mut said,
+            packet,
+        )?;
     }
     Ok(said)
 }
@@ -292,10 +299,14 @@ fn ran(alloc: Global, row: &Row<'_>) -> Result<(Status, MemStore, MemSink), Allo
 fn wanted(alloc: Global, row: &Row<'_>, said: &Said) -> Result<String, AllocError> {
     let packets = row.packets;
     let Said {
-        reports, rejected, ..
+        reports,
+        rejected,
+        ..
     } = said;
     let sent = packets.wrapping_sub(*rejected);
-    format!(in alloc; "Done packets {packets}/sent {sent}/dropped 0/rejected {rejected}/lost 0/reports {reports}/")
+    format!(in alloc;
+        "Done packets {packets}/sent {sent}/dropped 0/rejected {rejected}/lost 0/reports {reports}/"
+    )
 }
 
 /// Whether `run` says what the evaluator says.
@@ -303,8 +314,10 @@ fn agree(alloc: Global, row: &Row<'_>) -> Result<bool, Fail> {
     let said = evaluated(alloc, row)?;
     let wanted = wanted(alloc, row, &said)?;
     let (status, store, out) = ran(alloc, row)?;
-    Ok(is_answer(alloc, status, out.taken(), &wanted)?
-        && store.file("o.reports.txt") == Some(said.lines.as_bytes()))
+    Ok(
+        is_answer(alloc, status, out.taken(), &wanted)?
+            && store.file("o.reports.txt") == Some(said.lines.as_bytes()),
+    )
 }
 
 #[test]

@@ -17,12 +17,7 @@ use run_job::load_run;
 use std::alloc::{AllocError, Global};
 
 /// The files of the case, and what is linked for it.
-pub fn read_run<S: Store>(
-    alloc: Global,
-    store: &mut S,
-    case: &str,
-    out: &str,
-) -> Result<Job, Stop>
+pub fn read_run<S: Store>(alloc: Global, store: &mut S, case: &str, out: &str) -> Result<Job, Stop>
     ensures follows { Follows (course_of (run case.now out.now)) job_of (S.state store.old) (S.state store.new) result }
     ensures read { IfOk result IsRead }
 {

@@ -221,7 +221,8 @@ fn rows_are_answered(rt: HostRuntime) -> Result<(), Fail> {
 }
 
 /// A row of a packet that passes two switches, for what comes when calls fail.
-const PASSES: &str = "line2 @ wire @ - @ , \"control\": \"k\", \"schedule\": \"e\" @ [] @ {} @ 0102 @ {} {} {}";
+const PASSES: &str =
+    "line2 @ wire @ - @ , \"control\": \"k\", \"schedule\": \"e\" @ [] @ {} @ 0102 @ {} {} {}";
 
 /// Each read and each write fails in turn, and then the sink.
 #[test]

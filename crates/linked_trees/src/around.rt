@@ -18,8 +18,8 @@ use p4_resolved::Roots;
 use p4_tree::{Arg, Expr, Op, PTy, Stmt};
 use port_tests::none_of;
 use small_trees::{
-    assign, at_path, binary, both, call, number, one_arg, one_name, single, three_names,
-    two_args, two_names, when,
+    assign, at_path, binary, both, call, number, one_arg, one_name, single, three_names, two_args,
+    two_names, when,
 };
 use std::alloc::{AllocError, Global};
 
@@ -189,14 +189,20 @@ fn end_stmts(alloc: Global, roots: &Roots) -> Result<Vec<Stmt>, AllocError>
 {
     let gone = single(alloc, on_header(alloc, roots, "setInvalid")?)?;
     let rejects = reject_stmts(alloc, roots)?;
-    both(gone, single(alloc, flagged(alloc, "hydra_rejected", rejects)?)?)
+    both(
+        gone,
+        single(alloc, flagged(alloc, "hydra_rejected", rejects)?)?,
+    )
 }
 
 /// At the last hop the header goes, and a rejected packet too.
 fn last_test(alloc: Global, roots: &Roots) -> Result<Vec<Stmt>, AllocError>
     ensures { IfOk result (λ v. stmts_of v.items ≡ last_test (roots_in roots.now)) }
 {
-    single(alloc, flagged(alloc, "hydra_last", end_stmts(alloc, roots)?)?)
+    single(
+        alloc,
+        flagged(alloc, "hydra_last", end_stmts(alloc, roots)?)?,
+    )
 }
 
 /// A flag says whether a port has no link.

@@ -61,7 +61,10 @@ fn emit_stmts(alloc: Global, c: &Control) -> Result<Vec<Stmt>, AllocError>
 {
     let roots = control_roots(alloc, c)?;
     let packet = roots.headers.as_str();
-    single(alloc, on_packet(alloc, packet, "emit", roots.metadata.as_str())?)
+    single(
+        alloc,
+        on_packet(alloc, packet, "emit", roots.metadata.as_str())?,
+    )
 }
 
 /// The telemetry header is written first.
@@ -123,7 +126,10 @@ fn entry_stmts(
         linked_ports.now parts.now.mark (stmts_of parts.now.entry.items)) p4.done) }
 {
     let entry = copy_stmts(alloc, &parts.entry)?;
-    single(alloc, entry_stmt(alloc, roots, linked_ports, parts.mark, entry)?)
+    single(
+        alloc,
+        entry_stmt(alloc, roots, linked_ports, parts.mark, entry)?,
+    )
 }
 
 /// What stands behind egress.
@@ -143,7 +149,7 @@ fn exit_stmts(
 /// A control with other statements.
 fn with_apply(alloc: Global, c: &Control, apply: Vec<Stmt>) -> Result<Control, AllocError>
     ensures { IfOk result (λ k. control_of k
-        ≡ record (control_of c.now) { apply = stmts_of apply.items; }) }
+        ≡ record (control_of c.now) { apply = stmts_of apply.items }) }
 {
     let mut copy = c.copy(alloc)?;
     copy.apply = apply;

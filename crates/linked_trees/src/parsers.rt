@@ -256,7 +256,12 @@ fn taken_state(
     ensures { IfOk result (λ s. state_of s ≡ taken_state packet.now (roots_in roots.now) size) }
 {
     let next = Transition::To(0, Name::new(alloc, "hydra_start")?);
-    new_state(alloc, "hydra_taken", taken_body(alloc, packet, roots, size)?, next)
+    new_state(
+        alloc,
+        "hydra_taken",
+        taken_body(alloc, packet, roots, size)?,
+        next,
+    )
 }
 
 /// The name of the first parameter.
