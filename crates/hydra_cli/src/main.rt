@@ -4,7 +4,8 @@
 //! `main` calls it over the system's files and standard output: `run CASE OUT` links a property into a
 //! program and runs what is linked at every switch of a network, over captures; `wire PROPERTY FRAME OUT`
 //! does so with the built-in program, on three switches and for one raw frame; `forward CASE OUT` runs
-//! the program without a property; and `check PROPERTY` reads a property and says what it needs.
+//! the program without a property; `link CASE OUT` links and runs nothing; `load N OUT` makes a case from
+//! a number, writes it and runs it; and `check PROPERTY` reads a property and says what it needs.
 //!
 //! Not promised: what the system's files and standard output hold.
 #![tactic(auto)]
@@ -21,6 +22,8 @@ mod forward;
 #[cfg(test)]
 mod forward_tests;
 mod job;
+mod link;
+mod load;
 mod run;
 #[cfg(test)]
 mod run_tests;

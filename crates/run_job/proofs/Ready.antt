@@ -18,7 +18,7 @@ use Rattle.tele_layout.specs.Layouts.{IsLayoutOf}
 use Rattle.case_file.specs.Case.{Case}
 use Rattle.table_file.specs.Laws.{AreOf}
 use Rattle.linked_starts.specs.Starts.{found_row}
-use Rattle.linked_properties.specs.Linked.{CanBeLinked}
+use Rattle.linked_properties.specs.Linked.{CanBeLinked, AreTextNames}
 use Rattle.program_linker.specs.Linked.{AreLinked}
 use Rattle.read_contents.specs.Fits.{IsFitEvent}
 use Rattle.read_contents.specs.Laws.{FitSwitches, FilesFit, SchedulesFit}
@@ -33,8 +33,9 @@ use Rattle.case_course.proofs.Read.{ground_is_placed, packets_are_few, packets_a
 use Rattle.linked_jobs.specs.Job.{Job, IsReady}
 use Rattle.linked_jobs.specs.Views.{job_of, IsLinkedJob}
 use Rattle.linked_jobs.specs.declared.job.LinkedJob.{LinkedJob}
-use Rattle.run_job.specs.Course.{Base, Rest, Task, around, property_name, base_course, rest_course, task_from, run_course}
-use Rattle.run_job.specs.Views.{task_of}
+use Rattle.run_job.specs.Course.{Base, Rest, Task, around, property_name, base_course, linked_course, rest_course, task_from, run_course}
+use Rattle.run_job.specs.Views.{IsLinkedBase, base_of, task_of}
+use Rattle.run_job.specs.declared.load.Base as code
 use Rattle.run_job.proofs.Given.{IsFitProperty, property_is_fit, ground_is_fit}
 
 -- ---- before the entries
@@ -59,6 +60,20 @@ based plain words name c b small some (p, a, (g, h, (l, links, is))) =
       places = ground_is_placed name c g h;
       linked = links.linked;
     }) some
+
+-- what was linked for a case is a linker's answer
+module _ (plain : TextsArePlain) (words : TextsDeclareWords) where
+  is_linked : (name : List ℕ) (b : Base) → 0 < length b.host.network.names → (linked_course name).may b → AreTextNames b.property.decls × AreLinked b.host.program b.property b.host.network b.linked.programs (map found_row b.linked.rows)
+  unfolding linked_course and_then
+  is_linked name b some (d, a, (c, is, base)) =
+      let on = based plain words name c b (room_is_small true d c is) some base in
+      (on.property.names, on.linked)
+
+  pub linked_base : (name : List ℕ) (s t : StoreState) (b : code.Base) → Follows (linked_course name) base_of s t (Ok b) → 0 < length b.site.network.names → length b.site.network.names ≤ 256
+      → All (λ q. CanSpell (program_of q)) b.site.linked.programs.items → IsLinkedBase b
+  linked_base name s t b follows some few spelled =
+      let linked = is_linked name (base_of b) some follows.keeps.may in
+      record { names = linked.0; few = few; linked = linked.1; spelled = spelled }
 
 -- ---- behind them
 

@@ -1,4 +1,4 @@
--- What `run` reads, in order, and what each file gives. Read `Files` of property_course, network_course, table_course and
+-- What `run` and `link` read, in order, and what each file gives. Read `Files` of property_course, network_course, table_course and
 -- control_course, `Course` of case_course, `Links` of link_course, and `Job` of linked_jobs, before it.
 use Rattle.std.specs.Prelude.{true, ℕ, List, [], length, map, Option, Some, None, ⊤}
 use Rattle.p4_tables.specs.State.{entries_in}
@@ -44,6 +44,13 @@ base_course name c =
     and_then (ground_course name c) (λ g.
     and_then (link_course g.program p g.network c.room) (λ l.
     give (record { property = p; host = g; linked = l }))))
+
+-- what `link` reads: the case of this name up to what is linked
+unfoldable pub linked_course : (name : List ℕ) → Course Base
+linked_course name =
+    and_then (value_course name) (λ d.
+    and_then (case_answer true name d) (λ c.
+    base_course name c))
 
 -- the schedule speaks of so many packets, and sets the variables of the property
 abbrev pub around : Base → Packets → Around

@@ -13,8 +13,8 @@ ghost use Rattle.table_file.specs.Laws.{AreOf};
 ghost use Rattle.job_course.specs.Steps.{Follows};
 ghost use Rattle.linked_jobs.specs.Views.{IsLinkedJob};
 ghost use Rattle.run_job.specs.Course as course;
-ghost use Rattle.run_job.specs.Course.{base_course, rest_course, run_course};
-ghost use Rattle.run_job.specs.Views.{base_at, base_of, rest_of, task_of};
+ghost use Rattle.run_job.specs.Course.{base_course, linked_course, rest_course, run_course};
+ghost use Rattle.run_job.specs.Views.{IsLinkedBase, base_at, base_of, rest_of, task_of};
 
 use case_course::{Packets, load_ground, load_packets};
 use case_file::Case;
@@ -164,6 +164,20 @@ fn load_rest<S: Store>(
         packets,
         events,
     })
+}
+
+/// The case of this name up to what is linked: of its captures only where they enter the network is read.
+pub fn load_linked<S: Store>(alloc: Global, store: &mut S, name: &str) -> Result<Base, Stop>
+    ensures follows { Follows (linked_course name.now) base_of (S.state store.old) (S.state store.new) result }
+    ensures read { IfOk result IsLinkedBase }
+{
+    texts_are_plain();
+    texts_declare_words();
+    let value = load_value(alloc, store, name)?;
+    let case = case_in(alloc, name, &value, true)?;
+    let base = load_base(alloc, store, name, &case)?;
+    is_sound(&base.site.network);
+    Ok(base)
 }
 
 /// The job of the case of this name, with what is linked for it.

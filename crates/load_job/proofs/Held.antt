@@ -1,0 +1,56 @@
+-- What is held of files.
+use Rattle.std.proofs.Common.{◌≡◌, ◌≢◌, ℕ, List, [], ◌∷◌, map, Bool, true, false, Some, None, refl, sym, ◌∙◌, rules}
+use Rattle.std.proofs.Math.Path.{fun_ext}
+use Rattle.std.specs.Str.{bytes_eq}
+use Rattle.outside.specs.Files.{Files, with_file}
+use Rattle.outside.specs.Held.{HoldsAlso}
+use Rattle.load_job.specs.Within.{held_by}
+
+abbrev pub Named : Type 0
+Named = List (List ℕ × List ℕ)
+
+-- a name is equal to itself
+pub same_name : (n : List ℕ) → bytes_eq n n ≡ true
+same_name n = search rules
+
+-- with one file more
+pub held_also : (old new : Files) (n b : List ℕ) → HoldsAlso old new n b → new ≡ with_file old n b
+held_also old new n b h = fun_ext (λ m. at m (bytes_eq n m) refl)
+  where
+    at : (m : List ℕ) (e : Bool) → bytes_eq n m ≡ e → new m ≡ with_file old n b m
+    at m true is = rw is (search rules)
+    at m false is = rw is (h.others m (search rules))
+
+-- the first file is held
+pub first_held : (n b : List ℕ) (xs : Named) → held_by ((n, b) ∷ xs) n ≡ Some b
+first_held n b xs = rw (same_name n) refl
+
+-- it is held, whatever it is
+abbrev pub IsHeld : Named → List ℕ → Type 0
+IsHeld xs n = held_by xs n ≡ None → ⊥
+
+pub here : (n b : List ℕ) (xs : Named) → IsHeld ((n, b) ∷ xs) n
+here n b xs none = let e = sym (first_held n b xs) ∙ none in absurd cc
+
+pub there : (x : List ℕ × List ℕ) (xs : Named) (n : List ℕ) → IsHeld xs n → IsHeld (x ∷ xs) n
+there x xs n held = at (bytes_eq x.0 n) refl
+  where
+    at : (e : Bool) → bytes_eq x.0 n ≡ e → IsHeld (x ∷ xs) n
+    at true is none = let e : Some x.1 ≡ None = sym (rw is refl) ∙ none in absurd cc
+    at false is none = held (sym (rw is refl) ∙ none)
+
+-- all of these are held
+abbrev pub AreHeld : Named → List (List ℕ) → Type 0
+AreHeld xs [] = Unit {0}
+AreHeld xs (n ∷ ns) = IsHeld xs n × AreHeld xs ns
+
+pub all_there : (x : List ℕ × List ℕ) (xs : Named) (ns : List (List ℕ)) → AreHeld xs ns → AreHeld (x ∷ xs) ns
+all_there x xs [] held = tt
+all_there x xs (n ∷ ns) (first, rest) = (there x xs n first, all_there x xs ns rest)
+
+-- a file for each of these numbers
+pub numbered_held : (name bytes : ℕ → List ℕ) (ks : List ℕ) → AreHeld (map (λ k. (name k, bytes k)) ks) (map name ks)
+numbered_held name bytes [] = tt
+numbered_held name bytes (k ∷ ks) =
+    (here (name k) (bytes k) (map (λ j. (name j, bytes j)) ks),
+    all_there (name k, bytes k) (map (λ j. (name j, bytes j)) ks) (map name ks) (numbered_held name bytes ks))

@@ -1,0 +1,5 @@
+mod Held
+mod Closed
+mod Within
+mod Cases
+mod Asked

@@ -1,0 +1,2 @@
+pub mod MoreNumbers
+pub mod MorePackets
