@@ -1,10 +1,10 @@
 -- The number of a made case is what `parse` reads.
-use Rattle.std.proofs.Common.{rules, ◌≡◌, ℕ, ◌<◌, ◌≤◌, ◌^◌, List, [], ◌∷◌, length, Bool, true, false, if◌then◌else◌, Option, Some, None, Result, Ok, Err, refl, sym, ◌∙◌, ap, subst, arith, nat_lt, ltb-true, ltb-false}
+use Rattle.std.proofs.Common.{rules, ◌≡◌, ℕ, ◌<◌, ◌≤◌, ◌^◌, List, [], ◌∷◌, length, Bool, true, false, Option, Some, None, Result, Ok, Err, refl, sym, ◌∙◌, ap, subst, arith, nat_lt, ltb-true, ltb-false}
 use Rattle.std.specs.Prelude.{◌==◌, slice_index}
 use Rattle.std.specs.Char.{is_digit}
 use Rattle.std.specs.Result.{OkIff, result_ok}
 use Rattle.std.specs.Str.Parse.{AllDigits, IsNumeral, ParsesUnsigned, digits_value, without_leading_plus}
-use Rattle.hydra_cli.specs.Command.{are_digits, is_number}
+use Rattle.hydra_cli.specs.Command.{are_digits, is_number, number_in}
 
 all_digits : (cs : List ℕ) → are_digits cs ≡ true → AllDigits 10 cs
 all_digits [] is = tt
@@ -53,13 +53,13 @@ no_plus : (w : List ℕ) → (slice_index w 0 == 43) ≡ false → without_leadi
 no_plus w is = rw is refl
 
 -- what is read of a word of at most 20 bytes that begins with no plus
-pub parsed : {E : Type 0} (w : List ℕ) (r : Result ℕ E) → length w ≤ 20 → (slice_index w 0 == 43) ≡ false → ParsesUnsigned 64 10 w r → result_ok r ≡ (if is_number w then Some (digits_value 10 w) else None)
+pub parsed : {E : Type 0} (w : List ℕ) (r : Result ℕ E) → length w ≤ 20 → (slice_index w 0 == 43) ≡ false → ParsesUnsigned 64 10 w r → result_ok r ≡ number_in w
 parsed {E} w r few not is = of r (subst (λ (ds : List ℕ). OkIff r (IsNumeral 10 ds × (digits_value 10 ds < 2 ^ 64)) (digits_value 10 ds)) (no_plus w not) is)
   where
-    of : (r : Result ℕ E) → OkIff r (IsShort w) (digits_value 10 w) → result_ok r ≡ (if is_number w then Some (digits_value 10 w) else None)
+    of : (r : Result ℕ E) → OkIff r (IsShort w) (digits_value 10 w) → result_ok r ≡ number_in w
     of (Ok x) h = rw (is_said w few h.0) (ap Some h.1)
     of (Err e) h = at (is_number w) refl
       where
-        at : (b : Bool) → is_number w ≡ b → None ≡ (if is_number w then Some (digits_value 10 w) else None)
+        at : (b : Bool) → is_number w ≡ b → None ≡ number_in w
         at true b = absurd (h (is_short w b))
         at false b = rw b refl

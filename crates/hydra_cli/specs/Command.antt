@@ -42,9 +42,16 @@ is_number (c ∷ cs) =
     else if are_digits (c ∷ cs) then nat_lt (digits_value 10 (c ∷ cs)) 18446744073709551616
     else false
 
+abbrev pub number_in : List ℕ → Option ℕ
+number_in w = if is_number w then Some (digits_value 10 w) else None
+
+abbrev pub load_from : Option ℕ → (out : List ℕ) → Option Command
+load_from None o = None
+load_from (Some n) o = Some (load n o)
+
 -- names of a made case begin with at most 4,096 bytes
 abbrev pub load_of : (number out : List ℕ) → Option Command
-load_of n o = if nat_lt 4096 (length o) then None else if is_number n then Some (load (digits_value 10 n) o) else None
+load_of w o = if nat_lt 4096 (length o) then None else load_from (number_in w) o
 
 -- the command that words are, where they are one
 abbrev pub command_of : List (List ℕ) → Option Command

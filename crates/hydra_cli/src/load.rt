@@ -1,11 +1,10 @@
 //! `load`: the made case of a number, written and run.
 
-ghost use Rattle.std.specs.Prelude.{◌≡◌, ◌==◌, ◌≤◌, IfOk, None, Some, if◌then◌else◌, length, slice_index, string_bytes};
-ghost use Rattle.std.specs.Str.Parse.{digits_value};
+ghost use Rattle.std.specs.Prelude.{◌≡◌, ◌==◌, ◌≤◌, IfOk, length, slice_index, string_bytes};
 ghost use Rattle.job_course.specs.Output.{out_of};
 ghost use Rattle.job_course.specs.Steps.{Follows};
 ghost use Rattle.linked_jobs.specs.Views as linked;
-ghost use Rattle.hydra_cli.specs.Command.{course_of, is_number, load};
+ghost use Rattle.hydra_cli.specs.Command.{course_of, load, number_in};
 ghost use Rattle.hydra_cli.specs.Job.{IsMade, IsRead, job_of};
 ghost use Rattle.hydra_cli.specs.Output.{LoadHeadline};
 
@@ -18,7 +17,7 @@ use std::alloc::{AllocError, Global};
 
 /// The number of a made case, where the word is one.
 pub fn number_of(word: &str) -> Option<u64>
-    ensures { result ≡ (if is_number word.now then Some (digits_value 10 word.now) else None) }
+    ensures { result ≡ number_in word.now }
 {
     if word.len() > 20 || begins_with_plus(word) {
         return None;
