@@ -4,10 +4,10 @@
 import pathlib
 import sys
 
-HERE = pathlib.Path(__file__).resolve().parent
-sys.path.insert(0, str(HERE.parent))
+sys.path.insert(0, str(pathlib.Path(__file__).resolve().parent.parent))
 
-from frames import ACK, IPV4, SYN, TCP, UDP, ethernet, ipv4, tcp, udp, write_capture
+from frames import ACK, IPV4, SYN, TCP, UDP, ethernet, ipv4, tcp, udp
+from packets import Packet, write_packets
 
 # Hosts: MAC address and IPv4 address. What is outside has the MAC address of the router there.
 FIRST = ("02:00:00:00:00:01", "10.0.1.1")
@@ -27,9 +27,9 @@ def packet(capture, switch, source, destination, protocol, segment, out=None):
     that leaves. `out` is switch, port and the time to live, which is 1 less behind each switch."""
     came = frame(SWITCHES[switch], source[0], source, destination, protocol, segment, 64)
     if out is None:
-        return capture, came, None, None
+        return Packet(capture, came)
     last, port, ttl = out
-    return capture, came, (last, port), frame(destination[0], SWITCHES[last], source, destination, protocol, segment, ttl)
+    return Packet(capture, came, (last, port), frame(destination[0], SWITCHES[last], source, destination, protocol, segment, ttl))
 
 
 PACKETS = [
@@ -59,17 +59,4 @@ PACKETS = [
     packet("outside", "edge", SERVER, SECOND, TCP, tcp(443, 4016, SYN | ACK, b""), ("inside", 2, 62)),
 ]
 
-
-def main():
-    came, left = {}, {}
-    for number, (capture, frame_in, gone, frame_out) in enumerate(PACKETS):
-        came.setdefault(capture, []).append((number, 0, frame_in))
-        if gone:
-            left.setdefault(gone, []).append((number, 0, frame_out))
-    for capture, records in came.items():
-        write_capture(HERE / f"{capture}.pcap", records)
-    for (switch, port), records in left.items():
-        write_capture(HERE / "wanted" / f"out.{switch}.{port}.pcap", records)
-
-
-main()
+write_packets(__file__, PACKETS)
