@@ -1,12 +1,14 @@
 #!/usr/bin/env python3
-"""Makes the captures of this folder: what comes in, and in wanted/ what leaves. It takes no words."""
+"""Makes the captures of this folder: what comes in, and in wanted/ what leaves, and what is on the link from
+middle to right. It takes no words."""
 
 import pathlib
 import sys
 
-sys.path.insert(0, str(pathlib.Path(__file__).resolve().parent.parent))
+HERE = pathlib.Path(__file__).resolve().parent
+sys.path.insert(0, str(HERE.parent))
 
-from frames import IPV4, VLAN, ethernet, ipv4, udp, vlan
+from frames import IPV4, VLAN, ethernet, ipv4, udp, vlan, write_capture
 from packets import Packet, write_packets
 
 # Hosts: MAC address and IPv4 address.
@@ -48,4 +50,22 @@ PACKETS = [
     packet("back", THIRD, TAGGED, 60, out=("left", 2), tag_out=10),
 ]
 
+
+def telemetry(first, second, long=False):
+    """Returns the 13 bytes in front of a frame that has left middle: a mark, then 89 bits and 7 zero bits. The bits are how many
+    lengths there are, four places of 16 bits, whether the frame was too long, and where, which is switch 1."""
+    places = first << 48 | second << 32
+    bits = 2 << 81 | places << 17 | long << 16 | (1 if long else 0)
+    return b"\x48" + (bits << 7).to_bytes(12, "big")
+
+
+# On the link from middle to right: each frame with its tag, behind its telemetry.
+LINK = [
+    (0, 0, telemetry(60, 64) + frame(PLAIN, THIRD, 60, 10)),
+    (1, 0, telemetry(100, 104) + frame(PLAIN, THIRD, 100, 10)),
+    (2, 0, telemetry(101, 105, long=True) + frame(PLAIN, THIRD, 101, 10)),
+    (3, 0, telemetry(104, 104) + frame(TAGGED, FOURTH, 100, 20)),
+]
+
 write_packets(__file__, PACKETS)
+write_capture(HERE / "wanted" / "wire.middle.2.pcap", LINK)
