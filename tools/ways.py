@@ -155,8 +155,8 @@ class Run:
 def likeness(one, other):
     """How many bytes are the same, counted from the end."""
     size = min(len(one), len(other))
-    a, b = (int.from_bytes(it[len(it) - size :], "big") for it in (one, other))
-    return (a ^ b).to_bytes(size, "big").count(0)
+    one, other = one[len(one) - size :], other[len(other) - size :]
+    return (int.from_bytes(one, "big") ^ int.from_bytes(other, "big")).to_bytes(size, "big").count(0)
 
 
 def owners(packets, frame):
@@ -164,7 +164,8 @@ def owners(packets, frame):
     if len(packets) == 1:
         return packets
     like = {data: likeness(data, frame.data) for data in {it.data for it in packets}}
-    return [it for it in packets if like[it.data] == max(like.values())]
+    most = max(like.values())
+    return [it for it in packets if like[it.data] == most]
 
 
 def take(own, switch, front, data):
