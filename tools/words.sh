@@ -3,7 +3,7 @@
 # Whether the words are those of a command.
 are_words() {
     case "$#:${1-}" in
-        2:check | 3:forward | 3:run | 4:wire) return 0 ;;
+        2:check | 3:forward | 3:run | 3:link | 3:load | 4:wire) return 0 ;;
     esac
     return 1
 }
@@ -15,13 +15,15 @@ hydra: the words are those of one of these lines
     wire PROPERTY FRAME OUT    links a property into a built-in program, and runs one raw frame through it
     forward CASE OUT           runs a P4 program at every switch of a network over captures, without a property
     run CASE OUT               links the property of a case into its P4 program, and runs what is linked over captures
+    link CASE OUT              links as run does, and writes the linked programs
+    load N OUT                 makes a case from a number of 1 to 20 decimal digits, writes it, and runs it
 hydra: OUT is the front of the names of the files that are written; docs/FORMATS.md has the files, docs/ANSWERS.md the answers
 END
 }
 
 # Whether the words have a case, in which names of files stand.
 have_case() {
-    are_words "$@" && { [ "$1" = forward ] || [ "$1" = run ]; }
+    are_words "$@" && { [ "$1" = forward ] || [ "$1" = run ] || [ "$1" = link ]; }
 }
 
 # A text as a word of the shell.
