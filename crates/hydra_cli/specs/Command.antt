@@ -1,5 +1,5 @@
 -- The command lines, and the course of each command. Read `Course` of the job's course before it and `Output` after it.
-use Rattle.std.specs.Prelude.{ℕ, ◌≤◌, List, [], ◌∷◌, length, Option, Some, None, codes, if◌then◌else◌, Bool, true, false, nat_lt}
+use Rattle.std.specs.Prelude.{ℕ, List, [], ◌∷◌, length, Option, Some, None, codes, if◌then◌else◌, Bool, true, false, nat_lt}
 use Rattle.std.specs.Str.{bytes_eq}
 use Rattle.std.specs.Char.{is_digit}
 use Rattle.std.specs.Str.Parse.{digits_value}
@@ -84,8 +84,3 @@ said_by (variants.Forward c o) = forward c.now o.now
 said_by (variants.Run c o) = run c.now o.now
 said_by (variants.Link c o) = link c.now o.now
 said_by (variants.Load n o) = load n o.now
-
--- the names of a made case are short
-abbrev pub HasShortNames : said.Command → Type 0
-HasShortNames (variants.Load n o) = length o.now ≤ 4096
-HasShortNames _ = Unit {0}

@@ -1,8 +1,8 @@
 //! What each command reads and makes.
 
-ghost use Rattle.std.specs.Prelude.{◌≡◌, IfOk, IfSome, MatchOption, None, Some, map, string_bytes};
+ghost use Rattle.std.specs.Prelude.{◌≡◌, IfOk, MatchOption, None, Some, map, string_bytes};
 ghost use Rattle.job_course.specs.Output.{out_of};
-ghost use Rattle.hydra_cli.specs.Command.{HasShortNames, check, command_of, course_of, load_of, said_by};
+ghost use Rattle.hydra_cli.specs.Command.{check, command_of, course_of, load_of, said_by};
 ghost use Rattle.hydra_cli.specs.Job.{IsRead, job_of};
 ghost use Rattle.hydra_cli.specs.Output.{Outputs};
 ghost use Rattle.job_course.specs.Plan.{Plans};
@@ -39,8 +39,7 @@ pub enum Command<'a> {
 
 /// The command that the words are, if they are one.
 pub fn read_words<'a>(words: &'a [String]) -> Option<Command<'a>>
-    ensures says { MatchOption result (command_of (map string_bytes words.now) ≡ None) (λ c. command_of (map string_bytes words.now) ≡ Some (said_by c)) }
-    ensures short { IfSome result HasShortNames }
+    ensures { MatchOption result (command_of (map string_bytes words.now) ≡ None) (λ c. command_of (map string_bytes words.now) ≡ Some (said_by c)) }
 {
     match words {
         [word, property, frame, out] => {
@@ -76,8 +75,7 @@ pub fn read_words<'a>(words: &'a [String]) -> Option<Command<'a>>
 
 /// The number and the front of names of a made case, which has at most 4,096 bytes.
 fn read_load_words<'a>(number: &str, out: &'a str) -> Option<Command<'a>>
-    ensures says { MatchOption result (load_of number.now out.now ≡ None) (λ c. load_of number.now out.now ≡ Some (said_by c)) }
-    ensures short { IfSome result HasShortNames }
+    ensures { MatchOption result (load_of number.now out.now ≡ None) (λ c. load_of number.now out.now ≡ Some (said_by c)) }
 {
     if out.len() > 4096 {
         return None;
@@ -90,7 +88,6 @@ fn read_load_words<'a>(number: &str, out: &'a str) -> Option<Command<'a>>
 
 /// What a command writes.
 pub fn plan<S: Store>(alloc: Global, store: &mut S, command: Command<'_>) -> Result<Output, Stop>
-    requires { HasShortNames command }
     ensures { Plans Outputs (course_of (said_by command.entry)) (S.state store.old) (S.state store.new) result }
 {
     let job = read_job(alloc, store, command)?;
@@ -98,7 +95,6 @@ pub fn plan<S: Store>(alloc: Global, store: &mut S, command: Command<'_>) -> Res
 }
 
 fn read_job<S: Store>(alloc: Global, store: &mut S, command: Command<'_>) -> Result<Job, Stop>
-    requires { HasShortNames command }
     ensures follows { Follows (course_of (said_by command.entry)) job_of (S.state store.old) (S.state store.new) result }
     ensures read { IfOk result IsRead }
 {

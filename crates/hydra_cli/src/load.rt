@@ -1,6 +1,6 @@
 //! `load`: the made case of a number, written and run.
 
-ghost use Rattle.std.specs.Prelude.{◌≡◌, ◌==◌, ◌≤◌, IfOk, length, slice_index, string_bytes};
+ghost use Rattle.std.specs.Prelude.{◌≡◌, ◌==◌, IfOk, slice_index, string_bytes};
 ghost use Rattle.job_course.specs.Output.{out_of};
 ghost use Rattle.job_course.specs.Steps.{Follows};
 ghost use Rattle.linked_jobs.specs.Views as linked;
@@ -38,7 +38,6 @@ pub fn read_load<S: Store>(
     number: u64,
     out: &str,
 ) -> Result<Job, Stop>
-    requires { length out.now ≤ 4096 }
     ensures follows { Follows (course_of (load number out.now)) job_of (S.state store.old) (S.state store.new) result }
     ensures read { IfOk result IsRead }
 {

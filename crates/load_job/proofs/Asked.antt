@@ -1,9 +1,12 @@
 -- All files that the made case asks for are among those that are made.
-use Rattle.std.proofs.Common.{◌≡◌, ℕ, ◌-◌, List, [], ◌∷◌, ◌++◌, length, map, codes, true, Some, None, Ok, refl, sym, ◌∙◌, subst}
+use Rattle.std.proofs.Common.{◌≡◌, ℕ, ◌-◌, List, [], ◌∷◌, ◌++◌, length, map, codes, true, Some, None, Result, Ok, refl, sym, ◌∙◌, ap, subst}
 use Rattle.serde_json.specs.Data.{Data}
 use Rattle.serde_json.specs.Read.{read}
 use Rattle.pcap_io.specs.Record.{Record}
 use Rattle.outside.specs.Files.{Files}
+use Rattle.outside.specs.State.{StoreState}
+use Rattle.job_course.specs.declared.status.Stop.{Stop}
+use Rattle.job_course.specs.Steps.{Follows}
 use Rattle.case_file.specs.Case.{Case, case_of}
 use Rattle.p4_tree.specs.Tree.{Program}
 use Rattle.network_file.specs.Network.{Network, Port}
@@ -13,17 +16,19 @@ use Rattle.program_course.specs.Files.{forwarding_program}
 use Rattle.network_course.specs.Files.{value_course, case_answer, network_course}
 use Rattle.capture_course.specs.Files.{captures_from}
 use Rattle.case_course.specs.Course.{ground_course, packets_course}
-use Rattle.run_job.specs.Course.{Base, base_course, rest_course, run_course}
+use Rattle.run_job.specs.Course.{Base, Task, base_course, rest_course, run_course}
 use Rattle.load_maker.specs.Numbers.{numbers}
 use Rattle.load_maker.specs.Draws.{packets}
 use Rattle.load_maker.specs.Captures.{capture, capture_name}
 use Rattle.load_maker.specs.Values.{case_data, file_name}
 use Rattle.load_maker.specs.Made.{case_text, made_files, capture_files}
 use Rattle.load_job.specs.Within.{held_by}
+use Rattle.load_job.specs.Course.{load_course}
 use Rattle.load_job.specs.Made.{made_case}
 use Rattle.load_job.proofs.Held.{IsHeld, AreHeld, first_held, here, there, all_there, numbered_held}
 use Rattle.load_job.proofs.Closed.{IsThere, IsClosed, file_closed, decide_closed, then_closed}
 use Rattle.load_job.proofs.Cases.{case_is_made}
+use Rattle.load_job.proofs.Within.{follows_within}
 
 -- ---- steps
 
@@ -126,3 +131,10 @@ module _ (n : ℕ) (out : List ℕ) (reads : read (case_text out) ≡ Some (case
       let is : k ≡ c = case_is_made out k (subst (λ (x : Data). case_of true x ≡ Ok k) (case_is d g) h) in
       subst (λ (x : Case). IsClosed f (and_then (base_course name x) (λ b. and_then (rest_course name x b) _))) (sym is)
       (then_closed f _ _ base_closed (λ b i. then_closed f _ _ (rest_closed b) (λ r l. decide_closed f _ _)))))
+
+  -- what is read of them, in a store that holds them and never fails, is what is to be done
+  pub made_follows : {A : Type 0} (view : A → Task) (case : List ℕ) (held : Files) (s t u : StoreState) (r : Result A Stop) → case ≡ name → held ≡ f → s.files ≡ Some held → t.read_faults ≡ 0
+      → Follows (run_course case) view s t r → Follows (load_course n out) view u u r
+  made_follows view case held s t u r e h told sure follows =
+      follows_within (run_course name) f s t (told ∙ ap Some h) sure asks_for_what_is_made view u r
+      (subst (λ (x : List ℕ). Follows (run_course x) view s t r) e follows)

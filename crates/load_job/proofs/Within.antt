@@ -57,3 +57,8 @@ module _ {J : Type 0} (c : Course J) (f : Files) (s t : StoreState) (told : s.fi
 
   pub follows_within : {A : Type 0} (view : A → J) (u : StoreState) (r : Result A Stop) → Follows c view s t r → Follows (within f c) view u u r
   follows_within view u r follows = record { keeps = keeps_within view u r follows.keeps }
+
+-- where nothing was found it does not matter as what it would have been seen
+pub other_view : {A B J : Type 0} (c : Course J) (v : A → J) (w : B → J) (s t : StoreState) (e : Stop) → Follows c v s t (Err e) → Follows c w s t (Err e)
+other_view c v w s t (Refused r) f = record { keeps = f.keeps }
+other_view c v w s t Starved f = record { keeps = f.keeps }

@@ -1,6 +1,6 @@
 //! The made case, and its job.
 
-ghost use Rattle.std.specs.Prelude.{◌≡◌, ◌≤◌, length, IfOk, OnOk};
+ghost use Rattle.std.specs.Prelude.{◌≡◌, [], IfOk, OnOk};
 ghost use Rattle.outside.specs.Files.{Files};
 ghost use Rattle.outside.specs.State.{StoreState};
 ghost use Rattle.outside.specs.SureStore.{surely_held};
@@ -28,7 +28,6 @@ pub struct MadeJob {
 
 /// The made case of the number `n`, with names that begin with `out`. Nothing outside is asked for.
 pub fn load_made(alloc: Global, n: u64, out: &str) -> Result<MadeJob, Stop>
-    requires { length out.now ≤ 4096 }
     ensures follows { (s : StoreState) → Follows (load_course n out.now) task_in s s result }
     ensures files { IfOk result (λ m. files_of m.files.items ≡ made_files n out.now) }
     ensures read { IfOk result (λ m. IsLinkedJob m.job) }
