@@ -1,0 +1,4 @@
+pub mod MoreNumbers
+pub mod MorePackets
+pub mod MoreRecords
+pub mod MoreValues
