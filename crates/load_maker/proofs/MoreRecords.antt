@@ -1,8 +1,8 @@
 -- One packet more, which the host sends or not.
-use Rattle.std.proofs.Common.{◌≡◌, ℕ, ◌+◌, ◌<◌, List, [], ◌∷◌, ◌++◌, ◌==◌, Bool, true, false, cond, length, map, take, get_or, refl, sym, ap, ◌∙◌, ne_eqb, eq-eqb}
+use Rattle.std.proofs.Common.{◌≡◌, ℕ, ◌+◌, ◌<◌, List, [], ◌∷◌, ◌++◌, ◌==◌, Bool, true, false, cond, length, map, take, get_or, sym, ap, ◌∙◌, ne_eqb, eq-eqb}
 use Rattle.std.proofs.lemmas.List.{map_push, append-nil}
 use Rattle.std.proofs.lemmas.List.Elements.{filter_more}
-use Rattle.pcap_io.specs.Record.{Record, record_of, records_of}
+use Rattle.pcap_io.specs.Record.{record_of, records_of}
 use Rattle.pcap_io.specs.declared.captured.Captured.{Captured}
 use Rattle.load_maker.specs.Captures.{record_for, sent_by}
 use Rattle.load_maker.specs.declared.packet.Packet.{Packet}

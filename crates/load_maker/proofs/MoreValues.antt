@@ -1,12 +1,11 @@
 -- One value more behind those of numbers.
-use Rattle.std.proofs.Common.{◌≡◌, ℕ, ◌+◌, List, [], ◌∷◌, ◌++◌, ◌==◌, Bool, true, false, not, cond, map, refl, sym, ap, ◌∙◌, ne_eqb, eq-eqb}
+use Rattle.std.proofs.Common.{◌≡◌, ℕ, ◌+◌, List, [], ◌∷◌, ◌++◌, ◌==◌, Bool, true, false, not, cond, map, sym, ap, ◌∙◌, ne_eqb, eq-eqb}
 use Rattle.std.specs.List.{filter}
 use Rattle.std.proofs.lemmas.List.{map_push, map-append, append_assoc, append-nil}
 use Rattle.serde_json.specs.Data.{Data}
 use Rattle.serde_json.specs.View.{view}
 use Rattle.serde_json.specs.declared.value.Value.{Value}
 use Rattle.load_maker.specs.Numbers.{numbers}
-use Rattle.load_maker.specs.Fabric.{others}
 use Rattle.load_maker.proofs.MoreNumbers.{map_more, filter_more}
 
 -- a value is pushed

@@ -1,4 +1,4 @@
-use Rattle.std.proofs.Common.{◌≡◌, ◌+◌, ◌%◌, ◌∙◌, ap, map, List, ℕ}
+use Rattle.std.proofs.Common.{◌%◌, ◌∙◌, ap, map, ℕ}
 use Rattle.std.specs.Global.{Vec}
 use Rattle.serde_json.specs.View.{view}
 use Rattle.serde_json.specs.Data.{Data}

@@ -1,4 +1,4 @@
-use Rattle.std.proofs.Common.{◌≡◌, ◌∙◌, ℕ, List, ap, sym}
+use Rattle.std.proofs.Common.{◌∙◌, ℕ, List, ap, sym}
 use Rattle.std.proofs.lemmas.List.{append-nil}
 use Rattle.load_maker.specs.Numbers.{numbers}
 use Rattle.load_maker.specs.Draws.{packets}

@@ -1,5 +1,5 @@
 use Rattle.std.proofs.Common.{◌≡◌, ◌∙◌, List, ℕ, map, ap, codes, rules}
-use Rattle.serde_json.specs.Data.{Data, Members, no_members, string, object, put}
+use Rattle.serde_json.specs.Data.{Members, no_members, string, object, put}
 use Rattle.serde_json.specs.View.{view, members_view}
 use Rattle.serde_json.specs.declared.value.Value.{Object, Array, the_lemmas}
 use Rattle.load_maker.specs.Values.{case_data, file_name, capture_places, list_of}
