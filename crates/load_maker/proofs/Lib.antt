@@ -4,3 +4,4 @@ pub mod MorePackets
 pub mod MoreRecords
 pub mod MoreValues
 pub mod PlainValues
+pub mod Rows

@@ -59,7 +59,7 @@ fn tables(alloc: Global, entries: Vec<Value>) -> Result<Value, AllocError>
 }
 
 /// The entries of a leaf: its own hosts, and then the other leaves.
-#[tactic(auto, using(std::proofs::lemmas::Grind::common_steps, crate::proofs::MoreNumbers::numbers_none), unfolding(crate::specs::Values::leaf_entries))]
+#[tactic(auto, unfolding(crate::specs::Values::leaf_entries))]
 fn leaf_entries(alloc: Global, leaf: u8) -> Result<Vec<Value>, AllocError>
     requires { leaf < 4 }
     ensures { IfOk result (λ v. map view v.items ≡ values.leaf_entries leaf) }
@@ -75,7 +75,6 @@ fn leaf_entries(alloc: Global, leaf: u8) -> Result<Vec<Value>, AllocError>
 }
 
 /// Those of the hosts of a leaf.
-#[tactic(auto, using(std::proofs::lemmas::Grind::common_steps, crate::proofs::MoreNumbers::numbers_none, crate::proofs::MoreNumbers::map_more))]
 fn own_entries(alloc: Global, leaf: u8) -> Result<Vec<Value>, AllocError>
     requires { leaf < 4 }
     ensures { IfOk result (λ v. map view v.items ≡ map (λ m. values.route_entry (fabric.host_route (fabric.host_at (4 * leaf + m)))) (numbers 4)) }
@@ -89,7 +88,7 @@ fn own_entries(alloc: Global, leaf: u8) -> Result<Vec<Value>, AllocError>
 }
 
 /// The entries of a spine.
-#[tactic(auto, using(std::proofs::lemmas::Grind::common_steps, crate::proofs::MoreNumbers::numbers_none, crate::proofs::MoreNumbers::map_more), unfolding(crate::specs::Values::spine_entries))]
+#[tactic(auto, unfolding(crate::specs::Values::spine_entries))]
 fn spine_entries(alloc: Global) -> Result<Vec<Value>, AllocError>
     ensures { IfOk result (λ v. map view v.items ≡ values.spine_entries) }
 {

@@ -33,7 +33,6 @@ fn link(alloc: Global, leaf: u8, spine: u8) -> Result<Value, AllocError>
 }
 
 /// Those of a leaf, behind others.
-#[tactic(auto, using(std::proofs::lemmas::Grind::common_steps, crate::proofs::MoreNumbers::numbers_none, crate::proofs::MoreNumbers::map_more))]
 fn put_links(alloc: Global, links: &mut Vec<Value>, leaf: u8) -> Result<(), AllocError>
     requires { leaf < 4 }
     ensures { OnOk result (map view links.new.items
@@ -45,7 +44,7 @@ fn put_links(alloc: Global, links: &mut Vec<Value>, leaf: u8) -> Result<(), Allo
     Ok(())
 }
 
-#[tactic(auto, using(std::proofs::lemmas::Grind::common_steps, crate::proofs::MoreNumbers::numbers_none, crate::proofs::MoreNumbers::flat_map_more), unfolding(crate::specs::Values::links))]
+#[tactic(auto, unfolding(crate::specs::Values::links))]
 fn links(alloc: Global) -> Result<Vec<Value>, AllocError>
     ensures { IfOk result (λ v. map view v.items ≡ values.links) }
 {
@@ -57,7 +56,7 @@ fn links(alloc: Global) -> Result<Vec<Value>, AllocError>
 }
 
 /// The names of the leaves, and then of the spines.
-#[tactic(auto, using(std::proofs::lemmas::Grind::common_steps, crate::proofs::MoreNumbers::numbers_none, crate::proofs::MoreNumbers::map_more), unfolding(crate::specs::Values::switches))]
+#[tactic(auto, unfolding(crate::specs::Values::switches))]
 fn switches(alloc: Global) -> Result<Vec<Value>, AllocError>
     ensures { IfOk result (λ v. map view v.items ≡ values.switches) }
 {

@@ -48,7 +48,7 @@ fn put_name(
 }
 
 /// The captures of all hosts, each with the place at which its frames enter.
-#[tactic(auto, using(std::proofs::lemmas::Grind::common_steps, crate::proofs::MoreNumbers::numbers_none, crate::proofs::MoreNumbers::map_more), unfolding(crate::specs::Values::capture_places))]
+#[tactic(auto, unfolding(crate::specs::Values::capture_places))]
 fn capture_places(alloc: Global, out: &str) -> Result<Vec<Value>, AllocError>
     ensures { IfOk result (λ v. map view v.items ≡ values.capture_places out.now) }
 {

@@ -17,6 +17,9 @@ fn host_6_sends_the_first_packet(rt: HostRuntime) -> Result<(), Fail> {
     assert_eq!(rt; bytes.len(), 10_136);
     // The checksums of the first frame and of the last one, which packet 1,983 is.
     assert_eq!(rt; [byte_at(bytes, 64), byte_at(bytes, 65)], [0x23, 0xc9]);
-    assert_eq!(rt; [byte_at(bytes, 10_099), byte_at(bytes, 10_100)], [0x24, 0xbb]);
+    assert_eq!(rt;
+        [byte_at(bytes, 10_099), byte_at(bytes, 10_100)],
+        [0x24, 0xbb]
+    );
     Ok(())
 }

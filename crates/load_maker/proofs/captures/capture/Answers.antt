@@ -21,16 +21,16 @@ loop-packet-preserved c =
     let before = c.loop-packet.invariant in
     let inside = c.loop-packet-test.true in
     elim c.if-packet-host.branch [
-      then-packet-host+in_ok-captured+in_ok-push w ↦
-        let push = ap (λ (v : Vec Captured). v.items) w.records-is ∙ w.in_ok-push.ensures.items in
-        record {
-          made = record_more k ps i _ inside old new _ w.if-packet-host.true push w.in_ok-captured.ensures.record before.made;
-          short = subst (All IsShort) (sym push) (All-push IsShort old _ before.short w.in_ok-captured.ensures.short);
-        }
-    | else-packet-host w ↦
-        let same = ap (λ (v : Vec Captured). v.items) w.records-is in
-        record {
-          made = ap records_of same ∙ record_past k ps i _ inside old w.if-packet-host.false before.made;
-          short = subst (All IsShort) (sym same) before.short;
-        }
+      | then-packet-host+in_ok-captured+in_ok-push w ↦
+          let push = ap (λ (v : Vec Captured). v.items) w.records-is ∙ w.in_ok-push.ensures.items in
+          record {
+            made = record_more k ps i _ inside old new _ w.if-packet-host.true push w.in_ok-captured.ensures.record before.made;
+            short = subst (All IsShort) (sym push) (All-push IsShort old _ before.short w.in_ok-captured.ensures.short);
+          }
+      | else-packet-host w ↦
+          let same = ap (λ (v : Vec Captured). v.items) w.records-is in
+          record {
+            made = ap records_of same ∙ record_past k ps i _ inside old w.if-packet-host.false before.made;
+            short = subst (All IsShort) (sym same) before.short;
+          }
     ]
