@@ -1,5 +1,5 @@
 -- The switches and the hosts: four leaves, each with four hosts, and two spines, each linked to each leaf.
-use Rattle.std.specs.Prelude.{ℕ, ◌+◌, ◌*◌, ◌/◌, ◌%◌, ◌==◌, List, [], ◌∷◌, ◌++◌, false, not, codes}
+use Rattle.std.specs.Prelude.{ℕ, ◌+◌, ◌/◌, ◌%◌, ◌==◌, List, [], ◌∷◌, ◌++◌, false, not, codes}
 use Rattle.std.specs.Fmt.{decimal, digit_glyph}
 use Rattle.std.specs.List.{filter}
 use Rattle.load_maker.specs.Numbers.{numbers}

@@ -8,6 +8,7 @@ use crate::fabric::{LEAVES, leaf_name};
 use serde_json::{Map, Value, json, put};
 use std::alloc::{AllocError, Global};
 
+#[tactic(auto, using(crate::proofs::MoreNumbers::put_none, crate::proofs::MoreNumbers::put_more), unfolding(crate::specs::Values::control_data))]
 /// The contents of all leaves.
 pub fn control(alloc: Global) -> Result<Value, AllocError>
     ensures { IfOk result (λ v. view v ≡ values.control_data) }

@@ -24,6 +24,7 @@ pub fn entries(alloc: Global) -> Result<Value, AllocError>
     Ok(Value::Object(switches))
 }
 
+#[tactic(auto, using(crate::proofs::MoreNumbers::put_none, crate::proofs::MoreNumbers::put_more))]
 fn put_leaves(alloc: Global, switches: &mut Map<String, Value>) -> Result<(), AllocError>
     ensures { OnOk result (members_view switches.new.entries
         ≡ values.put_all fabric.leaf_name (λ i. values.tables (values.leaf_entries i)) 4 (members_view switches.old.entries)) }
@@ -36,6 +37,7 @@ fn put_leaves(alloc: Global, switches: &mut Map<String, Value>) -> Result<(), Al
     Ok(())
 }
 
+#[tactic(auto, using(crate::proofs::MoreNumbers::put_none, crate::proofs::MoreNumbers::put_more))]
 fn put_spines(alloc: Global, switches: &mut Map<String, Value>) -> Result<(), AllocError>
     ensures { OnOk result (members_view switches.new.entries
         ≡ values.put_all fabric.spine_name (λ _. values.tables values.spine_entries) 2 (members_view switches.old.entries)) }
@@ -57,6 +59,7 @@ fn tables(alloc: Global, entries: Vec<Value>) -> Result<Value, AllocError>
 }
 
 /// The entries of a leaf: its own hosts, and then the other leaves.
+#[tactic(auto, unfolding(crate::specs::Values::leaf_entries))]
 fn leaf_entries(alloc: Global, leaf: u8) -> Result<Vec<Value>, AllocError>
     requires { leaf < 4 }
     ensures { IfOk result (λ v. map view v.items ≡ values.leaf_entries leaf) }
@@ -85,6 +88,7 @@ fn own_entries(alloc: Global, leaf: u8) -> Result<Vec<Value>, AllocError>
 }
 
 /// The entries of a spine.
+#[tactic(auto, unfolding(crate::specs::Values::spine_entries))]
 fn spine_entries(alloc: Global) -> Result<Vec<Value>, AllocError>
     ensures { IfOk result (λ v. map view v.items ≡ values.spine_entries) }
 {

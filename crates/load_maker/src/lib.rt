@@ -11,12 +11,12 @@ mod control;
 mod draws;
 mod entries;
 mod fabric;
-//mod files;
+mod files;
 mod frames;
-//mod load;
+mod load;
 mod network;
 mod packet;
 mod places;
 mod texts;
 
-//pub use load::make_load;
+pub use load::make_load;

@@ -2,7 +2,9 @@
 
 ghost use Rattle.std.specs.Prelude.{◌≡◌, ◌++◌, ◌<◌, map, IfOk, OnOk};
 ghost use Rattle.load_maker.specs.Numbers.{numbers};
+ghost use Rattle.load_maker.specs.Fabric as fabric;
 ghost use Rattle.load_maker.specs.Values as values;
+ghost use Rattle.serde_json.specs.Data.{string};
 ghost use Rattle.serde_json.specs.View.{view};
 
 use crate::fabric::{LEAVES, SPINES, leaf_name, port_to_leaf, port_to_spine, spine_name};
@@ -42,6 +44,7 @@ fn put_links(alloc: Global, links: &mut Vec<Value>, leaf: u8) -> Result<(), Allo
     Ok(())
 }
 
+#[tactic(auto, unfolding(crate::specs::Values::links))]
 fn links(alloc: Global) -> Result<Vec<Value>, AllocError>
     ensures { IfOk result (λ v. map view v.items ≡ values.links) }
 {
@@ -53,15 +56,28 @@ fn links(alloc: Global) -> Result<Vec<Value>, AllocError>
 }
 
 /// The names of the leaves, and then of the spines.
+#[tactic(auto, unfolding(crate::specs::Values::switches))]
 fn switches(alloc: Global) -> Result<Vec<Value>, AllocError>
     ensures { IfOk result (λ v. map view v.items ≡ values.switches) }
 {
     let mut names = Vec::new(alloc);
     for leaf in 0..LEAVES {
-        names.push(Value::String(leaf_name(alloc, leaf)?))?;
+        names.push(leaf_value(alloc, leaf)?)?;
     }
     for spine in 0..SPINES {
-        names.push(Value::String(spine_name(alloc, spine)?))?;
+        names.push(spine_value(alloc, spine)?)?;
     }
     Ok(names)
+}
+
+fn leaf_value(alloc: Global, leaf: u8) -> Result<Value, AllocError>
+    ensures { IfOk result (λ v. view v ≡ string (fabric.leaf_name leaf)) }
+{
+    Ok(Value::String(leaf_name(alloc, leaf)?))
+}
+
+fn spine_value(alloc: Global, spine: u8) -> Result<Value, AllocError>
+    ensures { IfOk result (λ v. view v ≡ string (fabric.spine_name spine)) }
+{
+    Ok(Value::String(spine_name(alloc, spine)?))
 }

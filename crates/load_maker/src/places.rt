@@ -1,12 +1,13 @@
 //! The value of the case file.
 
-ghost use Rattle.std.specs.Prelude.{◌≡◌, ◌<◌, map, IfOk, string_bytes};
+ghost use Rattle.std.specs.Prelude.{◌≡◌, ◌<◌, map, IfOk, OnOk, string_bytes};
 ghost use Rattle.load_maker.specs.Values as values;
-ghost use Rattle.serde_json.specs.View.{view};
+ghost use Rattle.serde_json.specs.Data.{string, put as with_member};
+ghost use Rattle.serde_json.specs.View.{view, members_view};
 
 use crate::captures::capture_name;
 use crate::fabric::{HOSTS, host_at, leaf_name};
-use serde_json::{Value, json};
+use serde_json::{Map, Value, json, put};
 use std::alloc::{AllocError, Global};
 
 /// The name of a file, by its ending.
@@ -17,27 +18,37 @@ pub fn file_name(alloc: Global, out: &str, ending: &str) -> Result<String, Alloc
 }
 
 /// The case: which files belong together, and where frames enter.
-#[tactic(auto, unfolding(crate::specs::Values::case_data))]
 pub fn case(alloc: Global, out: &str) -> Result<Value, AllocError>
     ensures { IfOk result (λ v. view v ≡ values.case_data out.now) }
 {
     let captures = capture_places(alloc, out)?;
-    let control = file_name(alloc, out, "control.json")?;
-    let entries = file_name(alloc, out, "entries.json")?;
-    let network = file_name(alloc, out, "net.json")?;
-    let program = file_name(alloc, out, "basic.p4")?;
-    let property = file_name(alloc, out, "path.indus")?;
-    json!(in alloc; {
-        "captures": captures,
-        "control": control,
-        "entries": entries,
-        "network": network,
-        "program": program,
-        "property": property
-    })
+    let mut case = Map::new(alloc);
+    put(&mut case, alloc, "captures", Value::Array(captures))?;
+    put_name(alloc, &mut case, "control", out, "control.json")?;
+    put_name(alloc, &mut case, "entries", out, "entries.json")?;
+    put_name(alloc, &mut case, "network", out, "net.json")?;
+    put_name(alloc, &mut case, "program", out, "basic.p4")?;
+    put_name(alloc, &mut case, "property", out, "path.indus")?;
+    Ok(Value::Object(case))
+}
+
+/// The name of a file, as a member of the case.
+fn put_name(
+    alloc: Global,
+    case: &mut Map<String, Value>,
+    key: &str,
+    out: &str,
+    ending: &str,
+) -> Result<(), AllocError>
+    ensures { OnOk result (members_view case.new.entries
+        ≡ with_member key.now (string (values.file_name out.now ending.now)) (members_view case.old.entries)) }
+{
+    let name = file_name(alloc, out, ending)?;
+    put(case, alloc, key, Value::String(name))
 }
 
 /// The captures of all hosts, each with the place at which its frames enter.
+#[tactic(auto, unfolding(crate::specs::Values::capture_places))]
 fn capture_places(alloc: Global, out: &str) -> Result<Vec<Value>, AllocError>
     ensures { IfOk result (λ v. map view v.items ≡ values.capture_places out.now) }
 {
