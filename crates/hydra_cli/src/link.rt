@@ -16,12 +16,7 @@ use run_job::load_linked;
 use std::alloc::{AllocError, Global};
 
 /// The files of the case up to what is linked.
-pub fn read_link<S: Store>(
-    alloc: Global,
-    store: &mut S,
-    case: &str,
-    out: &str,
-) -> Result<Job, Stop>
+pub fn read_link<S: Store>(alloc: Global, store: &mut S, case: &str, out: &str) -> Result<Job, Stop>
     ensures follows { Follows (course_of (link case.now out.now)) job_of (S.state store.old) (S.state store.new) result }
     ensures read { IfOk result IsRead }
 {

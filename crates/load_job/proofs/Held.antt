@@ -55,9 +55,10 @@ all_there x xs (n ∷ ns) (first, rest) = (there x xs n first, all_there x xs ns
 -- a file for each of these numbers
 pub numbered_held : (name bytes : ℕ → List ℕ) (ks : List ℕ) → AreHeld (map (λ k. (name k, bytes k)) ks) (map name ks)
 numbered_held name bytes [] = tt
-numbered_held name bytes (k ∷ ks) =
-    (here (name k) (bytes k) (map (λ j. (name j, bytes j)) ks),
-    all_there (name k, bytes k) (map (λ j. (name j, bytes j)) ks) (map name ks) (numbered_held name bytes ks))
+numbered_held name bytes (k ∷ ks) = (
+  here (name k) (bytes k) (map (λ j. (name j, bytes j)) ks),
+  all_there (name k, bytes k) (map (λ j. (name j, bytes j)) ks) (map name ks) (numbered_held name bytes ks),
+)
 
 -- of files of the program, those from one on hold it and those behind it
 abbrev pub Made : Type 0

@@ -41,11 +41,7 @@ pub fn load_made(alloc: Global, n: u64, out: &str) -> Result<MadeJob, Stop>
 }
 
 /// Holds these files. Of two with one name the first is held.
-fn hold(
-    alloc: Global,
-    store: &mut SureStore,
-    files: &[(String, Vec<u8>)],
-) -> Result<(), AllocError>
+fn hold(alloc: Global, store: &mut SureStore, files: &[(String, Vec<u8>)]) -> Result<(), AllocError>
     requires { surely_held store.old ≡ held_by [] }
     ensures { OnOk result (surely_held store.new ≡ held_by (files_of files.now)) }
 {
