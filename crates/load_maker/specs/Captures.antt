@@ -7,7 +7,7 @@ use Rattle.pcap_io.specs.Written.{capture_bytes}
 use Rattle.load_maker.specs.Frames.{frame}
 use Rattle.load_maker.specs.declared.packet.Packet.{Packet}
 
--- a packet is sent each millisecond of the first second, and so on, which is written as a microsecond
+-- its time: a second for each thousand packets before it, and a microsecond for each other one
 abbrev pub record_for : Packet → Record
 record_for p = record { seconds = p.number / 1000; micros = p.number % 1000; bytes = frame p }
 

@@ -10,7 +10,7 @@ use std::alloc::{AllocError, Global};
 
 #[tactic(auto, using(crate::proofs::MoreNumbers::put_none, crate::proofs::MoreNumbers::put_more), unfolding(crate::specs::Values::control_data))]
 /// The contents of all leaves.
-pub fn control(alloc: Global) -> Result<Value, AllocError>
+pub fn control_value(alloc: Global) -> Result<Value, AllocError>
     ensures { IfOk result (λ v. view v ≡ values.control_data) }
 {
     let mut switches = Map::new(alloc);

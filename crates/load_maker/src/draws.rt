@@ -18,7 +18,7 @@ const INCREMENT: u64 = 1_442_695_040_888_963_407;
 const LOW_BITS: u64 = 8_589_934_592;
 
 /// Numbers that are drawn one after another.
-#[derive(Clone, Copy, Debug)]
+#[derive(Drop)]
 struct Draws {
     state: u64,
 }

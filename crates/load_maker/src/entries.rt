@@ -15,7 +15,7 @@ use std::alloc::{AllocError, Global};
 
 /// The entries of all switches.
 #[tactic(auto, unfolding(crate::specs::Values::entries_data))]
-pub fn entries(alloc: Global) -> Result<Value, AllocError>
+pub fn entries_value(alloc: Global) -> Result<Value, AllocError>
     ensures { IfOk result (λ v. view v ≡ values.entries_data) }
 {
     let mut switches = Map::new(alloc);

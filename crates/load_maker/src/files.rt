@@ -9,10 +9,10 @@ ghost use Rattle.load_maker.specs.Values as values;
 ghost use Rattle.serde_json.specs.View.{view};
 ghost use Rattle.serde_json.specs.Written.{compact_text};
 
-use crate::control::control;
-use crate::entries::entries;
-use crate::network::network;
-use crate::places::{case, file_name};
+use crate::case::{case_value, file_name};
+use crate::control::control_value;
+use crate::entries::entries_value;
+use crate::network::network_value;
 use crate::texts::{program_text, property_text};
 use serde_json::Value;
 use std::alloc::{AllocError, Global};
@@ -30,28 +30,28 @@ fn case_text(alloc: Global, out: &str) -> Result<Vec<u8>, AllocError>
     ensures text { IfOk result (λ b. b.items ≡ made.case_text out.now) }
     ensures json { OnOk result (IsJson (made.case_text out.now) (values.case_data out.now)) }
 {
-    let case = case(alloc, out)?;
+    let case = case_value(alloc, out)?;
     json_text(alloc, &case)
 }
 
 fn network_text(alloc: Global) -> Result<Vec<u8>, AllocError>
     ensures { IfOk result (λ b. b.items ≡ compact_text values.network_data) }
 {
-    let network = network(alloc)?;
+    let network = network_value(alloc)?;
     json_text(alloc, &network)
 }
 
 fn entries_text(alloc: Global) -> Result<Vec<u8>, AllocError>
     ensures { IfOk result (λ b. b.items ≡ compact_text values.entries_data) }
 {
-    let entries = entries(alloc)?;
+    let entries = entries_value(alloc)?;
     json_text(alloc, &entries)
 }
 
 fn control_text(alloc: Global) -> Result<Vec<u8>, AllocError>
     ensures { IfOk result (λ b. b.items ≡ compact_text values.control_data) }
 {
-    let control = control(alloc)?;
+    let control = control_value(alloc)?;
     json_text(alloc, &control)
 }
 

@@ -9,13 +9,6 @@ use crate::packet::Packet;
 use p4_values::csum16;
 use std::alloc::{AllocError, Global};
 
-/// The two bytes of a number, the higher one first.
-fn two_bytes(number: u16) -> [u8; 2]
-    ensures { result ≡ frames.two_bytes number }
-{
-    [(number / 256) as u8, (number % 256) as u8]
-}
-
 fn hardware_bytes(hardware: Hardware) -> [u8; 6]
     ensures { result ≡ hardware_bytes hardware }
 {

@@ -7,6 +7,7 @@
 #![tactic(auto)]
 
 mod captures;
+mod case;
 mod control;
 mod draws;
 mod entries;
@@ -16,7 +17,6 @@ mod frames;
 mod load;
 mod network;
 mod packet;
-mod places;
 mod texts;
 
 pub use load::make_load;

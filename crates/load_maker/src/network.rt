@@ -13,7 +13,7 @@ use std::alloc::{AllocError, Global};
 
 /// The network: its switches, and the links between each leaf and each spine.
 #[tactic(auto, unfolding(crate::specs::Values::network_data))]
-pub fn network(alloc: Global) -> Result<Value, AllocError>
+pub fn network_value(alloc: Global) -> Result<Value, AllocError>
     ensures { IfOk result (λ v. view v ≡ values.network_data) }
 {
     let links = links(alloc)?;

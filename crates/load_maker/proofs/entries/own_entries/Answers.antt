@@ -1,5 +1,4 @@
-use Rattle.std.proofs.Common.{◌+◌, ◌*◌, ◌∙◌, [], map, ap, ℕ}
-use Rattle.serde_json.specs.Data.{Data}
+use Rattle.std.proofs.Common.{◌+◌, ◌*◌, ◌∙◌, [], map, ap}
 use Rattle.serde_json.specs.View.{view}
 use Rattle.load_maker.specs.Numbers.{numbers}
 use Rattle.load_maker.specs.Fabric.{host_at, host_route}

@@ -1,4 +1,4 @@
-use Rattle.std.proofs.Common.{◌≡◌, ◌++◌, ◌∙◌, List, map, ap, sym}
+use Rattle.std.proofs.Common.{◌++◌, ◌∙◌, List, map, ap, sym}
 use Rattle.serde_json.specs.Data.{Data}
 use Rattle.serde_json.specs.View.{view}
 use Rattle.load_maker.specs.Numbers.{numbers}

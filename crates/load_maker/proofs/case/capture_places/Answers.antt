@@ -3,7 +3,7 @@ use Rattle.serde_json.specs.View.{view}
 use Rattle.load_maker.specs.Numbers.{numbers}
 use Rattle.load_maker.specs.Values.{capture_place}
 use Rattle.load_maker.proofs.MoreValues.{value_more}
-use Rattle.load_maker.proofs.places.capture_places.Goals as goal
+use Rattle.load_maker.proofs.case.capture_places.Goals as goal
 
 pub loop-number-init : goal.loop-number-init
 unfolding numbers

@@ -18,7 +18,7 @@ pub fn file_name(alloc: Global, out: &str, ending: &str) -> Result<String, Alloc
 }
 
 /// The case: which files belong together, and where frames enter.
-pub fn case(alloc: Global, out: &str) -> Result<Value, AllocError>
+pub fn case_value(alloc: Global, out: &str) -> Result<Value, AllocError>
     ensures { IfOk result (λ v. view v ≡ values.case_data out.now) }
 {
     let captures = capture_places(alloc, out)?;

@@ -3,7 +3,7 @@ use Rattle.serde_json.specs.Data.{Members, no_members, string, object, put}
 use Rattle.serde_json.specs.View.{view, members_view}
 use Rattle.serde_json.specs.declared.value.Value.{Object, Array, the_lemmas}
 use Rattle.load_maker.specs.Values.{case_data, file_name, capture_places, list_of}
-use Rattle.load_maker.proofs.places.case.Goals as goal
+use Rattle.load_maker.proofs.case.case_value.Goals as goal
 
 -- six members, the first of which is put last
 six : (a b d e f g : Members → Members) (m0 m1 m2 m3 m4 m5 m6 : Members)
