@@ -51,5 +51,6 @@ fn put_linked(
     put_programs(alloc, files, out, &site.network, &linked.programs)?;
     let decls = &site.property.property().decls;
     let tables = tables_text(alloc, &linked.map, decls)?;
-    put_text(alloc, files, out, ".tables.txt", tables)
+    put_text(alloc, files, out, ".tables.txt", tables)?;
+    Ok(())
 }
