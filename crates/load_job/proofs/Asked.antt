@@ -1,5 +1,5 @@
 -- All files that the made case asks for are among those that are made.
-use Rattle.std.proofs.Common.{◌≡◌, ℕ, ◌-◌, List, [], ◌∷◌, ◌++◌, length, map, codes, true, Some, None, Result, Ok, refl, sym, ◌∙◌, ap, subst}
+use Rattle.std.proofs.Common.{◌≡◌, ℕ, ◌-◌, List, [], ◌∷◌, ◌++◌, length, map, codes, true, Some, None, inl, inr, Result, Ok, refl, sym, ◌∙◌, ap, subst}
 use Rattle.serde_json.specs.Data.{Data}
 use Rattle.serde_json.specs.Read.{read}
 use Rattle.pcap_io.specs.Record.{Record}
@@ -8,15 +8,14 @@ use Rattle.outside.specs.State.{StoreState}
 use Rattle.job_course.specs.declared.status.Stop.{Stop}
 use Rattle.job_course.specs.Steps.{Follows}
 use Rattle.case_file.specs.Case.{Case, case_of}
-use Rattle.p4_tree.specs.Tree.{Program}
-use Rattle.network_file.specs.Network.{Network, Port}
-use Rattle.job_course.specs.Course.{and_then}
+use Rattle.p4_rules.specs.Limits.{cells}
+use Rattle.job_course.specs.Course.{and_then, give}
 use Rattle.property_course.specs.Files.{typed_property}
 use Rattle.program_course.specs.Files.{forwarding_program}
 use Rattle.network_course.specs.Files.{value_course, case_answer, network_course}
 use Rattle.capture_course.specs.Files.{captures_from}
 use Rattle.case_course.specs.Course.{ground_course, packets_course}
-use Rattle.run_job.specs.Course.{Base, Task, base_course, rest_course, run_course}
+use Rattle.run_job.specs.Course.{Base, Task, base_course, rest_course, task_from, run_course}
 use Rattle.load_maker.specs.Numbers.{numbers}
 use Rattle.load_maker.specs.Draws.{packets}
 use Rattle.load_maker.specs.Captures.{capture, capture_name}
@@ -24,9 +23,9 @@ use Rattle.load_maker.specs.Values.{case_data, file_name}
 use Rattle.load_maker.specs.Made.{case_text, made_files, capture_files}
 use Rattle.load_job.specs.Within.{held_by}
 use Rattle.load_job.specs.Course.{load_course}
-use Rattle.load_job.specs.Made.{made_case}
+use Rattle.load_job.specs.Made.{made_case, made_capture}
 use Rattle.load_job.proofs.Held.{IsHeld, AreHeld, first_held, here, there, all_there, numbered_held}
-use Rattle.load_job.proofs.Closed.{IsThere, IsClosed, file_closed, decide_closed, then_closed}
+use Rattle.load_job.proofs.Closed.{IsThere, IsClosed, named}
 use Rattle.load_job.proofs.Cases.{case_is_made}
 use Rattle.load_job.proofs.Within.{follows_within}
 
@@ -34,28 +33,52 @@ use Rattle.load_job.proofs.Within.{follows_within}
 
 module _ (f : Files) where
   value_closed : (x : List ℕ) → IsThere f x → IsClosed f (value_course x)
-  value_closed x held = then_closed f _ _ (file_closed f x _ _ held) (λ b g. decide_closed f _ _)
+  unfolding and_then
+  value_closed x held n asks = elim asks [ inl is ↦ named f x n held is | inr p ↦ absurd p.2 ]
 
   property_closed : (x : List ℕ) → IsThere f x → IsClosed f (typed_property x)
-  property_closed x held = then_closed f _ _ (then_closed f _ _ (file_closed f x _ _ held) (λ b g. decide_closed f _ _)) (λ t g. decide_closed f _ _)
+  unfolding and_then
+  property_closed x held n asks = elim asks [
+    | inl a ↦ elim a [ inl is ↦ named f x n held is | inr p ↦ absurd p.2 ]
+    | inr p ↦ absurd p.2
+  ]
 
   program_closed : (x : List ℕ) → IsThere f x → IsClosed f (forwarding_program x)
-  program_closed x held =
-      then_closed f _ _ (then_closed f _ _ (then_closed f _ _ (file_closed f x _ _ held) (λ b g. decide_closed f _ _)) (λ t g. decide_closed f _ _)) (λ p g. decide_closed f _ _)
+  unfolding and_then
+  program_closed x held n asks = elim asks [
+    | inl a ↦ elim a [
+      | inl b ↦ elim b [ inl is ↦ named f x n held is | inr p ↦ absurd p.2 ]
+      | inr p ↦ absurd p.2
+    ]
+    | inr p ↦ absurd p.2
+  ]
 
   network_closed : (x : List ℕ) (cells : ℕ) → IsThere f x → IsClosed f (network_course x cells)
-  network_closed x cells held = then_closed f _ _ (value_closed x held) (λ d g. then_closed f _ _ (decide_closed f _ _) (λ n h. decide_closed f _ _))
+  unfolding and_then
+  network_closed x cells held n asks = elim asks [
+    | inl a ↦ value_closed x held n a
+    | inr p ↦ elim p.2 [ inl a ↦ absurd a | inr q ↦ absurd q.2 ]
+  ]
 
   -- all of these
   abbrev AreThere : List (List ℕ) → Type 0
   AreThere [] = Unit {0}
   AreThere (n ∷ ns) = IsThere f n × AreThere ns
 
-  captures_closed : (left : ℕ) (found : List (List Record)) (ns : List (List ℕ)) → AreThere ns → IsClosed f (captures_from left found ns)
-  unfolding captures_from
-  captures_closed left found [] held = decide_closed f _ _
-  captures_closed left found (n ∷ ns) (first, rest) =
-      then_closed f _ _ (file_closed f n _ _ first) (λ b g. then_closed f _ _ (decide_closed f _ _) (λ r h. captures_closed (left - length b) (found ++ r ∷ []) ns rest))
+  are_there : (xs : List (List ℕ × List ℕ)) (ns : List (List ℕ)) → held_by xs ≡ f → AreHeld xs ns → AreThere ns
+  are_there xs [] is held = tt
+  are_there xs (n ∷ ns) is (first, rest) = (subst (λ (g : Files). g n ≡ None → ⊥) is first.held, are_there xs ns is rest)
+
+  captures_closed : (left : ℕ) (found : List (List Record)) (names : List (List ℕ)) → AreThere names → IsClosed f (captures_from left found names)
+  unfolding captures_from and_then
+  captures_closed left found [] held n asks = absurd asks
+  captures_closed left found (x ∷ xs) (first, rest) n asks = elim asks [
+    | inl is ↦ named f x n first is
+    | inr p ↦ elim p.2 [
+      | inl a ↦ absurd a
+      | inr q ↦ captures_closed (left - length p.0) (found ++ q.0 ∷ []) xs rest n q.2
+    ]
+  ]
 
 -- ---- the made case
 
@@ -91,10 +114,18 @@ module _ (n : ℕ) (out : List ℕ) (reads : read (case_text out) ≡ Some (case
   held_control : IsHeld (made_files n out) (file_name out (codes "control.json"))
   held_control = there _ _ _ (there _ _ _ (there _ _ _ (there _ _ _ (there _ _ _ (here _ _ _)))))
 
-  held_captures : AreHeld (made_files n out) (map (λ x. x.file) c.captures)
-  held_captures =
+  named_files : (ks : List ℕ) → map (capture_name out) ks ≡ map (λ x. x.file) (map (made_capture out) ks)
+  named_files [] = refl
+  named_files (k ∷ ks) = ap (λ (ns : List (List ℕ)). capture_name out k ∷ ns) (named_files ks)
+
+  -- the captures are held, behind the six other files
+  six_on : AreHeld (made_files n out) (map (capture_name out) (numbers 16))
+  six_on =
       all_there _ _ _ (all_there _ _ _ (all_there _ _ _ (all_there _ _ _ (all_there _ _ _ (all_there _ _ _
       (numbered_held (capture_name out) (λ k. capture k (packets n)) (numbers 16)))))))
+
+  held_captures : AreHeld (made_files n out) (map (λ x. x.file) c.captures)
+  held_captures = subst (AreHeld (made_files n out)) (named_files (numbers 16)) six_on
 
   -- the case file says the made case
   case_is : (d : Data) → (value_course name).gives f d → d ≡ case_data out
@@ -105,32 +136,60 @@ module _ (n : ℕ) (out : List ℕ) (reads : read (case_text out) ≡ Some (case
       cc (again, reads)
 
   base_closed : IsClosed f (base_course name c)
-  unfolding base_course ground_course
-  base_closed =
-      then_closed f _ _ (property_closed f (file_name out (codes "path.indus")) held_property) (λ p g.
-      then_closed f _ _
-      (then_closed f _ _ (program_closed f c.program held_program) (λ q h.
-      then_closed f _ _ (network_closed f c.network _ held_network) (λ w i.
-      then_closed f _ _ (decide_closed f _ _) (λ ps k. decide_closed f _ _))))
-      (λ r h. then_closed f _ _ (decide_closed f _ _) (λ l i. decide_closed f _ _)))
+  unfolding base_course ground_course and_then
+  base_closed m asks = elim asks [
+    | inl a ↦ property_closed f (file_name out (codes "path.indus")) held_property.held m a
+    | inr p ↦ elim p.2 [
+      | inl a ↦ elim a [
+        | inl b ↦ program_closed f c.program held_program.held m b
+        | inr q ↦ elim q.2 [
+          | inl b ↦ network_closed f c.network (cells q.0) held_network.held m b
+          | inr r ↦ elim r.2 [ inl b ↦ absurd b | inr s ↦ absurd s.2 ]
+        ]
+      ]
+      | inr q ↦ elim q.2 [ inl a ↦ absurd a | inr r ↦ absurd r.2 ]
+    ]
+  ]
 
   rest_closed : (b : Base) → IsClosed f (rest_course name c b)
-  unfolding rest_course packets_course
-  rest_closed b =
-      then_closed f _ _ (then_closed f _ _ (value_closed f (file_name out (codes "entries.json")) held_entries) (λ d g. decide_closed f _ _)) (λ ts g.
-      then_closed f _ _ (then_closed f _ _ (value_closed f (file_name out (codes "control.json")) held_control) (λ d h. decide_closed f _ _)) (λ cs h.
-      then_closed f _ _ (then_closed f _ _ (then_closed f _ _ (captures_closed f _ _ _ held_captures) (λ rs i. decide_closed f _ _)) (λ rs i. decide_closed f _ _)) (λ ps i.
-      then_closed f _ _ (decide_closed f _ _) (λ es k.
-      then_closed f _ _ (decide_closed f _ _) (λ few l. decide_closed f _ _)))))
+  unfolding rest_course packets_course and_then
+  rest_closed b m asks = elim asks [
+    | inl a ↦ elim a [ inl d ↦ value_closed f (file_name out (codes "entries.json")) held_entries.held m d | inr p ↦ absurd p.2 ]
+    | inr p ↦ elim p.2 [
+      | inl a ↦ elim a [ inl d ↦ value_closed f (file_name out (codes "control.json")) held_control.held m d | inr q ↦ absurd q.2 ]
+      | inr q ↦ elim q.2 [
+        | inl a ↦ elim a [
+          | inl d ↦ elim d [ inl e ↦ captures_closed f 67108864 [] (map (λ x. x.file) c.captures) (are_there f (made_files n out) _ refl held_captures) m e | inr r ↦ absurd r.2 ]
+          | inr r ↦ absurd r.2
+        ]
+        | inr r ↦ elim r.2 [
+          | inl a ↦ absurd a
+          | inr s ↦ elim s.2 [ inl a ↦ absurd a | inr t ↦ absurd t.2 ]
+        ]
+      ]
+    ]
+  ]
 
-  pub asks_for_what_is_made : IsClosed f (run_course name)
-  unfolding run_course
-  asks_for_what_is_made =
-      then_closed f _ _ (value_closed f name held_case) (λ d g.
-      then_closed f _ _ (decide_closed f _ _) (λ k h.
-      let is : k ≡ c = case_is_made out k (subst (λ (x : Data). case_of true x ≡ Ok k) (case_is d g) h) in
-      subst (λ (x : Case). IsClosed f (and_then (base_course name x) (λ b. and_then (rest_course name x b) _))) (sym is)
-      (then_closed f _ _ base_closed (λ b i. then_closed f _ _ (rest_closed b) (λ r l. decide_closed f _ _)))))
+  -- what is asked for behind a case
+  abbrev Behind : List ℕ → Case → Type 0
+  Behind m k = (and_then (base_course name k) (λ b. and_then (rest_course name k b) (λ r. give (task_from k b r)))).asks f m
+
+  behind : (m : List ℕ) → Behind m c → IsThere f m
+  unfolding and_then
+  behind m asks = elim asks [
+    | inl a ↦ base_closed m a
+    | inr p ↦ elim p.2 [ inl a ↦ rest_closed p.0 m a | inr q ↦ absurd q.2 ]
+  ]
+
+  asks_for_what_is_made : IsClosed f (run_course name)
+  unfolding run_course and_then
+  asks_for_what_is_made m asks = elim asks [
+    | inl a ↦ value_closed f name held_case.held m a
+    | inr p ↦ elim p.2 [
+      | inl a ↦ absurd a
+      | inr q ↦ behind m (subst (Behind m) (case_is_made out q.0 (subst (λ (x : Data). case_of true x ≡ Ok q.0) (case_is p.0 p.1) q.1)) q.2)
+    ]
+  ]
 
   -- what is read of them, in a store that holds them and never fails, is what is to be done
   pub made_follows : {A : Type 0} (view : A → Task) (case : List ℕ) (held : Files) (s t u : StoreState) (r : Result A Stop) → case ≡ name → held ≡ f → s.files ≡ Some held → t.read_faults ≡ 0

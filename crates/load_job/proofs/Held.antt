@@ -30,18 +30,18 @@ pub first_held : (n b : List ℕ) (xs : Named) → held_by ((n, b) ∷ xs) n ≡
 first_held n b xs = rw (same_name n) refl
 
 -- it is held, whatever it is
-abbrev pub IsHeld : Named → List ℕ → Type 0
-IsHeld xs n = held_by xs n ≡ None → ⊥
+pub record IsHeld (xs : Named) (n : List ℕ) : Type 0 where
+  pub held : held_by xs n ≡ None → ⊥
 
 pub here : (n b : List ℕ) (xs : Named) → IsHeld ((n, b) ∷ xs) n
-here n b xs none = let e = sym (first_held n b xs) ∙ none in absurd cc
+here n b xs = record { held = λ none. let e = sym (first_held n b xs) ∙ none in absurd cc }
 
 pub there : (x : List ℕ × List ℕ) (xs : Named) (n : List ℕ) → IsHeld xs n → IsHeld (x ∷ xs) n
-there x xs n held = at (bytes_eq x.0 n) refl
+there x xs n is = record { held = at (bytes_eq x.0 n) refl }
   where
-    at : (e : Bool) → bytes_eq x.0 n ≡ e → IsHeld (x ∷ xs) n
-    at true is none = let e : Some x.1 ≡ None = sym (rw is refl) ∙ none in absurd cc
-    at false is none = held (sym (rw is refl) ∙ none)
+    at : (e : Bool) → bytes_eq x.0 n ≡ e → held_by (x ∷ xs) n ≡ None → ⊥
+    at true same none = let e : Some x.1 ≡ None = sym (rw same refl) ∙ none in absurd cc
+    at false other none = is.held (sym (rw other refl) ∙ none)
 
 -- all of these are held
 abbrev pub AreHeld : Named → List (List ℕ) → Type 0
