@@ -9,4 +9,6 @@ mod linked;
 #[cfg(test)]
 mod made;
 #[cfg(test)]
+mod pieces;
+#[cfg(test)]
 mod refusals;

@@ -5,12 +5,12 @@ ghost use Rattle.p4_tree.specs.View.{program_of};
 ghost use Rattle.p4_printer.specs.CanSpell.{CanSpell};
 
 use crate::given::{linked, printed, printed_again};
-use machine_bench::text_of;
+use crate::pieces::text_of;
 use program_linker::Linked;
 use std::alloc::{AllocError, Global};
 use std::test::Fail;
 
-/// Properties, each with a program in pieces as `machine_bench` reads them: exits in an action of a table
+/// Properties, each with a program in pieces as `pieces` reads them: exits in an action of a table
 /// that is a test, in both controls; a parser that reads the packet's length, and one that leads back to
 /// its first state; a set whose key has two parts; an array of sensors; both editions; checksums.
 const ROWS: &str = "\

@@ -1,6 +1,6 @@
 //! Which refusal a linker gives, worked by hand.
 //!
-//! A row is the room, the property, and the program in pieces as `machine_bench` reads them: its header
+//! A row is the room, the property, and the program in pieces as `pieces` reads them: its header
 //! `e` has a field `x` of 8 bits. Behind ` => ` stands the refusal, or how many programs there are.
 //!
 //! `W` is a property that is too large: two loops over 255 items, 325,636 by the sums, whose telemetry has
@@ -8,7 +8,7 @@
 
 use crate::given;
 use crate::given::network;
-use machine_bench::text_of;
+use crate::pieces::text_of;
 use program_linker::{LinkFault, Linked};
 use std::alloc::{AllocError, Global};
 use std::test::Fail;

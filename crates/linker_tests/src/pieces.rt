@@ -24,7 +24,7 @@ apply { p.emit(h.e); p.emit(h.w); p.emit(h.n); p.emit(h.o); } } ";
 const MAIN: &str = " V1Switch(Prs(), Ver(), Ing(), Egr(), Com(), Dep()) main;";
 
 /// The piece of a row behind a word, or else another text.
-pub fn piece<'a>(row: &'a str, word: &str, other: &'a str) -> &'a str {
+fn piece<'a>(row: &'a str, word: &str, other: &'a str) -> &'a str {
     for piece in row.split('@') {
         if let Some(text) = piece.strip_prefix(word) {
             return text;
