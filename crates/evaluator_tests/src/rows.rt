@@ -180,11 +180,7 @@ fn packet_of<'a>(text: &'a str) -> Option<(&'a str, &'a str, &'a str)> {
 }
 
 /// Each packet has a capture of its own. The answer is where they enter, as the case says it.
-fn hold_packets(
-    alloc: Global,
-    store: &mut SureStore,
-    packets: &str,
-) -> Result<String, Fail> {
+fn hold_packets(alloc: Global, store: &mut SureStore, packets: &str) -> Result<String, Fail> {
     let mut places = String::new(alloc);
     let mut number: u32 = 0;
     for text in packets.split(',') {

@@ -186,11 +186,7 @@ fn put_variable(out: &mut BitWriter, shape: &Shape, words: &[Bits]) -> Result<()
     }
 }
 
-fn put_variables(
-    out: &mut BitWriter,
-    decls: &[Decl],
-    tele: &TeleState,
-) -> Result<(), AllocError> {
+fn put_variables(out: &mut BitWriter, decls: &[Decl], tele: &TeleState) -> Result<(), AllocError> {
     let mut lists = tele.items.iter();
     for decl in decls {
         if decl.kind == DeclKind::Tele {

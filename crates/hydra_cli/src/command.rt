@@ -44,12 +44,7 @@ pub fn read_words<'a>(words: &'a [String]) -> Option<Command<'a>>
     }
 }
 
-fn read_four<'a>(
-    word: &str,
-    property: &'a str,
-    frame: &'a str,
-    out: &'a str,
-) -> Option<Command<'a>>
+fn read_four<'a>(word: &str, property: &'a str, frame: &'a str, out: &'a str) -> Option<Command<'a>>
     ensures { let words = word.now ∷ property.now ∷ frame.now ∷ out.now ∷ [] in
         MatchOption result (command_of words ≡ None) (λ c. command_of words ≡ Some (said_by c)) }
 {

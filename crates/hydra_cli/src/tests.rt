@@ -118,7 +118,8 @@ control D(packet_out packet, in headers hdr) { apply { } }
 V1Switch(P(), V(), I(), E(), K(), D()) main;";
 
 /// What each case of `run` names.
-const CASE: &str = r#""captures": [{"switch": "s1", "port": 1, "file": "h.pcap"}], "network": "n", "program": "f", "property": "p""#;
+const CASE: &str =
+    r#""captures": [{"switch": "s1", "port": 1, "file": "h.pcap"}], "network": "n", "program": "f", "property": "p""#;
 
 /// The head of a capture, and behind the time of a frame, 1 second and 5 microseconds, its length twice.
 const HEAD: &[u8] = b"\xd4\xc3\xb2\xa1\x02\0\x04\0\0\0\0\0\0\0\0\0\0\0\x04\0\x01\0\0\0";
@@ -348,7 +349,11 @@ fn surely(alloc: Global, property: &str, frame: &[u8], wanted: &str) -> Result<b
     store.hold(alloc, "f", frame)?;
     let mut out = SureSink::new(alloc, 1000)?;
     let status = hydra(alloc, &words_of(alloc, "wire p f o")?, &mut store, &mut out);
-    let left = if wanted.contains("/sent 1/") { Some(frame) } else { None };
+    let left = if wanted.contains("/sent 1/") {
+        Some(frame)
+    } else {
+        None
+    };
     Ok(is_answer(alloc, status, out.taken(), wanted)? && store.file("o.frame") == left)
 }
 

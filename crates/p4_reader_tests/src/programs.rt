@@ -62,7 +62,11 @@ pub fn spells(rt: &impl Abort, alloc: Global, text: &str, words: &str) -> Result
     let Some(tokens) = printed.as_str().strip_prefix(INCLUSIONS) else {
         return Err(Fail::new("no inclusions"));
     };
-    assert_eq!(rt; without_spaces(alloc, tokens)?, without_spaces(alloc, words)?, "{text}");
+    assert_eq!(rt;
+        without_spaces(alloc, tokens)?,
+        without_spaces(alloc, words)?,
+        "{text}"
+    );
     Ok(())
 }
 
