@@ -5,7 +5,7 @@ ghost use Rattle.p4_tables.specs.Programs.{IsStateOf};
 
 use crate::entries::{offer, program};
 use hex::{decode, encode};
-use p4_machine::{FrameBuf, Pass, Passed, Switch};
+use p4_machine::{Digest, FrameBuf, Pass, Passed, Switch};
 use p4_tables::TableState;
 use p4_types::TypedProgram;
 use sample_programs::BASIC;
@@ -87,16 +87,20 @@ fn filled(rt: &impl Abort, alloc: Global, p: &TypedProgram, name: &str, items: &
     state
 }
 
+/// Puts the words of a digest behind a text, each behind its receiver.
+fn put_digest(rt: &impl Abort, alloc: Global, out: &mut String, digest: &Digest) {
+    for word in digest.values.as_slice() {
+        let told = format!(in alloc; " {}:{}", digest.receiver, word.value).expect(rt, "memory");
+        out.push_str(&told).expect(rt, "memory");
+    }
+}
+
 /// What a buffer holds behind a passage.
 fn shown(rt: &impl Abort, alloc: Global, passed: Passed, buf: &FrameBuf) -> String {
     let frame = encode(alloc, buf.frame()).expect(rt, "memory");
     let mut out = format!(in alloc; "{passed:?} {frame};").expect(rt, "memory");
     for digest in buf.digests() {
-        for value in digest.values.as_slice() {
-            let told = format!(in alloc; " {}:{}", digest.receiver, value.value);
-            out.push_str(&told.expect(rt, "memory"))
-                .expect(rt, "memory");
-        }
+        put_digest(rt, alloc, &mut out, digest);
     }
     out
 }

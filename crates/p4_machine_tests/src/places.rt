@@ -2,6 +2,7 @@
 
 use crate::entries::program;
 use p4_tables::stands_in;
+use p4_types::TypedProgram;
 use std::alloc::Global;
 use std::process::Abort;
 
@@ -37,23 +38,32 @@ action a(bit<8> v) { } action b() { } table t { key = { h.e.x: exact; } actions 
 action a(bit<8> v) { } action b() { } table t { key = { h.e.x: exact; } actions = { b; a; NoAction; } default_action = b(); } => false
 action a(bit<8> v) { } action b() { } table t { key = { h.e.x: exact; } actions = { b; a; NoAction; } const default_action = a(5); } => false";
 
-/// Whether the program of these declarations has a place for the first one's table.
-fn has_place(rt: &impl Abort, alloc: Global, other: &str) -> bool {
-    let first = format!(in alloc; "{BEFORE}{TABLE}{BEHIND}").expect(rt, "memory");
-    let other = format!(in alloc; "{BEFORE}{other}{BEHIND}").expect(rt, "memory");
-    let first = program(rt, alloc, &first);
-    stands_in(alloc, &first, &program(rt, alloc, &other)).expect(rt, "memory")
+/// The program of these declarations.
+fn program_with(rt: &impl Abort, alloc: Global, locals: &str) -> TypedProgram {
+    let text = format!(in alloc; "{BEFORE}{locals}{BEHIND}").expect(rt, "memory");
+    program(rt, alloc, &text)
+}
+
+/// Whether the program of these declarations has a place for another one's tables.
+fn has_place(rt: &impl Abort, alloc: Global, first: &TypedProgram, locals: &str) -> bool {
+    let other = program_with(rt, alloc, locals);
+    stands_in(alloc, first, &other).expect(rt, "memory")
 }
 
 /// Each line is as it says.
-fn all_right(rt: &impl Abort, alloc: Global) {
+fn all_right(rt: &impl Abort, alloc: Global, first: &TypedProgram) {
     for line in OTHERS.lines() {
-        let (other, wanted) = line.split_once(" => ").expect(rt, "an answer");
-        assert_eq!(rt; has_place(rt, alloc, other), wanted == "true", "{line}");
+        let (locals, wanted) = line.split_once(" => ").expect(rt, "an answer");
+        assert_eq!(rt;
+            has_place(rt, alloc, first, locals),
+            wanted == "true",
+            "{line}"
+        );
     }
 }
 
 #[test]
 fn places(rt: HostRuntime) {
-    all_right(&rt, rt.alloc());
+    let first = program_with(&rt, rt.alloc(), TABLE);
+    all_right(&rt, rt.alloc(), &first);
 }
