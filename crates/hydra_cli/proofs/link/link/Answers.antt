@@ -1,6 +1,6 @@
 use Rattle.hydra_cli.specs.Job as job
 use Rattle.hydra_cli.specs.Output.{Outputs}
-use Rattle.hydra_cli.proofs.Planned.{planned, planned_first}
+use Rattle.hydra_cli.proofs.Planned.{planned, planned_first, planned_starved}
 use Rattle.run_job.specs.Views.{base_of}
 use Rattle.hydra_cli.proofs.link.link.Goals as goal
 
@@ -9,3 +9,6 @@ returns-in_err-base g c = planned_first Outputs _ (λ base. job.link base c.args
 
 pub returns : goal.returns
 returns g c = planned Outputs _ (λ base. job.link base c.args.out.now) base_of _ _ c.in_ok-write_linked.field-0 c.in_ok-base.ensures.follows c.in_ok-write_linked.ensures
+
+pub returns-in_err-write_linked : goal.returns-in_err-write_linked
+returns-in_err-write_linked g c = planned_starved Outputs _ (λ base. job.link base c.args.out.now) base_of _ _ _ c.from_residual-in_err-write_linked.ensures c.in_ok-base.ensures.follows
