@@ -3,6 +3,8 @@
 import os
 import re
 
+import layout
+
 HERE = os.path.dirname(os.path.realpath(__file__))
 TOP = os.path.dirname(HERE)
 
@@ -14,10 +16,11 @@ class Broken(Exception):
 class Case:
     def __init__(self, name, base=None):
         self.name = name
-        self.line = {**base.line} if base else {}  # words, status, out, why
+        self.line = {**base.line} if base else {}  # words, then, status, out, why
         self.lets = {**base.lets} if base else {}
         self.given = {**base.given} if base else {}
         self.wanted = {**base.wanted} if base else {}
+        self.lacking = {**base.lacking} if base else {}
         self.changes = []  # a file's name, what stands in it, and what is to stand there
         self.quotes = []
 
@@ -42,6 +45,8 @@ class Case:
             return self.text(value).encode()
         if kind == "lines":
             return (self.text(value) + "\n").encode() if value else b""
+        if kind == "p4":
+            return layout.laid(self.text(value)).encode()
         if kind == "hex":
             return b"".join(bytes_of(it) for it in self.text(value).split())
         if kind == "copy":
@@ -116,13 +121,15 @@ def cases_of(path):
             cases.append(case)
         elif case is None:
             raise Broken(f"{path}:{number}: a case begins with `== NAME`")
-        elif key in ("words", "status", "out", "why"):
+        elif key in ("words", "then", "status", "out", "why"):
             case.line[key] = value
         elif first == "let" and rest:
             case.lets[rest] = value
         elif first in ("give", "want") and " " in rest:
             kind, _, name = rest.partition(" ")
             (case.given if first == "give" else case.wanted)[name] = (kind, value)
+        elif first == "lack" and rest:
+            case.lacking[rest] = value.split()
         elif first == "change" and rest:
             case.changes.append([rest, value, None])
         elif first == "to" and case.changes and case.changes[-1][0] == rest:

@@ -1,15 +1,15 @@
 //! `load`: the made case of a number, written and run.
 
-ghost use Rattle.std.specs.Prelude.{◌≡◌, ◌==◌, IfOk, slice_index, string_bytes};
-ghost use Rattle.job_course.specs.Output.{out_of};
-ghost use Rattle.job_course.specs.Steps.{Follows};
-ghost use Rattle.linked_jobs.specs.Views as linked;
+ghost use Rattle.std.specs.Prelude.{◌≡◌, ◌==◌, ℕ, IfOk, slice_index};
+ghost use Rattle.job_course.specs.Output.{files_of, out_of};
+ghost use Rattle.job_course.specs.Plan.{Plans};
+ghost use Rattle.linked_jobs.specs.Views.{IsLinkedJob, job_of};
+ghost use Rattle.load_maker.specs.Made.{made_files};
 ghost use Rattle.hydra_cli.specs.Command.{course_of, load, number_in};
-ghost use Rattle.hydra_cli.specs.Job.{IsMade, IsRead, job_of};
-ghost use Rattle.hydra_cli.specs.Output.{LoadHeadline};
+ghost use Rattle.hydra_cli.specs.Output.{LoadHeadline, Outputs};
 
-use crate::job::{Job, LoadTask};
 use job_course::{Output, Stop};
+use linked_jobs::LinkedJob;
 use linked_run::run_linked;
 use load_job::{MadeJob, load_made};
 use outside::Store;
@@ -31,29 +31,26 @@ fn begins_with_plus(word: &str) -> bool
     word.starts_with('+')
 }
 
-/// The made case. The store is not asked for a file.
-pub fn read_load<S: Store>(
-    alloc: Global,
-    store: &mut S,
-    number: u64,
-    out: &str,
-) -> Result<Job, Stop>
-    ensures follows { Follows (course_of (load number out.now)) job_of (S.state store.old) (S.state store.new) result }
-    ensures read { IfOk result IsRead }
+/// Makes the case, runs the linked programs on it, and writes its files and behind them those of the run. The
+/// store is not asked for a file.
+pub fn load<S: Store>(alloc: Global, store: &mut S, number: u64, out: &str) -> Result<Output, Stop>
+    ensures { Plans Outputs (course_of (load number out.now)) (S.state store.old) (S.state store.new) result }
 {
-    let made = load_made(alloc, number, out)?;
-    let out = String::from_str(alloc, out)?;
-    Ok(Job::Load(LoadTask { number, made, out }))
+    let MadeJob { files, job } = load_made(alloc, number, out)?;
+    Ok(run_made(alloc, files, job, out)?)
 }
 
-/// Runs the linked programs on the made case: its files, and behind them those of the run.
-pub fn run_load(alloc: Global, task: LoadTask) -> Result<Output, AllocError>
-    requires { IsMade task }
-    ensures { IfOk result (λ o. LoadHeadline task.number (linked.job_of task.made.job) (string_bytes task.out) (out_of o)) }
+/// The files of a made case, and behind them those of its run.
+fn run_made(
+    alloc: Global,
+    mut files: Vec<(String, Vec<u8>)>,
+    job: LinkedJob,
+    out: &str,
+) -> Result<Output, AllocError>
+    requires { IsLinkedJob job }
+    ensures { IfOk result (λ o. (n : ℕ) → files_of files.items ≡ made_files n out.now → LoadHeadline n (job_of job) out.now (out_of o)) }
 {
-    let LoadTask { made, out, .. } = task;
-    let MadeJob { mut files, job } = made;
-    let mut ran = run_linked(alloc, job, out.as_str())?;
+    let mut ran = run_linked(alloc, job, out)?;
     files.append(&mut ran.files)?;
     Ok(Output {
         files,

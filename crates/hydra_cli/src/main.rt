@@ -16,17 +16,10 @@ ghost use Rattle.hydra_cli.specs.Answers.{Answers, IsComplete};
 
 mod check;
 mod command;
-#[cfg(test)]
-mod direct_tests;
 mod forward;
-#[cfg(test)]
-mod forward_tests;
-mod job;
 mod link;
 mod load;
 mod run;
-#[cfg(test)]
-mod run_tests;
 #[cfg(test)]
 mod tests;
 mod wire;

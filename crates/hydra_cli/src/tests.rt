@@ -1,199 +1,369 @@
-//! `check` and `wire` over the stores and sinks in memory, and what they answer where files or the sink fail. What
-//! commands do over the system's files stands in the rows under `tests/` at the top of the repository.
+//! Commands over the stores and sinks in memory, and what they answer where files or the sink fail. What commands do over the
+//! system's files stands in the rows under `tests/` at the top of the repository.
 
 use super::*;
 use outside::{MemSink, MemStore, SureSink, SureStore};
 use std::alloc::AllocError;
-use std::process::Abort;
 use std::test::Fail;
 
-const LEAVES: &str = "tele bit<8> n; {} {n = n + 1;} {if (n == 2) {reject;}}";
+/// Parts of rows, by their names: networks, programs, cases, and properties.
+const PARTS: &str = r#"one =n {"switches": ["s1"], "links": []}
+line2 =n {"switches": ["s1", "s2"], "links": [["s1", 2, "s2", 1]]}
+line3 =n {"switches": ["s1", "s2", "s3"], "links": [["s1", 2, "s2", 1], ["s2", 2, "s3", 1]]}
+ring2 =n {"switches": ["s1", "s2"], "links": [["s1", 2, "s2", 1], ["s2", 2, "s1", 3]]}
+two $f standard_metadata.egress_spec = 2;|
+wire $f if (standard_metadata.ingress_port == 1) { standard_metadata.egress_spec = 2; } else { standard_metadata.egress_spec = 1; }|
+short $f if (standard_metadata.ingress_port == 1) { standard_metadata.egress_spec = 2; } else { standard_metadata.egress_spec = 1; } if (standard_metadata.packet_length > 100) { mark_to_drop(standard_metadata); }|
+case %c
+frame ~h.pcap 0102
+plain =p tele bit<8> tenant; tele bit<9>[4] ports; tele bool seen; {} {} {}
+leaves =p tele bit<8> n; {} {n = n + 1;} {if (n == 2) {reject;}} @ #f 0102
+rejected =p tele bit<8> n; {} {n = n + 1;} {if (n == 3) {reject;}} @ #f 0102
+passes %c , "control": "k", "schedule": "e" @ =k {} @ =e [] @ ~h.pcap 0102 @ =p {} {} {} @ $f standard_metadata.egress_spec = 2;| @ =n {"switches": ["s1", "s2"], "links": [["s1", 2, "s2", 1]]}
+goes =c {"captures": [{"switch": "s1", "port": 1, "file": "h.pcap"}], "network": "n", "program": "f", "entries": "t", "schedule": "e"} @ =t {} @ =e [] @ ~h.pcap 0102 @ $f standard_metadata.egress_spec = 2;| @ =n {"switches": ["s1"], "links": []}"#;
 
-const REJECTED: &str = "tele bit<8> n; {} {n = n + 1;} {if (n == 3) {reject;}}";
+/// A row is words, and behind ` @ ` each what is given, what fails, what is answered and what is written. Of files are given
+/// a text `=NAME TEXT`, bytes `#NAME HEX`, a capture of frames `~NAME HEX,HEX` or of a frame of so many bytes 0
+/// `~NAME *COUNT`, a program `$NAME INGRESS|EGRESS`, and a case `%NAME MEMBERS`. `&NAME` stands for parts with a name. `!N`
+/// and `?N` are the numbers of the calls of the store and of the sink that fail. `>` is the status and what was put, with `/`
+/// for each line feed. Behind `:` is a file that is written: as files are given, or `/NAME TEXT` with `/` for each line feed,
+/// or `?NAME` whatever it holds; and `!NAME` is not written.
+const ROWS: &str = r#" @ >BadWords hydra: words/
+wire p f o @ &rejected @ >Done packets 1/sent 0/dropped 0/rejected 1/lost 0/reports 0/ @ :?o.linked.s1.p4 @ :?o.linked.s2.p4 @ :?o.linked.s3.p4 @ :!o.frame
+wire p f o @ &leaves @ >Done packets 1/sent 1/dropped 0/rejected 0/lost 0/reports 0/ @ :#o.frame 0102
+wire p f o @ &leaves @ #f 480502 @ >Done packets 1/sent 1/dropped 0/rejected 0/lost 0/reports 0/ @ :#o.frame 480502
+check p @ &plain @ >Done ok bytes 8 weight 0/
+check p @ &rejected @ >Done ok bytes 2 weight 9/
+run c o @ %c , "room": 8 @ &one @ &two @ &frame @ &plain @ >Done packets 1/sent 1/dropped 0/rejected 0/lost 0/reports 0/ @ :/o.reports.txt
+run c o @ %c , "room": 7 @ &one @ &two @ &frame @ &plain @ >NotLinked hydra: link RoomShort 8 7/ @ :!o.summary.txt
+wire p f o @ =p tele bit<9>[2] l; {} {l.push((bit<9>) switch_id);} {report(length(l), 2 in l, 1 in l);} @ #f 0102 @ >Done 0 s3 0 2 0 1/packets 1/sent 1/dropped 0/rejected 0/lost 0/reports 1/
+run c o @ &case @ &one @ &two @ &frame @ =p sensor bit<8> s = 250; {} {s = s + 3;} {} @ >Done packets 1/sent 1/dropped 0/rejected 0/lost 0/reports 0/ @ :/o.registers.txt s1 hydra_s_s 0 7/
+run c o @ &case @ &one @ &two @ ~h.pcap 0102,0102 @ =p sensor bit<8> s = 250; {} {s = s + 3;} {} @ >Done packets 2/sent 2/dropped 0/rejected 0/lost 0/reports 0/ @ :/o.registers.txt s1 hydra_s_s 0 250/
+run c o @ &case @ &line2 @ &wire @ ~h.pcap 0102,0102 @ =p sensor bit<8> seen; tele bit<8> mine; {} {seen = seen + 1; mine = seen;} {report(mine);} @ >Done packets 2/sent 2/dropped 0/rejected 0/lost 0/reports 2/ @ :/o.reports.txt 0 s2 0 1/1 s2 0 2/
+run c o @ %c , "schedule": "e" @ =e [0, 1, 1] @ &line2 @ &wire @ ~h.pcap 0102,0102 @ =p sensor bit<8> seen; tele bit<8> mine; {} {seen = seen + 1; mine = seen;} {report(mine);} @ >Done packets 2/sent 2/dropped 0/rejected 0/lost 0/reports 2/ @ :/o.reports.txt 1 s2 0 1/0 s2 0 2/
+run c o @ &case @ &line3 @ &short @ ~h.pcap *100 @ &plain @ >Done packets 1/sent 1/dropped 0/rejected 0/lost 0/reports 0/ @ :~o.out.s3.2.pcap *100
+run c o @ &case @ &line3 @ &short @ ~h.pcap *101 @ &plain @ >Done packets 1/sent 0/dropped 1/rejected 0/lost 0/reports 0/ @ :!o.out.s3.2.pcap
+run c o @ &case @ &line2 @ $f standard_metadata.egress_spec = 2;|exit; @ &frame @ =p {} {} {reject;} @ >Done packets 1/sent 0/dropped 0/rejected 1/lost 0/reports 0/ @ :/o.registers.txt s2 hydra_rejects 0 1/
+run c o @ &case @ &one @ $f standard_metadata.egress_spec = 2;|mark_to_drop(standard_metadata); @ &frame @ =p {} {} {report(); reject;} @ >Done packets 1/sent 0/dropped 1/rejected 0/lost 0/reports 0/ @ :/o.reports.txt
+run c o @ &case @ &line2 @ &wire @ ~h.pcap *65535 @ &plain @ >Done packets 1/sent 1/dropped 0/rejected 0/lost 0/reports 0/ @ :~o.out.s2.2.pcap *65535
+run c o @ %c , "hops": 64 @ &ring2 @ &two @ &frame @ =p sensor bit<8> c; {} {c = c + 1;} {report();} @ >Done packets 1/sent 0/dropped 0/rejected 0/lost 1/reports 0/ @ :/o.registers.txt s1 hydra_s_c 0 32/s2 hydra_s_c 0 32/
+run c o @ %c , "control": "k", "schedule": "e" @ =k {"s2": {"tenants": [[1, 5], [2, 5]]}} @ =e [0, {"set": {"switch": "s2", "variable": "tenants", "value": [[1, 7], [2, 8]]}}] @ &line2 @ &wire @ &frame @ =p control dict<bit<9>, bit<8>> tenants; header bit<9> i = standard_metadata.ingress_port; header bit<9> o = standard_metadata.egress_port; {} {} {report(tenants[o], tenants[i]);} @ >Done packets 1/sent 1/dropped 0/rejected 0/lost 0/reports 1/ @ :/o.reports.txt 0 s2 0 8 7/ @ :/o.tables.txt E.hydra_t_0 tenants/E.hydra_t_1 tenants/
+run c o @ &case @ &one @ &two @ &frame @ =p tele bit<1>[255] a; tele bit<8> n; {} {for (x in a) {for (y in a) {n = n + 1;}}} {} @ >NotLinked hydra: link TooLarge 325636/ @ :!o.summary.txt
+check p @ =p tele bit<8> n {} @ >BadProperty hydra: property p Syntax 6/
+check p @ =p tele bit<8> @ >BadProperty hydra: property p Syntax 5/
+check p @ =p tele bit<8> n; {m = 1;} {} {} @ >BadProperty hydra: property p Type 8 NoSuchName/
+run c o @ &case @ &one @ =f header_union @ &frame @ &plain @ >BadProgram hydra: program f LeftOut 0 header_union/
+run c o @ &case @ &one @ $f bit<8> hydra_x = 0; standard_metadata.egress_spec = 2;| @ &frame @ =p {} {} {} @ >NotLinked hydra: link NameTaken hydra_x/ @ :!o.summary.txt
+run c o @ &case @ &one @ &two @ &frame @ =p header bit<16> d = hdr.tcp.dport; {} {} {} @ >NotLinked hydra: link NoSuchField hdr.tcp.dport/ @ :!o.summary.txt
+run c o @ %c , "control": "k" @ =k {"s2": {"tenants": [[1, 5], [1, 6]]}} @ &line2 @ &wire @ &frame @ =p control dict<bit<9>, bit<8>> tenants; {} {} {report(tenants[1]);} @ >BadNetwork hydra: network k KeyTwice /s2/tenants/1/ @ :!o.summary.txt
+wire p f o @ &leaves @ !3 @ >WriteFault hydra: write o.linked.s2.p4/ @ :?o.linked.s1.p4 @ :!o.linked.s2.p4 @ :!o.linked.s3.p4 @ :!o.frame
+wire q f o @ #f 0102 @ >ReadFault hydra: read q/
+wire p f o @ &leaves @ !0 @ >ReadFault hydra: read p/
+wire p f o @ &leaves @ !1 @ >ReadFault hydra: read f/ @ :!o.linked.s1.p4
+wire p f o @ &leaves @ !2 @ >WriteFault hydra: write o.linked.s1.p4/ @ :!o.linked.s1.p4 @ :!o.frame
+wire p f o @ &leaves @ !4 @ >WriteFault hydra: write o.linked.s3.p4/ @ :?o.linked.s2.p4 @ :!o.linked.s3.p4 @ :!o.frame
+wire p f o @ &leaves @ !5 @ >WriteFault hydra: write o.frame/ @ :?o.linked.s3.p4 @ :!o.frame
+wire p f o @ &leaves @ ?0 @ >WriteFault hydra: write -/ @ :#o.frame 0102
+check p @ &plain @ ?0 @ >WriteFault hydra: write -/
+wire @ ?0 @ >BadWords
+wire q f o @ ?0 @ >ReadFault
+wire q f o @ ?1 @ >ReadFault hydra: read q/
+run c o @ &passes @ !0 @ >ReadFault hydra: read c/
+run c o @ &passes @ !1 @ >ReadFault hydra: read p/
+run c o @ &passes @ !2 @ >ReadFault hydra: read f/
+run c o @ &passes @ !3 @ >ReadFault hydra: read n/
+run c o @ &passes @ !4 @ >ReadFault hydra: read k/
+run c o @ &passes @ !5 @ >ReadFault hydra: read h.pcap/
+run c o @ &passes @ !6 @ >ReadFault hydra: read e/ @ :!o.linked.s1.p4
+run c o @ &passes @ !7 @ >WriteFault hydra: write o.linked.s1.p4/ @ :!o.linked.s1.p4
+run c o @ &passes @ !8 @ >WriteFault hydra: write o.linked.s2.p4/ @ :?o.linked.s1.p4 @ :!o.linked.s2.p4
+run c o @ &passes @ !9 @ >WriteFault hydra: write o.tables.txt/ @ :?o.linked.s2.p4 @ :!o.tables.txt
+run c o @ &passes @ !10 @ >WriteFault hydra: write o.wire.s1.2.pcap/ @ :/o.tables.txt @ :!o.wire.s1.2.pcap
+run c o @ &passes @ !11 @ >WriteFault hydra: write o.out.s2.2.pcap/ @ :~o.wire.s1.2.pcap 480102 @ :!o.out.s2.2.pcap
+run c o @ &passes @ !12 @ >WriteFault hydra: write o.reports.txt/ @ :~o.out.s2.2.pcap 0102 @ :!o.reports.txt
+run c o @ &passes @ !13 @ >WriteFault hydra: write o.digests.txt/ @ :/o.reports.txt @ :!o.digests.txt
+run c o @ &passes @ !14 @ >WriteFault hydra: write o.registers.txt/ @ :/o.digests.txt @ :!o.registers.txt
+run c o @ &passes @ !15 @ >WriteFault hydra: write o.summary.txt/ @ :/o.registers.txt @ :!o.summary.txt
+run c o @ &passes @ ?0 @ >WriteFault hydra: write -/ @ :/o.summary.txt packets 1/sent 1/dropped 0/rejected 0/lost 0/reports 0/
+forward c o @ &goes @ >Done packets 1/sent 1/dropped 0/rejected 0/lost 0/reports 0/ @ :~o.out.s1.2.pcap 0102 @ :/o.digests.txt @ :/o.registers.txt @ :/o.summary.txt packets 1/sent 1/dropped 0/rejected 0/lost 0/reports 0/
+forward c o @ &goes @ !0 @ >ReadFault hydra: read c/
+forward c o @ &goes @ !1 @ >ReadFault hydra: read f/
+forward c o @ &goes @ !2 @ >ReadFault hydra: read n/
+forward c o @ &goes @ !3 @ >ReadFault hydra: read t/
+forward c o @ &goes @ !4 @ >ReadFault hydra: read h.pcap/
+forward c o @ &goes @ !5 @ >ReadFault hydra: read e/
+forward c o @ &goes @ !6 @ >WriteFault hydra: write o.out.s1.2.pcap/ @ :!o.out.s1.2.pcap
+forward c o @ &goes @ !7 @ >WriteFault hydra: write o.digests.txt/ @ :~o.out.s1.2.pcap 0102 @ :!o.digests.txt
+forward c o @ &goes @ !8 @ >WriteFault hydra: write o.registers.txt/ @ :/o.digests.txt @ :!o.registers.txt
+forward c o @ &goes @ !9 @ >WriteFault hydra: write o.summary.txt/ @ :/o.registers.txt @ :!o.summary.txt
+forward c o @ &goes @ ?0 @ >WriteFault hydra: write -/ @ :?o.summary.txt"#;
 
-/// What is answered, as `is_answer` has it.
-const ONE_LEFT: &str = "Done packets 1/sent 1/dropped 0/rejected 0/lost 0/reports 0/";
+/// A program without headers, before what its ingress does, and before what its egress does.
+const FRONT: &str = "\
+struct metadata { }
+struct headers { }
+parser P(packet_in packet, out headers hdr, inout metadata meta,
+  inout standard_metadata_t standard_metadata) { state start { transition accept; } }
+control V(inout headers hdr, inout metadata meta) { apply { } }
+control I(inout headers hdr, inout metadata meta, inout standard_metadata_t standard_metadata) {
+  apply { ";
 
-const ONE_REJECTED: &str = "Done packets 1/sent 0/dropped 0/rejected 1/lost 0/reports 0/";
+const MIDDLE: &str = " } }
+control E(inout headers hdr, inout metadata meta,
+  inout standard_metadata_t standard_metadata) { apply { ";
 
-/// No call fails.
-pub const NONE: (&[u64], &[u64]) = (&[], &[]);
+const BACK: &str = " } }
+control K(inout headers hdr, inout metadata meta) { apply { } }
+control D(packet_out packet, in headers hdr) { apply { } }
+V1Switch(P(), V(), I(), E(), K(), D()) main;";
 
-pub fn words_of(alloc: Global, line: &str) -> Result<Vec<String>, AllocError> {
+/// What each case of `run` names.
+const CASE: &str = r#""captures": [{"switch": "s1", "port": 1, "file": "h.pcap"}], "network": "n", "program": "f", "property": "p""#;
+
+/// The head of a capture, and behind the time of a frame, 1 second and 5 microseconds, its length twice.
+const HEAD: &[u8] = b"\xd4\xc3\xb2\xa1\x02\0\x04\0\0\0\0\0\0\0\0\0\0\0\x04\0\x01\0\0\0";
+
+const TIME: &[u8] = b"\x01\0\0\0\x05\0\0\0";
+
+// ---- files
+
+/// The bytes of hexadecimal digits, or so many bytes 0 behind `*`.
+fn put_hex(bytes: &mut Vec<u8>, text: &str) -> Result<(), AllocError> {
+    if let Some(count) = text.strip_prefix("*") {
+        for _ in 0..count.parse::<u32>().unwrap_or(0) {
+            bytes.push(0)?;
+        }
+        return Ok(());
+    }
+    let mut high = None;
+    for digit in text.chars() {
+        let digit = digit.to_digit(16).unwrap_or(0) as u8;
+        match high {
+            None => high = Some(digit),
+            Some(first) => {
+                bytes.push(first.wrapping_mul(16).wrapping_add(digit))?;
+                high = None;
+            }
+        }
+    }
+    Ok(())
+}
+
+fn put_capture(bytes: &mut Vec<u8>, frames: &str, frame: &mut Vec<u8>) -> Result<(), AllocError> {
+    bytes.extend_from_slice(HEAD)?;
+    for text in frames.split(',') {
+        frame.clear();
+        put_hex(frame, text)?;
+        let length = u32::try_from(frame.len()).unwrap_or(0).to_le_bytes();
+        bytes.extend_from_slice(TIME)?;
+        bytes.extend_from_slice(&length)?;
+        bytes.extend_from_slice(&length)?;
+        bytes.extend_from_slice(frame.as_slice())?;
+    }
+    Ok(())
+}
+
+/// A text with a line feed for each `/`.
+fn put_lines(bytes: &mut Vec<u8>, text: &str) -> Result<(), AllocError> {
+    for byte in text.as_bytes() {
+        bytes.push(if *byte == b'/' { b'\n' } else { *byte })?;
+    }
+    Ok(())
+}
+
+fn put_all(bytes: &mut Vec<u8>, texts: &[&str]) -> Result<(), AllocError> {
+    for text in texts {
+        bytes.extend_from_slice(text.as_bytes())?;
+    }
+    Ok(())
+}
+
+/// What a file of a kind holds.
+fn bytes_of(alloc: Global, kind: u8, value: &str) -> Result<Vec<u8>, AllocError> {
+    let mut bytes = Vec::new(alloc);
+    match kind {
+        b'#' => put_hex(&mut bytes, value)?,
+        b'~' => put_capture(&mut bytes, value, &mut Vec::new(alloc))?,
+        b'/' => put_lines(&mut bytes, value)?,
+        b'$' => {
+            let (ingress, egress) = value.split_once('|').unwrap_or((value, ""));
+            put_all(&mut bytes, &[FRONT, ingress, MIDDLE, egress, BACK])?
+        }
+        b'%' => put_all(&mut bytes, &["{", CASE, value, "}"])?,
+        _ => put_all(&mut bytes, &[value])?,
+    }
+    Ok(bytes)
+}
+
+/// The kind of a part, the name of a file, and what it holds.
+fn file_of<'a>(part: &'a str) -> Option<(u8, &'a str, &'a str)> {
+    let kind = *part.as_bytes().first()?;
+    let rest = part.get(1..)?;
+    let (name, value) = rest.split_once(' ').unwrap_or((rest, ""));
+    Some((kind, name, value))
+}
+
+// ---- rows
+
+/// The line of a table behind a name.
+fn named<'a>(table: &'a str, name: &str) -> &'a str {
+    for line in table.lines() {
+        if let Some((known, text)) = line.split_once(' ') {
+            if known == name {
+                return text;
+            }
+        }
+    }
+    ""
+}
+
+/// A row with the parts for which names stand.
+fn whole(alloc: Global, row: &str) -> Result<String, AllocError> {
+    let mut text = String::new(alloc);
+    for (at, part) in row.split(" @ ").enumerate() {
+        if at > 0 {
+            text.push_str(" @ ")?;
+        }
+        match part.strip_prefix("&") {
+            Some(name) => text.push_str(named(PARTS, name))?,
+            None => text.push_str(part)?,
+        }
+    }
+    Ok(text)
+}
+
+fn words_of(alloc: Global, line: &str) -> Result<Vec<String>, AllocError> {
     line.split(' ')
         .filter(|word| !word.is_empty())
         .map(|word| String::from_str(alloc, word))
         .try_collect(alloc)
 }
 
-/// What a command line answers, and the store and the sink behind it. The store holds `p`, a property, and `f`, a
-/// frame; the calls of these numbers of the store and of the sink fail.
-fn answered(
-    alloc: Global,
-    line: &str,
-    property: &[u8],
-    frame: &[u8],
-    failing: (&[u64], &[u64]),
-) -> Result<(Status, MemStore, MemSink), AllocError> {
-    let mut store = MemStore::new(alloc, failing.0.to_vec(alloc)?);
-    store.hold(alloc, "p", property)?;
-    store.hold(alloc, "f", frame)?;
-    let mut out = MemSink::new(alloc, 1000, failing.1.to_vec(alloc)?)?;
-    let status = hydra(alloc, &words_of(alloc, line)?, &mut store, &mut out);
-    Ok((status, store, out))
+/// The numbers of the calls that fail.
+fn failing(alloc: Global, row: &str, mark: &str) -> Result<Vec<u64>, AllocError> {
+    let mut calls = Vec::new(alloc);
+    for part in row.split(" @ ") {
+        if let Some(number) = part.strip_prefix(mark) {
+            calls.push(number.parse().unwrap_or(0))?;
+        }
+    }
+    Ok(calls)
 }
 
-/// Whether this is the status, and behind a space all that was put, with `/` for each line feed.
-pub fn is_answer(
+/// The store of a row.
+fn held(alloc: Global, row: &str) -> Result<MemStore, AllocError> {
+    let mut store = MemStore::new(alloc, failing(alloc, row, "!")?);
+    for part in row.split(" @ ") {
+        if let Some((kind, name, value)) = file_of(part) {
+            if matches!(kind, b'=' | b'#' | b'~' | b'$' | b'%') {
+                let bytes = bytes_of(alloc, kind, value)?;
+                store.hold(alloc, name, &bytes)?;
+            }
+        }
+    }
+    Ok(store)
+}
+
+/// Whether this is the status, and behind a blank what was put, if anything, with `/` for each line feed.
+fn is_answer(
     alloc: Global,
     status: Status,
     taken: &[u8],
     wanted: &str,
 ) -> Result<bool, AllocError> {
-    let mut found = format!(in alloc; "{status:?} ")?.into_bytes();
+    let mut found = format!(in alloc; "{status:?}")?.into_bytes();
+    if !taken.is_empty() {
+        found.push(b' ')?;
+    }
     for byte in taken {
         found.push(if *byte == b'\n' { b'/' } else { *byte })?;
     }
     Ok(found.as_slice() == wanted.as_bytes())
 }
 
-/// Whether the command line is answered so, with this property and a frame of two bytes.
-fn gives(
-    alloc: Global,
-    line: &str,
-    property: &[u8],
-    failing: (&[u64], &[u64]),
-    wanted: &str,
-) -> Result<bool, AllocError> {
-    let (status, _, out) = answered(alloc, line, property, &[1, 2], failing)?;
-    is_answer(alloc, status, out.taken(), wanted)
+/// Whether a file of the store is as a row says.
+fn is_written(alloc: Global, store: &MemStore, wanted: &str) -> Result<bool, AllocError> {
+    let Some((kind, name, value)) = file_of(wanted) else {
+        return Ok(false);
+    };
+    match store.file(name) {
+        None => Ok(kind == b'!'),
+        Some(bytes) => match kind {
+            b'!' => Ok(false),
+            b'?' => Ok(true),
+            _ => Ok(bytes == bytes_of(alloc, kind, value)?.as_slice()),
+        },
+    }
 }
 
-/// Each row is a command line, ` | `, a property, ` => ` and what is answered.
-fn rows(rt: &impl Abort, alloc: Global, table: &str) -> Result<(), Fail> {
-    for row in table.lines() {
-        let Some((call, wanted)) = row.split_once(" => ") else {
-            return Err(Fail::new("a row has no answer"));
-        };
-        let Some((line, property)) = call.split_once(" | ") else {
-            return Err(Fail::new("a row has no property"));
-        };
-        assert!(rt;
-            gives(alloc, line, property.as_bytes(), NONE, wanted)?,
-            "{row}"
-        );
+/// Whether a part of a row holds behind the call.
+fn holds(
+    alloc: Global,
+    part: &str,
+    status: Status,
+    store: &MemStore,
+    taken: &[u8],
+) -> Result<bool, AllocError> {
+    if let Some(wanted) = part.strip_prefix(">") {
+        is_answer(alloc, status, taken, wanted)
+    } else if let Some(wanted) = part.strip_prefix(":") {
+        is_written(alloc, store, wanted)
+    } else {
+        Ok(true)
+    }
+}
+
+/// The first part of a row that does not hold.
+fn wrong<'a>(alloc: Global, row: &'a str) -> Result<&'a str, AllocError> {
+    let (line, _) = row.split_once(" @ ").unwrap_or((row, ""));
+    let words = words_of(alloc, line)?;
+    let mut store = held(alloc, row)?;
+    let mut out = MemSink::new(alloc, 1000, failing(alloc, row, "?")?)?;
+    let status = hydra(alloc, &words, &mut store, &mut out);
+    for part in row.split(" @ ") {
+        if !holds(alloc, part, status, &store, out.taken())? {
+            return Ok(part);
+        }
+    }
+    Ok("")
+}
+
+#[test]
+fn rows_are_answered(rt: HostRuntime) -> Result<(), Fail> {
+    let alloc = rt.alloc();
+    for row in ROWS.lines() {
+        let row = whole(alloc, row)?;
+        let part = wrong(alloc, row.as_str())?;
+        assert_eq!(rt; part, "", "{row}");
     }
     Ok(())
 }
 
-/// Which of the linked texts are there.
-fn has_texts(store: &MemStore, wanted: [bool; 3]) -> bool {
-    let names = ["o.linked.s1.p4", "o.linked.s2.p4", "o.linked.s3.p4"];
-    names
-        .iter()
-        .zip(wanted)
-        .all(|(name, is)| store.file(name).is_some() == is)
+// ---- stores and sinks without faults
+
+/// Whether `wire` answers so, and whether the frame leaves, over the kinds that have no faults.
+fn surely(alloc: Global, property: &str, frame: &[u8], wanted: &str) -> Result<bool, AllocError> {
+    let mut store = SureStore::new(alloc);
+    store.hold(alloc, "p", property.as_bytes())?;
+    store.hold(alloc, "f", frame)?;
+    let mut out = SureSink::new(alloc, 1000)?;
+    let status = hydra(alloc, &words_of(alloc, "wire p f o")?, &mut store, &mut out);
+    let left = if wanted.contains("/sent 1/") { Some(frame) } else { None };
+    Ok(is_answer(alloc, status, out.taken(), wanted)? && store.file("o.frame") == left)
 }
 
 #[test]
-fn third_hop_is_rejected(rt: HostRuntime) -> Result<(), Fail> {
-    let (status, store, out) = answered(
-        rt.alloc(),
-        "wire p f o",
-        REJECTED.as_bytes(),
-        &[1, 2],
-        NONE,
-    )?;
-    assert!(rt; is_answer(rt.alloc(), status, out.taken(), ONE_REJECTED)?);
-    assert!(rt; has_texts(&store, [true; 3]));
-    assert!(rt; store.file("o.frame").is_none());
-    Ok(())
-}
-
-/// Over the kinds that have no faults.
-#[test]
-fn frame_leaves_as_it_came(rt: HostRuntime) -> Result<(), Fail> {
+fn frames_leave_as_they_came(rt: HostRuntime) -> Result<(), Fail> {
     let alloc = rt.alloc();
     let frames: [&[u8]; 3] = [&[1, 2], &[], &[0x48, 5, 2]];
+    let leaves = "tele bit<8> n; {} {n = n + 1;} {if (n == 2) {reject;}}";
+    let sent = "Done packets 1/sent 1/dropped 0/rejected 0/lost 0/reports 0/";
     for frame in frames {
-        let mut store = SureStore::new(alloc);
-        store.hold(alloc, "p", LEAVES.as_bytes())?;
-        store.hold(alloc, "f", frame)?;
-        let mut out = SureSink::new(alloc, 1000)?;
-        let status = hydra(alloc, &words_of(alloc, "wire p f o")?, &mut store, &mut out);
-        assert!(rt; is_answer(alloc, status, out.taken(), ONE_LEFT)?);
-        assert!(rt; store.file("o.frame") == Some(frame));
+        assert!(rt; surely(alloc, leaves, frame, sent)?);
     }
-    Ok(())
-}
-
-#[test]
-fn answers_say_their_cause(rt: HostRuntime) -> Result<(), Fail> {
-    rows(
-        &rt,
-        rt.alloc(),
-        "\
-wire p f | {} {} {} => BadWords hydra: words/
-check p | tele bit<8> n; {} {n = n + 1;} {if (n == 3) {reject;}} => Done ok bytes 2 weight 9/
-check p | tele bit<8> n {} => BadProperty hydra: property p Syntax 6/
-check p | {} {} {} /* => BadProperty hydra: property p Lex OpenComment 9/
-wire q f o | {} {} {} => ReadFault hydra: read q/
-wire p g o | {} {} {} => ReadFault hydra: read g/
-wire p g o | tele bit<8> n; control bit<8> c; control bool d; {} {} {} => BadProperty hydra: property p NeedsControl c/
-wire p f o | tele bit<128>[8] a; {} {} {} => NotLinked hydra: link RoomShort 130 128/
-wire p f o | header bit<16> d = hdr.tcp.dport; {} {} {} => NotLinked hydra: link NoSuchField hdr.tcp.dport/
-wire p f o | tele bit<9>[2] l; {} {l.push((bit<9>) switch_id);} {report(length(l), 2 in l, 1 in l);} => Done 0 s3 0 2 0 1/packets 1/sent 1/dropped 0/rejected 0/lost 0/reports 1/
-wire p f o | sensor bit<8> s = 7; {} {s = s + 1;} {report(s); reject;} => Done 0 s3 0 8/packets 1/sent 0/dropped 0/rejected 1/lost 0/reports 1/
-wire p f o | tele bit<8> first_hop; {} {} {} => BadProperty hydra: property p Type 0 NameTwice/
-wire p f o | tele bit<8> in; {} {} {} => BadProperty hydra: property p Syntax 5/",
-    )
-}
-
-/// Each read and each write fails in turn, and what was written before it stays.
-#[test]
-fn faults_name_their_file(rt: HostRuntime) -> Result<(), Fail> {
-    let alloc = rt.alloc();
-    for (call, wanted) in "\
-ReadFault hydra: read p/
-ReadFault hydra: read f/
-WriteFault hydra: write o.linked.s1.p4/
-WriteFault hydra: write o.linked.s2.p4/
-WriteFault hydra: write o.linked.s3.p4/
-WriteFault hydra: write o.frame/"
-        .lines()
-        .enumerate()
-    {
-        let failing: (&[u64], &[u64]) = (&[call as u64], &[]);
-        let (status, store, out) = answered(
-            alloc,
-            "wire p f o",
-            LEAVES.as_bytes(),
-            &[1, 2],
-            failing,
-        )?;
-        assert!(rt; is_answer(alloc, status, out.taken(), wanted)?, "{wanted}");
-        assert!(rt; has_texts(&store, [call > 2, call > 3, call > 4]));
-        assert!(rt; store.file("o.frame").is_none());
-    }
-    Ok(())
-}
-
-/// A put that fails: of a command's output the status says so, of a refusal's line nothing does.
-#[test]
-fn puts_fail(rt: HostRuntime) -> Result<(), Fail> {
-    let alloc = rt.alloc();
-    for (line, put, wanted) in [
-        ("wire p f o", 0, "WriteFault hydra: write -/"),
-        ("check p", 0, "WriteFault hydra: write -/"),
-        ("wire", 0, "BadWords "),
-        ("wire q f o", 0, "ReadFault "),
-        ("wire q f o", 1, "ReadFault hydra: read q/"),
-    ] {
-        assert!(rt;
-            gives(alloc, line, b"{} {} {}", (&[], &[put]), wanted)?,
-            "{line}"
-        );
-    }
+    let stays = "tele bit<8> n; {} {n = n + 1;} {if (n == 3) {reject;}}";
+    let rejected = "Done packets 1/sent 0/dropped 0/rejected 1/lost 0/reports 0/";
+    assert!(rt; surely(alloc, stays, &[1, 2], rejected)?);
     Ok(())
 }
 

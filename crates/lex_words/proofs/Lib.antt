@@ -1,5 +1,5 @@
 -- The lemmas.
-pub mod Dark
+pub mod LexemeEnds
 pub mod LexemeFronts
 pub mod Ascii
 pub mod Laid

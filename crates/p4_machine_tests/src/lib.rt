@@ -1,14 +1,16 @@
-//! Tests of the P4 machine: which entries its tables take, and what no command reaches. What tables choose, full ones
-//! too, and what programs do with a frame stands as rows of `forward` under `tests/` at the top of the repository.
+//! Tests of switches and their tables, of calls that no command makes: entries and defaults of every form that a table is
+//! offered, a whole passage in one call, whether the tables of one program have a place in another, and checksums of bytes.
+//! What programs do with a frame, by halves, and what tables choose stands as rows of `forward` and `run` under `tests/` at
+//! the top of the repository.
 #![tactic(auto)]
 
 #[cfg(test)]
-mod carried;
-#[cfg(test)]
 mod entries;
 #[cfg(test)]
-mod lengths;
+mod offers;
 #[cfg(test)]
-mod rows;
+mod passages;
+#[cfg(test)]
+mod places;
 #[cfg(test)]
 mod sums;

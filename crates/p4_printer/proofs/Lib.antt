@@ -13,6 +13,7 @@ pub mod Fits
 pub mod FitsExpressions
 pub mod FitsPrograms
 -- Printed texts are read back.
+pub mod Touching
 pub mod Whole
 -- What is printed rests on no place.
 pub mod Plain

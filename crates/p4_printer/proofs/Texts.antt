@@ -3,29 +3,35 @@ use Rattle.std.proofs.Common.{◌≡◌, ℕ, List, [], ◌∷◌, ◌++◌, ref
 use Rattle.std.proofs.lemmas.List.{append-nil}
 use Rattle.lex_words.specs.Seen.{Lexeme}
 use Rattle.lex_words.specs.Written.{bytes_of_lexeme}
-use Rattle.p4_printer.specs.Layout.{after, text_of}
+use Rattle.p4_printer.specs.Forms.{form_of}
+use Rattle.p4_printer.specs.Layout.{Sheet, put_bytes, written}
 
--- the text of no lexemes
-pub text_nil : text_of [] ≡ []
-unfolding text_of
-text_nil = refl
+-- no lexemes
+pub written_nil : (s : Sheet) → written s [] ≡ s
+unfolding written
+written_nil s = refl
 
--- the text of lexemes and then other lexemes
-pub text_append : (u v : List Lexeme) → text_of (u ++ v) ≡ text_of u ++ text_of v
-unfolding text_of
-text_append [] v = refl
-text_append (w ∷ u) v = ap (λ z. bytes_of_lexeme w ++ after w ∷ z) (text_append u v) ∙ sym (append_assoc (bytes_of_lexeme w) (after w ∷ text_of u) (text_of v))
+-- one lexeme
+pub written_one : (s : Sheet) (x : Lexeme) → written s (x ∷ []) ≡ put_bytes s (form_of x) (bytes_of_lexeme x)
+unfolding written
+written_one s x = refl
 
--- the text of a lexeme and then others
-pub text_cons : (w : Lexeme) (v : List Lexeme) → text_of (w ∷ v) ≡ text_of (w ∷ []) ++ text_of v
-text_cons w v = text_append (w ∷ []) v
+-- lexemes and then other lexemes
+pub written_append : (s : Sheet) (u v : List Lexeme) → written s (u ++ v) ≡ written (written s u) v
+unfolding written
+written_append s [] v = refl
+written_append s (x ∷ u) v = written_append (put_bytes s (form_of x) (bytes_of_lexeme x)) u v
 
-pub ruleset texts = (text_nil, text_append, text_cons, append_assoc, append-nil)
+-- a lexeme and then others
+pub written_cons : (s : Sheet) (x : Lexeme) (v : List Lexeme) → written s (x ∷ v) ≡ written (written s (x ∷ [])) v
+written_cons s x v = written_append s (x ∷ []) v
+
+pub ruleset texts = (written_nil, written_append, written_cons, append_assoc, append-nil)
 
 -- nothing more
-pub nothing_put : (old : List ℕ) → old ≡ old ++ text_of []
-nothing_put old = sym (ap (λ z. old ++ z) text_nil ∙ append-nil old)
+pub nothing_put : (old : Sheet) → old ≡ written old []
+nothing_put old = sym (written_nil old)
 
 -- lexemes, and then others
-pub follows : (old one new : List ℕ) (u v : List Lexeme) → one ≡ old ++ text_of u → new ≡ one ++ text_of v → new ≡ old ++ text_of (u ++ v)
-follows old one new u v p q = q ∙ ap (λ z. z ++ text_of v) p ∙ append_assoc old (text_of u) (text_of v) ∙ ap (λ z. old ++ z) (sym (text_append u v))
+pub follows : (old one new : Sheet) (u v : List Lexeme) → one ≡ written old u → new ≡ written one v → new ≡ written old (u ++ v)
+follows old one new u v p q = q ∙ ap (λ z. written z v) p ∙ sym (written_append old u v)

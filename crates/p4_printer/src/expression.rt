@@ -1,13 +1,14 @@
 //! Types, paths, expressions and arguments as lexemes.
 
-ghost use Rattle.std.specs.Prelude.{◌≡◌, List, ◌++◌, ◌∷◌, [], IfOk, string_bytes, map};
+ghost use Rattle.std.specs.Prelude.{◌≡◌, List, ◌++◌, ◌∷◌, [], IfOk, map};
 ghost use Rattle.lex_words.specs.Seen.{key};
 ghost use Rattle.lex_words.specs.declared.key.Key.TheVariants as k;
 ghost use Rattle.p4_tree.specs.View.{expr_of, arg_of};
 ghost use Rattle.p4_spelling.specs.Words.{outcome_name};
-ghost use Rattle.p4_printer.specs.Layout.{text_of, each_after, bracketed};
+ghost use Rattle.p4_printer.specs.Layout.{written, each_after, bracketed};
 ghost use Rattle.p4_printer.specs.Expressions.{key_of_op, key_of_flag, lexemes_of_type, lexemes_of_name, lexemes_of_path, lexemes_of_valid, lexemes_of_applied, lexemes_of_error, lexemes_of_bounds, lexemes_of_expr, lexemes_of_exprs, lexemes_of_arg, lexemes_of_args};
 
+use crate::page::Page;
 use crate::word::{put, put_decimal, put_name, put_number, put_word};
 use lex_text::Name;
 use lex_words::Key;
@@ -46,8 +47,8 @@ fn flag_key(flag: bool) -> Key
 
 /// Puts the lexemes of a type.
 #[tactic(auto, using(crate::proofs::Texts::texts))]
-pub fn put_type(alloc: Global, out: &mut String, ty: &PTy) -> Result<(), AllocError>
-    ensures { IfOk result (λ _. string_bytes out.new ≡ string_bytes out.old ++ text_of (lexemes_of_type ty.now)) }
+pub fn put_type(alloc: Global, out: &mut Page, ty: &PTy) -> Result<(), AllocError>
+    ensures { IfOk result (λ _. out.new ≡ written out.old (lexemes_of_type ty.now)) }
 {
     match ty {
         PTy::Bit(width) => {
@@ -63,8 +64,8 @@ pub fn put_type(alloc: Global, out: &mut String, ty: &PTy) -> Result<(), AllocEr
 }
 
 #[tactic(auto, using(crate::proofs::Texts::texts))]
-fn put_parts(out: &mut String, names: &[Name]) -> Result<(), AllocError>
-    ensures { IfOk result (λ _. string_bytes out.new ≡ string_bytes out.old ++ text_of (each_after (key k.Dot) (map lexemes_of_name names.now))) }
+fn put_parts(out: &mut Page, names: &[Name]) -> Result<(), AllocError>
+    ensures { IfOk result (λ _. out.new ≡ written out.old (each_after (key k.Dot) (map lexemes_of_name names.now))) }
 {
     for name in names {
         put(out, Key::Dot)?;
@@ -75,8 +76,8 @@ fn put_parts(out: &mut String, names: &[Name]) -> Result<(), AllocError>
 
 /// Puts the lexemes of a path.
 #[tactic(auto, using(crate::proofs::Texts::texts))]
-pub fn put_path(out: &mut String, names: &[Name]) -> Result<(), AllocError>
-    ensures { IfOk result (λ _. string_bytes out.new ≡ string_bytes out.old ++ text_of (lexemes_of_path names.now)) }
+pub fn put_path(out: &mut Page, names: &[Name]) -> Result<(), AllocError>
+    ensures { IfOk result (λ _. out.new ≡ written out.old (lexemes_of_path names.now)) }
 {
     if let [first, rest @ ..] = names {
         put_name(out, first)?;
@@ -88,8 +89,8 @@ pub fn put_path(out: &mut String, names: &[Name]) -> Result<(), AllocError>
 /// Puts the lexemes of an expression.
 #[tactic(auto, using(crate::proofs::Texts::texts))]
 #[cycle(put_expr)]
-pub fn put_expr(alloc: Global, out: &mut String, e: &Expr) -> Result<(), AllocError>
-    ensures { IfOk result (λ _. string_bytes out.new ≡ string_bytes out.old ++ text_of (lexemes_of_expr (expr_of e.now))) }
+pub fn put_expr(alloc: Global, out: &mut Page, e: &Expr) -> Result<(), AllocError>
+    ensures { IfOk result (λ _. out.new ≡ written out.old (lexemes_of_expr (expr_of e.now))) }
 {
     match e {
         Expr::Num(_, n) => put_number(alloc, out, *n)?,
@@ -117,8 +118,8 @@ pub fn put_expr(alloc: Global, out: &mut String, e: &Expr) -> Result<(), AllocEr
 }
 
 #[tactic(auto, using(crate::proofs::Texts::texts))]
-fn put_valid(out: &mut String, header: &[Name]) -> Result<(), AllocError>
-    ensures { IfOk result (λ _. string_bytes out.new ≡ string_bytes out.old ++ text_of (lexemes_of_valid header.now)) }
+fn put_valid(out: &mut Page, header: &[Name]) -> Result<(), AllocError>
+    ensures { IfOk result (λ _. out.new ≡ written out.old (lexemes_of_valid header.now)) }
 {
     put_path(out, header)?;
     put(out, Key::Dot)?;
@@ -135,8 +136,8 @@ fn outcome_text(hit: bool) -> &'static str
 }
 
 #[tactic(auto, using(crate::proofs::Texts::texts))]
-fn put_applied(out: &mut String, table: &Name, hit: bool) -> Result<(), AllocError>
-    ensures { IfOk result (λ _. string_bytes out.new ≡ string_bytes out.old ++ text_of (lexemes_of_applied table.now hit)) }
+fn put_applied(out: &mut Page, table: &Name, hit: bool) -> Result<(), AllocError>
+    ensures { IfOk result (λ _. out.new ≡ written out.old (lexemes_of_applied table.now hit)) }
 {
     put_name(out, table)?;
     put(out, Key::Dot)?;
@@ -149,8 +150,8 @@ fn put_applied(out: &mut String, table: &Name, hit: bool) -> Result<(), AllocErr
 }
 
 #[tactic(auto, using(crate::proofs::Texts::texts))]
-fn put_error(out: &mut String, name: &Name) -> Result<(), AllocError>
-    ensures { IfOk result (λ _. string_bytes out.new ≡ string_bytes out.old ++ text_of (lexemes_of_error name.now)) }
+fn put_error(out: &mut Page, name: &Name) -> Result<(), AllocError>
+    ensures { IfOk result (λ _. out.new ≡ written out.old (lexemes_of_error name.now)) }
 {
     put(out, Key::Error)?;
     put(out, Key::Dot)?;
@@ -161,8 +162,8 @@ fn put_error(out: &mut String, name: &Name) -> Result<(), AllocError>
 /// Puts an operator before its operand, in brackets.
 #[tactic(auto, using(crate::proofs::Texts::texts))]
 #[cycle(put_expr)]
-fn put_unary(alloc: Global, out: &mut String, mark: Key, a: &Expr) -> Result<(), AllocError>
-    ensures { IfOk result (λ _. string_bytes out.new ≡ string_bytes out.old ++ text_of (bracketed (key mark ∷ lexemes_of_expr (expr_of a.now)))) }
+fn put_unary(alloc: Global, out: &mut Page, mark: Key, a: &Expr) -> Result<(), AllocError>
+    ensures { IfOk result (λ _. out.new ≡ written out.old (bracketed (key mark ∷ lexemes_of_expr (expr_of a.now)))) }
 {
     put(out, Key::Open)?;
     put(out, mark)?;
@@ -174,8 +175,8 @@ fn put_unary(alloc: Global, out: &mut String, mark: Key, a: &Expr) -> Result<(),
 /// Puts the value that a choice has where its test holds.
 #[tactic(auto, using(crate::proofs::Texts::texts))]
 #[cycle(put_expr)]
-fn put_held(alloc: Global, out: &mut String, a: &Expr) -> Result<(), AllocError>
-    ensures { IfOk result (λ _. string_bytes out.new ≡ string_bytes out.old ++ text_of (key k.Question ∷ lexemes_of_expr (expr_of a.now))) }
+fn put_held(alloc: Global, out: &mut Page, a: &Expr) -> Result<(), AllocError>
+    ensures { IfOk result (λ _. out.new ≡ written out.old (key k.Question ∷ lexemes_of_expr (expr_of a.now))) }
 {
     put(out, Key::Question)?;
     put_expr(alloc, out, a)?;
@@ -185,8 +186,8 @@ fn put_held(alloc: Global, out: &mut String, a: &Expr) -> Result<(), AllocError>
 /// Puts the value that a choice has elsewhere, and the closing bracket.
 #[tactic(auto, using(crate::proofs::Texts::texts))]
 #[cycle(put_expr)]
-fn put_elsewhere(alloc: Global, out: &mut String, b: &Expr) -> Result<(), AllocError>
-    ensures { IfOk result (λ _. string_bytes out.new ≡ string_bytes out.old ++ text_of (key k.Colon ∷ (lexemes_of_expr (expr_of b.now) ++ key k.Close ∷ []))) }
+fn put_elsewhere(alloc: Global, out: &mut Page, b: &Expr) -> Result<(), AllocError>
+    ensures { IfOk result (λ _. out.new ≡ written out.old (key k.Colon ∷ (lexemes_of_expr (expr_of b.now) ++ key k.Close ∷ []))) }
 {
     put(out, Key::Colon)?;
     put_expr(alloc, out, b)?;
@@ -196,8 +197,8 @@ fn put_elsewhere(alloc: Global, out: &mut String, b: &Expr) -> Result<(), AllocE
 
 /// Puts the first and the last bit of a slice, in brackets.
 #[tactic(auto, using(crate::proofs::Texts::texts))]
-fn put_bounds(alloc: Global, out: &mut String, high: u8, low: u8) -> Result<(), AllocError>
-    ensures { IfOk result (λ _. string_bytes out.new ≡ string_bytes out.old ++ text_of (lexemes_of_bounds high low)) }
+fn put_bounds(alloc: Global, out: &mut Page, high: u8, low: u8) -> Result<(), AllocError>
+    ensures { IfOk result (λ _. out.new ≡ written out.old (lexemes_of_bounds high low)) }
 {
     put(out, Key::SquareOpen)?;
     put_decimal(alloc, out, high as u128)?;
@@ -209,8 +210,8 @@ fn put_bounds(alloc: Global, out: &mut String, high: u8, low: u8) -> Result<(), 
 
 #[tactic(auto, using(crate::proofs::Texts::texts))]
 #[cycle(put_expr)]
-fn put_slice(alloc: Global, out: &mut String, a: &Expr, high: u8, low: u8) -> Result<(), AllocError>
-    ensures { IfOk result (λ _. string_bytes out.new ≡ string_bytes out.old ++ text_of (lexemes_of_expr (expr_of a.now) ++ lexemes_of_bounds high low)) }
+fn put_slice(alloc: Global, out: &mut Page, a: &Expr, high: u8, low: u8) -> Result<(), AllocError>
+    ensures { IfOk result (λ _. out.new ≡ written out.old (lexemes_of_expr (expr_of a.now) ++ lexemes_of_bounds high low)) }
 {
     put_expr(alloc, out, a)?;
     put_bounds(alloc, out, high, low)?;
@@ -220,8 +221,8 @@ fn put_slice(alloc: Global, out: &mut String, a: &Expr, high: u8, low: u8) -> Re
 /// Puts an opening bracket, and an operator's left operand or a choice's test.
 #[tactic(auto, using(crate::proofs::Texts::texts))]
 #[cycle(put_expr)]
-fn put_left(alloc: Global, out: &mut String, a: &Expr) -> Result<(), AllocError>
-    ensures { IfOk result (λ _. string_bytes out.new ≡ string_bytes out.old ++ text_of (key k.Open ∷ lexemes_of_expr (expr_of a.now))) }
+fn put_left(alloc: Global, out: &mut Page, a: &Expr) -> Result<(), AllocError>
+    ensures { IfOk result (λ _. out.new ≡ written out.old (key k.Open ∷ lexemes_of_expr (expr_of a.now))) }
 {
     put(out, Key::Open)?;
     put_expr(alloc, out, a)?;
@@ -231,8 +232,8 @@ fn put_left(alloc: Global, out: &mut String, a: &Expr) -> Result<(), AllocError>
 /// Puts an operator, its right operand and the closing bracket.
 #[tactic(auto, using(crate::proofs::Texts::texts))]
 #[cycle(put_expr)]
-fn put_right(alloc: Global, out: &mut String, op: Op, b: &Expr) -> Result<(), AllocError>
-    ensures { IfOk result (λ _. string_bytes out.new ≡ string_bytes out.old ++ text_of (key (key_of_op op) ∷ (lexemes_of_expr (expr_of b.now) ++ key k.Close ∷ []))) }
+fn put_right(alloc: Global, out: &mut Page, op: Op, b: &Expr) -> Result<(), AllocError>
+    ensures { IfOk result (λ _. out.new ≡ written out.old (key (key_of_op op) ∷ (lexemes_of_expr (expr_of b.now) ++ key k.Close ∷ []))) }
 {
     put(out, mark_of(op))?;
     put_expr(alloc, out, b)?;
@@ -242,8 +243,8 @@ fn put_right(alloc: Global, out: &mut String, op: Op, b: &Expr) -> Result<(), Al
 
 #[tactic(auto, using(crate::proofs::Texts::texts))]
 #[cycle(put_expr)]
-fn put_cast(alloc: Global, out: &mut String, ty: &PTy, a: &Expr) -> Result<(), AllocError>
-    ensures { IfOk result (λ _. string_bytes out.new ≡ string_bytes out.old ++ text_of (bracketed (key k.Open ∷ (lexemes_of_type ty.now ++ key k.Close ∷ lexemes_of_expr (expr_of a.now))))) }
+fn put_cast(alloc: Global, out: &mut Page, ty: &PTy, a: &Expr) -> Result<(), AllocError>
+    ensures { IfOk result (λ _. out.new ≡ written out.old (bracketed (key k.Open ∷ (lexemes_of_type ty.now ++ key k.Close ∷ lexemes_of_expr (expr_of a.now))))) }
 {
     put(out, Key::Open)?;
     put(out, Key::Open)?;
@@ -255,8 +256,8 @@ fn put_cast(alloc: Global, out: &mut String, ty: &PTy, a: &Expr) -> Result<(), A
 }
 
 #[tactic(auto, using(crate::proofs::Texts::texts))]
-fn put_more_exprs(alloc: Global, out: &mut String, exprs: &[Expr]) -> Result<(), AllocError>
-    ensures { IfOk result (λ _. string_bytes out.new ≡ string_bytes out.old ++ text_of (each_after (key k.Comma) (map lexemes_of_expr (map expr_of exprs.now)))) }
+fn put_more_exprs(alloc: Global, out: &mut Page, exprs: &[Expr]) -> Result<(), AllocError>
+    ensures { IfOk result (λ _. out.new ≡ written out.old (each_after (key k.Comma) (map lexemes_of_expr (map expr_of exprs.now)))) }
 {
     for expr in exprs {
         put(out, Key::Comma)?;
@@ -267,8 +268,8 @@ fn put_more_exprs(alloc: Global, out: &mut String, exprs: &[Expr]) -> Result<(),
 
 /// Puts expressions with commas between.
 #[tactic(auto, using(crate::proofs::Texts::texts))]
-pub fn put_exprs(alloc: Global, out: &mut String, exprs: &[Expr]) -> Result<(), AllocError>
-    ensures { IfOk result (λ _. string_bytes out.new ≡ string_bytes out.old ++ text_of (lexemes_of_exprs (map expr_of exprs.now))) }
+pub fn put_exprs(alloc: Global, out: &mut Page, exprs: &[Expr]) -> Result<(), AllocError>
+    ensures { IfOk result (λ _. out.new ≡ written out.old (lexemes_of_exprs (map expr_of exprs.now))) }
 {
     if let [first, rest @ ..] = exprs {
         put_expr(alloc, out, first)?;
@@ -278,8 +279,8 @@ pub fn put_exprs(alloc: Global, out: &mut String, exprs: &[Expr]) -> Result<(), 
 }
 
 #[tactic(auto, using(crate::proofs::Texts::texts))]
-fn put_arg(alloc: Global, out: &mut String, arg: &Arg) -> Result<(), AllocError>
-    ensures { IfOk result (λ _. string_bytes out.new ≡ string_bytes out.old ++ text_of (lexemes_of_arg (arg_of arg.now))) }
+fn put_arg(alloc: Global, out: &mut Page, arg: &Arg) -> Result<(), AllocError>
+    ensures { IfOk result (λ _. out.new ≡ written out.old (lexemes_of_arg (arg_of arg.now))) }
 {
     match arg {
         Arg::One(_, e) => put_expr(alloc, out, e)?,
@@ -293,8 +294,8 @@ fn put_arg(alloc: Global, out: &mut String, arg: &Arg) -> Result<(), AllocError>
 }
 
 #[tactic(auto, using(crate::proofs::Texts::texts))]
-fn put_more_args(alloc: Global, out: &mut String, args: &[Arg]) -> Result<(), AllocError>
-    ensures { IfOk result (λ _. string_bytes out.new ≡ string_bytes out.old ++ text_of (each_after (key k.Comma) (map lexemes_of_arg (map arg_of args.now)))) }
+fn put_more_args(alloc: Global, out: &mut Page, args: &[Arg]) -> Result<(), AllocError>
+    ensures { IfOk result (λ _. out.new ≡ written out.old (each_after (key k.Comma) (map lexemes_of_arg (map arg_of args.now)))) }
 {
     for arg in args {
         put(out, Key::Comma)?;
@@ -305,8 +306,8 @@ fn put_more_args(alloc: Global, out: &mut String, args: &[Arg]) -> Result<(), Al
 
 /// Puts arguments with commas between.
 #[tactic(auto, using(crate::proofs::Texts::texts))]
-pub fn put_args(alloc: Global, out: &mut String, args: &[Arg]) -> Result<(), AllocError>
-    ensures { IfOk result (λ _. string_bytes out.new ≡ string_bytes out.old ++ text_of (lexemes_of_args (map arg_of args.now))) }
+pub fn put_args(alloc: Global, out: &mut Page, args: &[Arg]) -> Result<(), AllocError>
+    ensures { IfOk result (λ _. out.new ≡ written out.old (lexemes_of_args (map arg_of args.now))) }
 {
     if let [first, rest @ ..] = args {
         put_arg(alloc, out, first)?;

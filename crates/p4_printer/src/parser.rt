@@ -1,14 +1,15 @@
 //! Parsers as lexemes.
 
-ghost use Rattle.std.specs.Prelude.{◌≡◌, List, ◌++◌, ◌∷◌, [], IfOk, string_bytes, map};
+ghost use Rattle.std.specs.Prelude.{◌≡◌, List, ◌++◌, ◌∷◌, [], IfOk, map};
 ghost use Rattle.lex_words.specs.Seen.{key};
 ghost use Rattle.lex_words.specs.declared.key.Key.TheVariants as k;
 ghost use Rattle.p4_tree.specs.View.{expr_of, keyset_of, case_of, transition_of, state_of, parser_of};
-ghost use Rattle.p4_printer.specs.Layout.{text_of, in_row, each_after, separated, bracketed};
+ghost use Rattle.p4_printer.specs.Layout.{written, in_row, each_after, separated, bracketed};
 ghost use Rattle.p4_printer.specs.Expressions.{lexemes_of_expr, lexemes_of_exprs};
 ghost use Rattle.p4_printer.specs.Programs.{lexemes_of_way, lexemes_of_param, lexemes_of_params, lexemes_of_keyset, lexemes_of_keys, lexemes_of_case, lexemes_of_next, lexemes_of_select, lexemes_of_transition, lexemes_of_state, lexemes_of_parser};
 
 use crate::expression::{put_expr, put_exprs, put_type};
+use crate::page::Page;
 use crate::statement::put_stmts;
 use crate::word::{put, put_name};
 use lex_text::Name;
@@ -17,8 +18,8 @@ use p4_tree::{Expr, Keyset, Param, Parser, ParserState, Transition, Way};
 use std::alloc::{AllocError, Global};
 
 #[tactic(auto, using(crate::proofs::Texts::texts))]
-fn put_way(out: &mut String, way: Way) -> Result<(), AllocError>
-    ensures { IfOk result (λ _. string_bytes out.new ≡ string_bytes out.old ++ text_of (lexemes_of_way way)) }
+fn put_way(out: &mut Page, way: Way) -> Result<(), AllocError>
+    ensures { IfOk result (λ _. out.new ≡ written out.old (lexemes_of_way way)) }
 {
     match way {
         Way::Plain => {}
@@ -30,8 +31,8 @@ fn put_way(out: &mut String, way: Way) -> Result<(), AllocError>
 }
 
 #[tactic(auto, using(crate::proofs::Texts::texts))]
-fn put_param(alloc: Global, out: &mut String, param: &Param) -> Result<(), AllocError>
-    ensures { IfOk result (λ _. string_bytes out.new ≡ string_bytes out.old ++ text_of (lexemes_of_param param.now)) }
+fn put_param(alloc: Global, out: &mut Page, param: &Param) -> Result<(), AllocError>
+    ensures { IfOk result (λ _. out.new ≡ written out.old (lexemes_of_param param.now)) }
 {
     put_way(out, param.way)?;
     put_type(alloc, out, &param.ty)?;
@@ -40,8 +41,8 @@ fn put_param(alloc: Global, out: &mut String, param: &Param) -> Result<(), Alloc
 }
 
 #[tactic(auto, using(crate::proofs::Texts::texts))]
-fn put_more_params(alloc: Global, out: &mut String, params: &[Param]) -> Result<(), AllocError>
-    ensures { IfOk result (λ _. string_bytes out.new ≡ string_bytes out.old ++ text_of (each_after (key k.Comma) (map lexemes_of_param params.now))) }
+fn put_more_params(alloc: Global, out: &mut Page, params: &[Param]) -> Result<(), AllocError>
+    ensures { IfOk result (λ _. out.new ≡ written out.old (each_after (key k.Comma) (map lexemes_of_param params.now))) }
 {
     for param in params {
         put(out, Key::Comma)?;
@@ -52,8 +53,8 @@ fn put_more_params(alloc: Global, out: &mut String, params: &[Param]) -> Result<
 
 /// Puts parameters with commas between.
 #[tactic(auto, using(crate::proofs::Texts::texts))]
-pub fn put_params(alloc: Global, out: &mut String, params: &[Param]) -> Result<(), AllocError>
-    ensures { IfOk result (λ _. string_bytes out.new ≡ string_bytes out.old ++ text_of (lexemes_of_params params.now)) }
+pub fn put_params(alloc: Global, out: &mut Page, params: &[Param]) -> Result<(), AllocError>
+    ensures { IfOk result (λ _. out.new ≡ written out.old (lexemes_of_params params.now)) }
 {
     if let [first, rest @ ..] = params {
         put_param(alloc, out, first)?;
@@ -63,8 +64,8 @@ pub fn put_params(alloc: Global, out: &mut String, params: &[Param]) -> Result<(
 }
 
 #[tactic(auto, using(crate::proofs::Texts::texts))]
-fn put_masked(alloc: Global, out: &mut String, e: &Expr, mask: &Expr) -> Result<(), AllocError>
-    ensures { IfOk result (λ _. string_bytes out.new ≡ string_bytes out.old ++ text_of (lexemes_of_expr (expr_of e.now) ++ key k.Mask ∷ lexemes_of_expr (expr_of mask.now))) }
+fn put_masked(alloc: Global, out: &mut Page, e: &Expr, mask: &Expr) -> Result<(), AllocError>
+    ensures { IfOk result (λ _. out.new ≡ written out.old (lexemes_of_expr (expr_of e.now) ++ key k.Mask ∷ lexemes_of_expr (expr_of mask.now))) }
 {
     put_expr(alloc, out, e)?;
     put(out, Key::Mask)?;
@@ -73,8 +74,8 @@ fn put_masked(alloc: Global, out: &mut String, e: &Expr, mask: &Expr) -> Result<
 }
 
 #[tactic(auto, using(crate::proofs::Texts::texts))]
-fn put_keyset(alloc: Global, out: &mut String, key: &Keyset) -> Result<(), AllocError>
-    ensures { IfOk result (λ _. string_bytes out.new ≡ string_bytes out.old ++ text_of (lexemes_of_keyset (keyset_of key.now))) }
+fn put_keyset(alloc: Global, out: &mut Page, key: &Keyset) -> Result<(), AllocError>
+    ensures { IfOk result (λ _. out.new ≡ written out.old (lexemes_of_keyset (keyset_of key.now))) }
 {
     match key {
         Keyset::Any(_) => put(out, Key::Default)?,
@@ -85,8 +86,8 @@ fn put_keyset(alloc: Global, out: &mut String, key: &Keyset) -> Result<(), Alloc
 }
 
 #[tactic(auto, using(crate::proofs::Texts::texts))]
-fn put_more_keysets(alloc: Global, out: &mut String, keys: &[Keyset]) -> Result<(), AllocError>
-    ensures { IfOk result (λ _. string_bytes out.new ≡ string_bytes out.old ++ text_of (each_after (key k.Comma) (map lexemes_of_keyset (map keyset_of keys.now)))) }
+fn put_more_keysets(alloc: Global, out: &mut Page, keys: &[Keyset]) -> Result<(), AllocError>
+    ensures { IfOk result (λ _. out.new ≡ written out.old (each_after (key k.Comma) (map lexemes_of_keyset (map keyset_of keys.now)))) }
 {
     for key in keys {
         put(out, Key::Comma)?;
@@ -97,8 +98,8 @@ fn put_more_keysets(alloc: Global, out: &mut String, keys: &[Keyset]) -> Result<
 
 /// Puts keys with commas between.
 #[tactic(auto, using(crate::proofs::Texts::texts))]
-fn put_keysets(alloc: Global, out: &mut String, keys: &[Keyset]) -> Result<(), AllocError>
-    ensures { IfOk result (λ _. string_bytes out.new ≡ string_bytes out.old ++ text_of (separated (key k.Comma) (map lexemes_of_keyset (map keyset_of keys.now)))) }
+fn put_keysets(alloc: Global, out: &mut Page, keys: &[Keyset]) -> Result<(), AllocError>
+    ensures { IfOk result (λ _. out.new ≡ written out.old (separated (key k.Comma) (map lexemes_of_keyset (map keyset_of keys.now)))) }
 {
     if let [first, rest @ ..] = keys {
         put_keyset(alloc, out, first)?;
@@ -108,8 +109,8 @@ fn put_keysets(alloc: Global, out: &mut String, keys: &[Keyset]) -> Result<(), A
 }
 
 #[tactic(auto, using(crate::proofs::Texts::texts))]
-fn put_several(alloc: Global, out: &mut String, keys: &[Keyset]) -> Result<(), AllocError>
-    ensures { IfOk result (λ _. string_bytes out.new ≡ string_bytes out.old ++ text_of (bracketed (separated (key k.Comma) (map lexemes_of_keyset (map keyset_of keys.now))))) }
+fn put_several(alloc: Global, out: &mut Page, keys: &[Keyset]) -> Result<(), AllocError>
+    ensures { IfOk result (λ _. out.new ≡ written out.old (bracketed (separated (key k.Comma) (map lexemes_of_keyset (map keyset_of keys.now))))) }
 {
     put(out, Key::Open)?;
     put_keysets(alloc, out, keys)?;
@@ -118,8 +119,8 @@ fn put_several(alloc: Global, out: &mut String, keys: &[Keyset]) -> Result<(), A
 }
 
 #[tactic(auto, using(crate::proofs::Keys::keys))]
-fn put_keys(alloc: Global, out: &mut String, keys: &[Keyset]) -> Result<(), AllocError>
-    ensures { IfOk result (λ _. string_bytes out.new ≡ string_bytes out.old ++ text_of (lexemes_of_keys (map keyset_of keys.now))) }
+fn put_keys(alloc: Global, out: &mut Page, keys: &[Keyset]) -> Result<(), AllocError>
+    ensures { IfOk result (λ _. out.new ≡ written out.old (lexemes_of_keys (map keyset_of keys.now))) }
 {
     if keys.len() == 1 {
         put_keysets(alloc, out, keys)?;
@@ -130,8 +131,8 @@ fn put_keys(alloc: Global, out: &mut String, keys: &[Keyset]) -> Result<(), Allo
 }
 
 #[tactic(auto, using(crate::proofs::Texts::texts))]
-fn put_case(alloc: Global, out: &mut String, case: &(Vec<Keyset>, Name)) -> Result<(), AllocError>
-    ensures { IfOk result (λ _. string_bytes out.new ≡ string_bytes out.old ++ text_of (lexemes_of_case (case_of case.now))) }
+fn put_case(alloc: Global, out: &mut Page, case: &(Vec<Keyset>, Name)) -> Result<(), AllocError>
+    ensures { IfOk result (λ _. out.new ≡ written out.old (lexemes_of_case (case_of case.now))) }
 {
     put_keys(alloc, out, &case.0)?;
     put(out, Key::Colon)?;
@@ -141,12 +142,8 @@ fn put_case(alloc: Global, out: &mut String, case: &(Vec<Keyset>, Name)) -> Resu
 }
 
 #[tactic(auto, using(crate::proofs::Texts::texts))]
-fn put_cases(
-    alloc: Global,
-    out: &mut String,
-    cases: &[(Vec<Keyset>, Name)],
-) -> Result<(), AllocError>
-    ensures { IfOk result (λ _. string_bytes out.new ≡ string_bytes out.old ++ text_of (in_row (map lexemes_of_case (map case_of cases.now)))) }
+fn put_cases(alloc: Global, out: &mut Page, cases: &[(Vec<Keyset>, Name)]) -> Result<(), AllocError>
+    ensures { IfOk result (λ _. out.new ≡ written out.old (in_row (map lexemes_of_case (map case_of cases.now)))) }
 {
     for case in cases {
         put_case(alloc, out, case)?;
@@ -156,8 +153,8 @@ fn put_cases(
 
 /// Puts the head of a `select`.
 #[tactic(auto, using(crate::proofs::Texts::texts))]
-fn put_values(alloc: Global, out: &mut String, list: &[Expr]) -> Result<(), AllocError>
-    ensures { IfOk result (λ _. string_bytes out.new ≡ string_bytes out.old ++ text_of (key k.Transition ∷ key k.Select ∷ bracketed (lexemes_of_exprs (map expr_of list.now)))) }
+fn put_values(alloc: Global, out: &mut Page, list: &[Expr]) -> Result<(), AllocError>
+    ensures { IfOk result (λ _. out.new ≡ written out.old (key k.Transition ∷ key k.Select ∷ bracketed (lexemes_of_exprs (map expr_of list.now)))) }
 {
     put(out, Key::Transition)?;
     put(out, Key::Select)?;
@@ -168,8 +165,8 @@ fn put_values(alloc: Global, out: &mut String, list: &[Expr]) -> Result<(), Allo
 }
 
 #[tactic(auto, using(crate::proofs::Texts::texts))]
-fn put_next(out: &mut String, name: &Name) -> Result<(), AllocError>
-    ensures { IfOk result (λ _. string_bytes out.new ≡ string_bytes out.old ++ text_of (lexemes_of_next name.now)) }
+fn put_next(out: &mut Page, name: &Name) -> Result<(), AllocError>
+    ensures { IfOk result (λ _. out.new ≡ written out.old (lexemes_of_next name.now)) }
 {
     put(out, Key::Transition)?;
     put_name(out, name)?;
@@ -180,11 +177,11 @@ fn put_next(out: &mut String, name: &Name) -> Result<(), AllocError>
 #[tactic(auto, using(crate::proofs::Texts::texts))]
 fn put_select(
     alloc: Global,
-    out: &mut String,
+    out: &mut Page,
     list: &[Expr],
     cases: &[(Vec<Keyset>, Name)],
 ) -> Result<(), AllocError>
-    ensures { IfOk result (λ _. string_bytes out.new ≡ string_bytes out.old ++ text_of (lexemes_of_select (map expr_of list.now) (map case_of cases.now))) }
+    ensures { IfOk result (λ _. out.new ≡ written out.old (lexemes_of_select (map expr_of list.now) (map case_of cases.now))) }
 {
     put_values(alloc, out, list)?;
     put(out, Key::BraceOpen)?;
@@ -194,8 +191,8 @@ fn put_select(
 }
 
 #[tactic(auto, using(crate::proofs::Texts::texts))]
-fn put_transition(alloc: Global, out: &mut String, next: &Transition) -> Result<(), AllocError>
-    ensures { IfOk result (λ _. string_bytes out.new ≡ string_bytes out.old ++ text_of (lexemes_of_transition (transition_of next.now))) }
+fn put_transition(alloc: Global, out: &mut Page, next: &Transition) -> Result<(), AllocError>
+    ensures { IfOk result (λ _. out.new ≡ written out.old (lexemes_of_transition (transition_of next.now))) }
 {
     match next {
         Transition::None(_) => {}
@@ -206,8 +203,8 @@ fn put_transition(alloc: Global, out: &mut String, next: &Transition) -> Result<
 }
 
 #[tactic(auto, using(crate::proofs::Texts::texts))]
-fn put_state(alloc: Global, out: &mut String, state: &ParserState) -> Result<(), AllocError>
-    ensures { IfOk result (λ _. string_bytes out.new ≡ string_bytes out.old ++ text_of (lexemes_of_state (state_of state.now))) }
+fn put_state(alloc: Global, out: &mut Page, state: &ParserState) -> Result<(), AllocError>
+    ensures { IfOk result (λ _. out.new ≡ written out.old (lexemes_of_state (state_of state.now))) }
 {
     put(out, Key::State)?;
     put_name(out, &state.name)?;
@@ -219,8 +216,8 @@ fn put_state(alloc: Global, out: &mut String, state: &ParserState) -> Result<(),
 }
 
 #[tactic(auto, using(crate::proofs::Texts::texts))]
-fn put_states(alloc: Global, out: &mut String, states: &[ParserState]) -> Result<(), AllocError>
-    ensures { IfOk result (λ _. string_bytes out.new ≡ string_bytes out.old ++ text_of (in_row (map lexemes_of_state (map state_of states.now)))) }
+fn put_states(alloc: Global, out: &mut Page, states: &[ParserState]) -> Result<(), AllocError>
+    ensures { IfOk result (λ _. out.new ≡ written out.old (in_row (map lexemes_of_state (map state_of states.now)))) }
 {
     for state in states {
         put_state(alloc, out, state)?;
@@ -230,8 +227,8 @@ fn put_states(alloc: Global, out: &mut String, states: &[ParserState]) -> Result
 
 /// Puts a parser.
 #[tactic(auto, using(crate::proofs::Texts::texts))]
-pub fn put_parser(alloc: Global, out: &mut String, parser: &Parser) -> Result<(), AllocError>
-    ensures { IfOk result (λ _. string_bytes out.new ≡ string_bytes out.old ++ text_of (lexemes_of_parser (parser_of parser.now))) }
+pub fn put_parser(alloc: Global, out: &mut Page, parser: &Parser) -> Result<(), AllocError>
+    ensures { IfOk result (λ _. out.new ≡ written out.old (lexemes_of_parser (parser_of parser.now))) }
 {
     put(out, Key::Parser)?;
     put_name(out, &parser.name)?;

@@ -4,13 +4,15 @@ ghost use Rattle.std.specs.Prelude.{◌≡◌, List, ◌++◌, ◌∷◌, [], If
 ghost use Rattle.lex_words.specs.Seen.{key};
 ghost use Rattle.lex_words.specs.declared.key.Key.TheVariants as k;
 ghost use Rattle.p4_tree.specs.View.{local_of, control_of, top_of, program_of};
-ghost use Rattle.p4_printer.specs.Layout.{text_of, in_row, each_after, separated};
+ghost use Rattle.p4_printer.specs.Layout.{written, in_row, each_after, separated};
 ghost use Rattle.p4_printer.specs.CanSpell.{CanSpell};
 ghost use Rattle.p4_printer.specs.Printed.{IsPrinted};
 ghost use Rattle.p4_printer.specs.Programs.{lexemes_of_inside, lexemes_of_includes, program_text, lexemes_of_local, lexemes_of_control, lexemes_of_field, lexemes_of_fields, lexemes_of_top, lexemes_of_part, lexemes_of_main};
 
 use crate::declaration::{put_action, put_constant, put_register, put_typedef};
 use crate::expression::put_type;
+use crate::form::Form;
+use crate::page::Page;
 use crate::parser::{put_params, put_parser};
 use crate::statement::{put_block, put_var};
 use crate::table::put_table;
@@ -21,8 +23,8 @@ use p4_tree::{Control, Local, PTy, Program, Top};
 use std::alloc::{AllocError, Global};
 
 #[tactic(auto, using(crate::proofs::Texts::texts))]
-fn put_local(alloc: Global, out: &mut String, local: &Local) -> Result<(), AllocError>
-    ensures { IfOk result (λ _. string_bytes out.new ≡ string_bytes out.old ++ text_of (lexemes_of_local (local_of local.now))) }
+fn put_local(alloc: Global, out: &mut Page, local: &Local) -> Result<(), AllocError>
+    ensures { IfOk result (λ _. out.new ≡ written out.old (lexemes_of_local (local_of local.now))) }
 {
     match local {
         Local::Act(_, action) => put_action(alloc, out, action)?,
@@ -35,8 +37,8 @@ fn put_local(alloc: Global, out: &mut String, local: &Local) -> Result<(), Alloc
 }
 
 #[tactic(auto, using(crate::proofs::Texts::texts))]
-fn put_locals(alloc: Global, out: &mut String, locals: &[Local]) -> Result<(), AllocError>
-    ensures { IfOk result (λ _. string_bytes out.new ≡ string_bytes out.old ++ text_of (in_row (map lexemes_of_local (map local_of locals.now)))) }
+fn put_locals(alloc: Global, out: &mut Page, locals: &[Local]) -> Result<(), AllocError>
+    ensures { IfOk result (λ _. out.new ≡ written out.old (in_row (map lexemes_of_local (map local_of locals.now)))) }
 {
     for local in locals {
         put_local(alloc, out, local)?;
@@ -46,8 +48,8 @@ fn put_locals(alloc: Global, out: &mut String, locals: &[Local]) -> Result<(), A
 
 /// Puts the inside of a control.
 #[tactic(auto, using(crate::proofs::Texts::texts))]
-fn put_inside(alloc: Global, out: &mut String, control: &Control) -> Result<(), AllocError>
-    ensures { IfOk result (λ _. string_bytes out.new ≡ string_bytes out.old ++ text_of (lexemes_of_inside (control_of control.now).locals (control_of control.now).apply)) }
+fn put_inside(alloc: Global, out: &mut Page, control: &Control) -> Result<(), AllocError>
+    ensures { IfOk result (λ _. out.new ≡ written out.old (lexemes_of_inside (control_of control.now).locals (control_of control.now).apply)) }
 {
     put_locals(alloc, out, &control.locals)?;
     put_word(out, "apply")?;
@@ -57,8 +59,8 @@ fn put_inside(alloc: Global, out: &mut String, control: &Control) -> Result<(), 
 }
 
 #[tactic(auto, using(crate::proofs::Texts::texts))]
-fn put_control(alloc: Global, out: &mut String, control: &Control) -> Result<(), AllocError>
-    ensures { IfOk result (λ _. string_bytes out.new ≡ string_bytes out.old ++ text_of (lexemes_of_control (control_of control.now))) }
+fn put_control(alloc: Global, out: &mut Page, control: &Control) -> Result<(), AllocError>
+    ensures { IfOk result (λ _. out.new ≡ written out.old (lexemes_of_control (control_of control.now))) }
 {
     put(out, Key::Control)?;
     put_name(out, &control.name)?;
@@ -71,8 +73,8 @@ fn put_control(alloc: Global, out: &mut String, control: &Control) -> Result<(),
 }
 
 #[tactic(auto, using(crate::proofs::Texts::texts))]
-fn put_field(alloc: Global, out: &mut String, field: &(PTy, Name)) -> Result<(), AllocError>
-    ensures { IfOk result (λ _. string_bytes out.new ≡ string_bytes out.old ++ text_of (lexemes_of_field field.now)) }
+fn put_field(alloc: Global, out: &mut Page, field: &(PTy, Name)) -> Result<(), AllocError>
+    ensures { IfOk result (λ _. out.new ≡ written out.old (lexemes_of_field field.now)) }
 {
     put_type(alloc, out, &field.0)?;
     put_name(out, &field.1)?;
@@ -81,8 +83,8 @@ fn put_field(alloc: Global, out: &mut String, field: &(PTy, Name)) -> Result<(),
 }
 
 #[tactic(auto, using(crate::proofs::Texts::texts))]
-fn put_fields(alloc: Global, out: &mut String, fields: &[(PTy, Name)]) -> Result<(), AllocError>
-    ensures { IfOk result (λ _. string_bytes out.new ≡ string_bytes out.old ++ text_of (in_row (map lexemes_of_field fields.now))) }
+fn put_fields(alloc: Global, out: &mut Page, fields: &[(PTy, Name)]) -> Result<(), AllocError>
+    ensures { IfOk result (λ _. out.new ≡ written out.old (in_row (map lexemes_of_field fields.now))) }
 {
     for field in fields {
         put_field(alloc, out, field)?;
@@ -94,12 +96,12 @@ fn put_fields(alloc: Global, out: &mut String, fields: &[(PTy, Name)]) -> Result
 #[tactic(auto, using(crate::proofs::Texts::texts))]
 fn put_record(
     alloc: Global,
-    out: &mut String,
+    out: &mut Page,
     kind: Key,
     name: &Name,
     fields: &[(PTy, Name)],
 ) -> Result<(), AllocError>
-    ensures { IfOk result (λ _. string_bytes out.new ≡ string_bytes out.old ++ text_of (lexemes_of_fields kind name.now fields.now)) }
+    ensures { IfOk result (λ _. out.new ≡ written out.old (lexemes_of_fields kind name.now fields.now)) }
 {
     put(out, kind)?;
     put_name(out, name)?;
@@ -110,8 +112,8 @@ fn put_record(
 }
 
 #[tactic(auto, using(crate::proofs::Texts::texts))]
-fn put_top(alloc: Global, out: &mut String, top: &Top) -> Result<(), AllocError>
-    ensures { IfOk result (λ _. string_bytes out.new ≡ string_bytes out.old ++ text_of (lexemes_of_top (top_of top.now))) }
+fn put_top(alloc: Global, out: &mut Page, top: &Top) -> Result<(), AllocError>
+    ensures { IfOk result (λ _. out.new ≡ written out.old (lexemes_of_top (top_of top.now))) }
 {
     match top {
         Top::Const(_, ty, name, e) => put_constant(alloc, out, ty, name, e)?,
@@ -126,8 +128,8 @@ fn put_top(alloc: Global, out: &mut String, top: &Top) -> Result<(), AllocError>
 }
 
 #[tactic(auto, using(crate::proofs::Texts::texts))]
-fn put_tops(alloc: Global, out: &mut String, tops: &[Top]) -> Result<(), AllocError>
-    ensures { IfOk result (λ _. string_bytes out.new ≡ string_bytes out.old ++ text_of (in_row (map lexemes_of_top (map top_of tops.now)))) }
+fn put_tops(alloc: Global, out: &mut Page, tops: &[Top]) -> Result<(), AllocError>
+    ensures { IfOk result (λ _. out.new ≡ written out.old (in_row (map lexemes_of_top (map top_of tops.now)))) }
 {
     for top in tops {
         put_top(alloc, out, top)?;
@@ -137,8 +139,8 @@ fn put_tops(alloc: Global, out: &mut String, tops: &[Top]) -> Result<(), AllocEr
 
 /// Puts a parser or control that `main` names.
 #[tactic(auto, using(crate::proofs::Texts::texts))]
-fn put_part(out: &mut String, name: &Name) -> Result<(), AllocError>
-    ensures { IfOk result (λ _. string_bytes out.new ≡ string_bytes out.old ++ text_of (lexemes_of_part name.now)) }
+fn put_part(out: &mut Page, name: &Name) -> Result<(), AllocError>
+    ensures { IfOk result (λ _. out.new ≡ written out.old (lexemes_of_part name.now)) }
 {
     put_name(out, name)?;
     put(out, Key::Open)?;
@@ -147,8 +149,8 @@ fn put_part(out: &mut String, name: &Name) -> Result<(), AllocError>
 }
 
 #[tactic(auto, using(crate::proofs::Texts::texts))]
-fn put_more_parts(out: &mut String, names: &[Name]) -> Result<(), AllocError>
-    ensures { IfOk result (λ _. string_bytes out.new ≡ string_bytes out.old ++ text_of (each_after (key k.Comma) (map lexemes_of_part names.now))) }
+fn put_more_parts(out: &mut Page, names: &[Name]) -> Result<(), AllocError>
+    ensures { IfOk result (λ _. out.new ≡ written out.old (each_after (key k.Comma) (map lexemes_of_part names.now))) }
 {
     for name in names {
         put(out, Key::Comma)?;
@@ -159,8 +161,8 @@ fn put_more_parts(out: &mut String, names: &[Name]) -> Result<(), AllocError>
 
 /// Puts what `main` names, with commas between.
 #[tactic(auto, using(crate::proofs::Texts::texts))]
-fn put_parts(out: &mut String, names: &[Name]) -> Result<(), AllocError>
-    ensures { IfOk result (λ _. string_bytes out.new ≡ string_bytes out.old ++ text_of (separated (key k.Comma) (map lexemes_of_part names.now))) }
+fn put_parts(out: &mut Page, names: &[Name]) -> Result<(), AllocError>
+    ensures { IfOk result (λ _. out.new ≡ written out.old (separated (key k.Comma) (map lexemes_of_part names.now))) }
 {
     if let [first, rest @ ..] = names {
         put_part(out, first)?;
@@ -170,8 +172,8 @@ fn put_parts(out: &mut String, names: &[Name]) -> Result<(), AllocError>
 }
 
 #[tactic(auto, using(crate::proofs::Texts::texts))]
-fn put_main(out: &mut String, names: &[Name]) -> Result<(), AllocError>
-    ensures { IfOk result (λ _. string_bytes out.new ≡ string_bytes out.old ++ text_of (lexemes_of_main names.now)) }
+fn put_main(out: &mut Page, names: &[Name]) -> Result<(), AllocError>
+    ensures { IfOk result (λ _. out.new ≡ written out.old (lexemes_of_main names.now)) }
 {
     put(out, Key::V1Switch)?;
     put(out, Key::Open)?;
@@ -183,24 +185,24 @@ fn put_main(out: &mut String, names: &[Name]) -> Result<(), AllocError>
 }
 
 /// Puts the two lines that begin a program.
-#[tactic(auto, using(crate::proofs::Texts::texts), unfolding(crate::specs::Layout::text_of))]
-fn put_includes(out: &mut String) -> Result<(), AllocError>
-    ensures { IfOk result (λ _. string_bytes out.new ≡ string_bytes out.old ++ text_of lexemes_of_includes) }
+#[tactic(auto, using(crate::proofs::Texts::texts), unfolding(crate::specs::Layout::written))]
+fn put_includes(out: &mut Page) -> Result<(), AllocError>
+    ensures { IfOk result (λ _. out.new ≡ written out.old lexemes_of_includes) }
 {
-    out.push_str("#include <core.p4>\n")?;
-    out.push_str("#include <v1model.p4>\n")?;
+    out.put(Form::Include, "#include <core.p4>")?;
+    out.put(Form::Include, "#include <v1model.p4>")?;
     Ok(())
 }
 
 #[tactic(auto, using(crate::proofs::Texts::texts))]
-fn written(alloc: Global, p: &Program) -> Result<String, AllocError>
+fn text_of(alloc: Global, p: &Program) -> Result<String, AllocError>
     ensures { IfOk result (λ text. string_bytes text ≡ program_text (program_of p.now)) }
 {
-    let mut out = String::new(alloc);
+    let mut out = Page::new(alloc);
     put_includes(&mut out)?;
     put_tops(alloc, &mut out, &p.tops)?;
     put_main(&mut out, &p.main)?;
-    Ok(out)
+    Ok(out.end()?)
 }
 
 /// The text of a program, whose tokens spell the same program but for places.
@@ -210,6 +212,6 @@ pub fn print_program(alloc: Global, p: &Program) -> Result<String, AllocError>
     // it does not rest on places
     ensures text { IfOk result (λ text. string_bytes text ≡ program_text (program_of p.now)) }
 {
-    let text = written(alloc, p)?;
+    let text = text_of(alloc, p)?;
     Ok(text)
 }

@@ -1,12 +1,13 @@
 //! Tables as lexemes.
 
-ghost use Rattle.std.specs.Prelude.{◌≡◌, List, ◌++◌, ◌∷◌, [], IfOk, string_bytes, map};
+ghost use Rattle.std.specs.Prelude.{◌≡◌, List, ◌++◌, ◌∷◌, [], IfOk, map};
 ghost use Rattle.std.specs.Option.{option_map};
 ghost use Rattle.p4_tree.specs.View.{expr_of, key_of, default_of, table_of};
-ghost use Rattle.p4_printer.specs.Layout.{text_of, in_row};
+ghost use Rattle.p4_printer.specs.Layout.{written, in_row};
 ghost use Rattle.p4_printer.specs.Programs.{lexemes_of_key_list, lexemes_of_action_list, lexemes_of_key, lexemes_of_listed, lexemes_of_size, lexemes_of_fixed, lexemes_of_given, lexemes_of_default, lexemes_of_properties, lexemes_of_table};
 
 use crate::expression::{put_expr, put_exprs};
+use crate::page::Page;
 use crate::word::{put, put_decimal, put_name, put_word};
 use lex_text::Name;
 use lex_words::Key;
@@ -14,8 +15,8 @@ use p4_tree::{Expr, Table};
 use std::alloc::{AllocError, Global};
 
 #[tactic(auto, using(crate::proofs::Texts::texts))]
-fn put_key(alloc: Global, out: &mut String, key: &(Expr, Name)) -> Result<(), AllocError>
-    ensures { IfOk result (λ _. string_bytes out.new ≡ string_bytes out.old ++ text_of (lexemes_of_key (key_of key.now))) }
+fn put_key(alloc: Global, out: &mut Page, key: &(Expr, Name)) -> Result<(), AllocError>
+    ensures { IfOk result (λ _. out.new ≡ written out.old (lexemes_of_key (key_of key.now))) }
 {
     put_expr(alloc, out, &key.0)?;
     put(out, Key::Colon)?;
@@ -25,8 +26,8 @@ fn put_key(alloc: Global, out: &mut String, key: &(Expr, Name)) -> Result<(), Al
 }
 
 #[tactic(auto, using(crate::proofs::Texts::texts))]
-fn put_key_row(alloc: Global, out: &mut String, keys: &[(Expr, Name)]) -> Result<(), AllocError>
-    ensures { IfOk result (λ _. string_bytes out.new ≡ string_bytes out.old ++ text_of (in_row (map lexemes_of_key (map key_of keys.now)))) }
+fn put_key_row(alloc: Global, out: &mut Page, keys: &[(Expr, Name)]) -> Result<(), AllocError>
+    ensures { IfOk result (λ _. out.new ≡ written out.old (in_row (map lexemes_of_key (map key_of keys.now)))) }
 {
     for key in keys {
         put_key(alloc, out, key)?;
@@ -35,8 +36,8 @@ fn put_key_row(alloc: Global, out: &mut String, keys: &[(Expr, Name)]) -> Result
 }
 
 #[tactic(auto, using(crate::proofs::Texts::texts))]
-fn put_keys(alloc: Global, out: &mut String, keys: &[(Expr, Name)]) -> Result<(), AllocError>
-    ensures { IfOk result (λ _. string_bytes out.new ≡ string_bytes out.old ++ text_of (lexemes_of_key_list (map key_of keys.now))) }
+fn put_keys(alloc: Global, out: &mut Page, keys: &[(Expr, Name)]) -> Result<(), AllocError>
+    ensures { IfOk result (λ _. out.new ≡ written out.old (lexemes_of_key_list (map key_of keys.now))) }
 {
     put_word(out, "key")?;
     put(out, Key::Assign)?;
@@ -47,8 +48,8 @@ fn put_keys(alloc: Global, out: &mut String, keys: &[(Expr, Name)]) -> Result<()
 }
 
 #[tactic(auto, using(crate::proofs::Texts::texts))]
-fn put_listed(out: &mut String, action: &Name) -> Result<(), AllocError>
-    ensures { IfOk result (λ _. string_bytes out.new ≡ string_bytes out.old ++ text_of (lexemes_of_listed action.now)) }
+fn put_listed(out: &mut Page, action: &Name) -> Result<(), AllocError>
+    ensures { IfOk result (λ _. out.new ≡ written out.old (lexemes_of_listed action.now)) }
 {
     put_name(out, action)?;
     put(out, Key::Semicolon)?;
@@ -56,8 +57,8 @@ fn put_listed(out: &mut String, action: &Name) -> Result<(), AllocError>
 }
 
 #[tactic(auto, using(crate::proofs::Texts::texts))]
-fn put_action_row(out: &mut String, actions: &[Name]) -> Result<(), AllocError>
-    ensures { IfOk result (λ _. string_bytes out.new ≡ string_bytes out.old ++ text_of (in_row (map lexemes_of_listed actions.now))) }
+fn put_action_row(out: &mut Page, actions: &[Name]) -> Result<(), AllocError>
+    ensures { IfOk result (λ _. out.new ≡ written out.old (in_row (map lexemes_of_listed actions.now))) }
 {
     for action in actions {
         put_listed(out, action)?;
@@ -66,8 +67,8 @@ fn put_action_row(out: &mut String, actions: &[Name]) -> Result<(), AllocError>
 }
 
 #[tactic(auto, using(crate::proofs::Texts::texts))]
-fn put_actions(out: &mut String, actions: &[Name]) -> Result<(), AllocError>
-    ensures { IfOk result (λ _. string_bytes out.new ≡ string_bytes out.old ++ text_of (lexemes_of_action_list actions.now)) }
+fn put_actions(out: &mut Page, actions: &[Name]) -> Result<(), AllocError>
+    ensures { IfOk result (λ _. out.new ≡ written out.old (lexemes_of_action_list actions.now)) }
 {
     put_word(out, "actions")?;
     put(out, Key::Assign)?;
@@ -78,8 +79,8 @@ fn put_actions(out: &mut String, actions: &[Name]) -> Result<(), AllocError>
 }
 
 #[tactic(auto, using(crate::proofs::Texts::texts))]
-fn put_size(alloc: Global, out: &mut String, size: Option<u128>) -> Result<(), AllocError>
-    ensures { IfOk result (λ _. string_bytes out.new ≡ string_bytes out.old ++ text_of (lexemes_of_size size)) }
+fn put_size(alloc: Global, out: &mut Page, size: Option<u128>) -> Result<(), AllocError>
+    ensures { IfOk result (λ _. out.new ≡ written out.old (lexemes_of_size size)) }
 {
     if let Some(count) = size {
         put_word(out, "size")?;
@@ -91,8 +92,8 @@ fn put_size(alloc: Global, out: &mut String, size: Option<u128>) -> Result<(), A
 }
 
 #[tactic(auto, using(crate::proofs::Texts::texts))]
-fn put_fixed(out: &mut String, fixed: bool) -> Result<(), AllocError>
-    ensures { IfOk result (λ _. string_bytes out.new ≡ string_bytes out.old ++ text_of (lexemes_of_fixed fixed)) }
+fn put_fixed(out: &mut Page, fixed: bool) -> Result<(), AllocError>
+    ensures { IfOk result (λ _. out.new ≡ written out.old (lexemes_of_fixed fixed)) }
 {
     if fixed {
         put(out, Key::Const)?;
@@ -101,8 +102,8 @@ fn put_fixed(out: &mut String, fixed: bool) -> Result<(), AllocError>
 }
 
 #[tactic(auto, using(crate::proofs::Texts::texts))]
-fn put_given(alloc: Global, out: &mut String, given: &(Name, Vec<Expr>)) -> Result<(), AllocError>
-    ensures { IfOk result (λ _. string_bytes out.new ≡ string_bytes out.old ++ text_of (lexemes_of_given (default_of given.now))) }
+fn put_given(alloc: Global, out: &mut Page, given: &(Name, Vec<Expr>)) -> Result<(), AllocError>
+    ensures { IfOk result (λ _. out.new ≡ written out.old (lexemes_of_given (default_of given.now))) }
 {
     put_name(out, &given.0)?;
     put(out, Key::Open)?;
@@ -115,11 +116,11 @@ fn put_given(alloc: Global, out: &mut String, given: &(Name, Vec<Expr>)) -> Resu
 #[tactic(auto, using(crate::proofs::Texts::texts))]
 fn put_default(
     alloc: Global,
-    out: &mut String,
+    out: &mut Page,
     fixed: bool,
     default: &Option<(Name, Vec<Expr>)>,
 ) -> Result<(), AllocError>
-    ensures { IfOk result (λ _. string_bytes out.new ≡ string_bytes out.old ++ text_of (lexemes_of_default fixed (option_map default_of default.now))) }
+    ensures { IfOk result (λ _. out.new ≡ written out.old (lexemes_of_default fixed (option_map default_of default.now))) }
 {
     if let Some(given) = default {
         put_fixed(out, fixed)?;
@@ -131,8 +132,8 @@ fn put_default(
 }
 
 #[tactic(auto, using(crate::proofs::Texts::texts))]
-fn put_properties(alloc: Global, out: &mut String, table: &Table) -> Result<(), AllocError>
-    ensures { IfOk result (λ _. string_bytes out.new ≡ string_bytes out.old ++ text_of (lexemes_of_properties (table_of table.now))) }
+fn put_properties(alloc: Global, out: &mut Page, table: &Table) -> Result<(), AllocError>
+    ensures { IfOk result (λ _. out.new ≡ written out.old (lexemes_of_properties (table_of table.now))) }
 {
     put_keys(alloc, out, &table.keys)?;
     put_actions(out, &table.actions)?;
@@ -143,8 +144,8 @@ fn put_properties(alloc: Global, out: &mut String, table: &Table) -> Result<(), 
 
 /// Puts a table.
 #[tactic(auto, using(crate::proofs::Texts::texts))]
-pub fn put_table(alloc: Global, out: &mut String, table: &Table) -> Result<(), AllocError>
-    ensures { IfOk result (λ _. string_bytes out.new ≡ string_bytes out.old ++ text_of (lexemes_of_table (table_of table.now))) }
+pub fn put_table(alloc: Global, out: &mut Page, table: &Table) -> Result<(), AllocError>
+    ensures { IfOk result (λ _. out.new ≡ written out.old (lexemes_of_table (table_of table.now))) }
 {
     put(out, Key::Table)?;
     put_name(out, &table.name)?;

@@ -1,6 +1,7 @@
 //! Programs that are read and printed: their words, worked by hand; and their copies.
 
 use crate::programs::{read, spells};
+use p4_printer::print_program;
 use std::alloc::{AllocError, Global};
 use std::process::Abort;
 use std::test::Fail;
@@ -76,6 +77,92 @@ V1Switch ( P ( ) , C ( ) ) main ;";
 #[test]
 fn declarations(rt: HostRuntime) -> Result<(), Fail> {
     spells(&rt, rt.alloc(), DECLARATIONS, DECLARATIONS)
+}
+
+/// These declarations as they are laid out: each form of declaration, statement and expression.
+const LAID_OUT: &str = "\
+#include <core.p4>
+#include <v1model.p4>
+
+const bit<8> most = 8w255;
+
+typedef bit<9> port_t;
+
+header h_t {
+    bit<8> a;
+    bit<16> b;
+}
+
+struct H {
+    h_t h;
+}
+
+struct M { }
+
+register<bit<32> >(4194304) r;
+
+parser P(packet_in packet, out H hdr) {
+    state start {
+        packet.extract(hdr.h);
+        transition select(hdr.h.a, meta.b) {
+            (8w72, 1 &&& 3): more;
+            default: accept;
+        }
+    }
+    state more {
+        transition last;
+    }
+    state last { }
+}
+
+control C(inout H hdr, in M meta) {
+    action a(bit<8> v, port_t w) {
+        meta.b = ((bit<16>) (v + (~(-x))));
+    }
+    table t {
+        key = {
+            hdr.h.a: exact;
+            (a + b)[7:0]: ternary;
+        }
+        actions = {
+            a;
+            NoAction;
+        }
+        size = 16;
+        const default_action = a(8w1, 3);
+    }
+    table u {
+        key = { }
+        actions = { }
+    }
+    register<bit<8> >(2) own;
+    bool seen = false;
+    apply {
+        ;
+        digest(32w7, { x, hdr.h.a });
+        if ((!t.apply().hit)) {
+            x = ((a < b) ? m.f : (a >> 2));
+        } else if (hdr.h.isValid()) {
+            own.read(x, 0);
+            {
+                exit;
+            }
+        } else return;
+    }
+}
+
+V1Switch(P(), C()) main;
+";
+
+#[test]
+fn laid_out(rt: HostRuntime) -> Result<(), Fail> {
+    let alloc = rt.alloc();
+    let program = match read(&rt, alloc, LAID_OUT.as_bytes()) {
+        Ok(program) => program,
+        Err(_) => return Err(Fail::new("a sample is refused")),
+    };
+    assert_eq!(rt; print_program(alloc, &program)?.as_str(), LAID_OUT);
+    Ok(())
 }
 
 /// A copy of a text's program is shown as the program is, places and all.

@@ -40,12 +40,11 @@ fn answer(rt: &impl Abort, alloc: Global, text: &[u8]) -> Result<String, Fail> {
     }
 }
 
-/// Words with a line feed behind each.
-fn in_lines(alloc: Global, words: &str) -> Result<String, AllocError> {
+/// A text without its spaces.
+fn without_spaces(alloc: Global, text: &str) -> Result<String, AllocError> {
     let mut out = String::new(alloc);
-    for word in words.split_whitespace() {
+    for word in text.split_whitespace() {
         out.push_str(word)?;
-        out.push_str("\n")?;
     }
     Ok(out)
 }
@@ -53,7 +52,7 @@ fn in_lines(alloc: Global, words: &str) -> Result<String, AllocError> {
 /// What a printed program begins with, which is no part of its tree.
 const INCLUSIONS: &str = "#include <core.p4>\n#include <v1model.p4>\n";
 
-/// The text spells a program that is printed with these words.
+/// The text spells a program that is printed with these words, whatever stands between them.
 pub fn spells(rt: &impl Abort, alloc: Global, text: &str, words: &str) -> Result<(), Fail> {
     let program = match read(rt, alloc, text.as_bytes()) {
         Ok(program) => program,
@@ -63,7 +62,7 @@ pub fn spells(rt: &impl Abort, alloc: Global, text: &str, words: &str) -> Result
     let Some(tokens) = printed.as_str().strip_prefix(INCLUSIONS) else {
         return Err(Fail::new("no inclusions"));
     };
-    assert_eq!(rt; in_lines(alloc, tokens)?, in_lines(alloc, words)?, "{text}");
+    assert_eq!(rt; without_spaces(alloc, tokens)?, without_spaces(alloc, words)?, "{text}");
     Ok(())
 }
 

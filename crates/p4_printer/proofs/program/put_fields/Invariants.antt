@@ -1,7 +1,7 @@
-use Rattle.std.proofs.Common.{◌≡◌, ◌++◌, string_bytes, map, take}
-use Rattle.p4_printer.specs.Layout.{text_of, in_row}
+use Rattle.std.proofs.Common.{◌≡◌, ◌++◌, map, take}
+use Rattle.p4_printer.specs.Layout.{written, in_row}
 use Rattle.p4_printer.specs.Programs.{lexemes_of_field}
 use Rattle.p4_printer.proofs.program.put_fields.Given as goal
 
 abbrev pub invariant-loop-field : goal.invariant-loop-field
-invariant-loop-field l = string_bytes l.out ≡ string_bytes l.initial.out ++ text_of (in_row (map lexemes_of_field (take l.field-index l.fields)))
+invariant-loop-field l = l.out ≡ written l.initial.out (in_row (map lexemes_of_field (take l.field-index l.fields)))

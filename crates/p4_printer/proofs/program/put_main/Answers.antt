@@ -1,6 +1,6 @@
 use Rattle.lex_words.specs.declared.key.Key.TheVariants as k
 use Rattle.lex_words.specs.Seen.{name, key}
-use Rattle.std.proofs.Common.{◌++◌, ◌∷◌, [], string_bytes, map}
+use Rattle.std.proofs.Common.{◌++◌, ◌∷◌, [], map}
 use Rattle.p4_spelling.specs.Words.{main_name}
 use Rattle.p4_printer.specs.Layout.{separated}
 use Rattle.p4_printer.specs.Programs.{lexemes_of_part}
@@ -9,9 +9,9 @@ use Rattle.p4_printer.proofs.program.put_main.Goals as goal
 
 pub returns : goal.returns
 returns c =
-    follows (string_bytes c.args.out.now) (string_bytes c.put.new.out) (string_bytes c.put-4.new.out) (key k.V1Switch ∷ []) ((key k.Open ∷ []) ++ ((separated (key k.Comma) (map lexemes_of_part c.args.names.now)) ++ ((key k.Close ∷ []) ++ ((name main_name ∷ []) ++ (key k.Semicolon ∷ []))))) c.in_ok-put.ensures
-    (follows (string_bytes c.put.new.out) (string_bytes c.put-2.new.out) (string_bytes c.put-4.new.out) (key k.Open ∷ []) ((separated (key k.Comma) (map lexemes_of_part c.args.names.now)) ++ ((key k.Close ∷ []) ++ ((name main_name ∷ []) ++ (key k.Semicolon ∷ [])))) c.in_ok-put-2.ensures
-    (follows (string_bytes c.put-2.new.out) (string_bytes c.put_parts.new.out) (string_bytes c.put-4.new.out) (separated (key k.Comma) (map lexemes_of_part c.args.names.now)) ((key k.Close ∷ []) ++ ((name main_name ∷ []) ++ (key k.Semicolon ∷ []))) c.in_ok-put_parts.ensures
-    (follows (string_bytes c.put_parts.new.out) (string_bytes c.put-3.new.out) (string_bytes c.put-4.new.out) (key k.Close ∷ []) ((name main_name ∷ []) ++ (key k.Semicolon ∷ [])) c.in_ok-put-3.ensures
-    (follows (string_bytes c.put-3.new.out) (string_bytes c.put_word.new.out) (string_bytes c.put-4.new.out) (name main_name ∷ []) (key k.Semicolon ∷ []) c.in_ok-put_word.ensures
+    follows c.args.out.now c.put.new.out c.put-4.new.out (key k.V1Switch ∷ []) ((key k.Open ∷ []) ++ ((separated (key k.Comma) (map lexemes_of_part c.args.names.now)) ++ ((key k.Close ∷ []) ++ ((name main_name ∷ []) ++ (key k.Semicolon ∷ []))))) c.in_ok-put.ensures
+    (follows c.put.new.out c.put-2.new.out c.put-4.new.out (key k.Open ∷ []) ((separated (key k.Comma) (map lexemes_of_part c.args.names.now)) ++ ((key k.Close ∷ []) ++ ((name main_name ∷ []) ++ (key k.Semicolon ∷ [])))) c.in_ok-put-2.ensures
+    (follows c.put-2.new.out c.put_parts.new.out c.put-4.new.out (separated (key k.Comma) (map lexemes_of_part c.args.names.now)) ((key k.Close ∷ []) ++ ((name main_name ∷ []) ++ (key k.Semicolon ∷ []))) c.in_ok-put_parts.ensures
+    (follows c.put_parts.new.out c.put-3.new.out c.put-4.new.out (key k.Close ∷ []) ((name main_name ∷ []) ++ (key k.Semicolon ∷ [])) c.in_ok-put-3.ensures
+    (follows c.put-3.new.out c.put_word.new.out c.put-4.new.out (name main_name ∷ []) (key k.Semicolon ∷ []) c.in_ok-put_word.ensures
     c.in_ok-put-4.ensures))))

@@ -1,6 +1,6 @@
 use Rattle.lex_words.specs.declared.key.Key.TheVariants as k
 use Rattle.lex_words.specs.Seen.{key}
-use Rattle.std.proofs.Common.{◌∷◌, [], string_bytes, map, refl}
+use Rattle.std.proofs.Common.{◌∷◌, [], map, refl}
 use Rattle.p4_printer.specs.Layout.{each_after}
 use Rattle.p4_printer.specs.Programs.{lexemes_of_part}
 use Rattle.p4_printer.proofs.Texts.{follows}
@@ -9,5 +9,5 @@ use Rattle.p4_printer.proofs.program.put_more_parts.Goals as goal
 
 pub loop-name-preserved : goal.loop-name-preserved
 loop-name-preserved c =
-    step (λ xs. each_after (key k.Comma) (map lexemes_of_part xs)) (λ x. key k.Comma ∷ lexemes_of_part x) refl (λ x xs. refl) (string_bytes c.args.out.now) (string_bytes c.loop-name.out) (string_bytes c.put_part.new.out) c.args.names.now c.name-item.result c.loop-name.name-index
-    c.loop-name-test.true c.name-item.is c.loop-name.invariant (follows (string_bytes c.loop-name.out) (string_bytes c.put.new.out) (string_bytes c.put_part.new.out) (key k.Comma ∷ []) (lexemes_of_part c.name-item.result) c.in_ok-put.ensures c.in_ok-put_part.ensures)
+    step (λ xs. each_after (key k.Comma) (map lexemes_of_part xs)) (λ x. key k.Comma ∷ lexemes_of_part x) refl (λ x xs. refl) c.args.out.now c.loop-name.out c.put_part.new.out c.args.names.now c.name-item.result c.loop-name.name-index
+    c.loop-name-test.true c.name-item.is c.loop-name.invariant (follows c.loop-name.out c.put.new.out c.put_part.new.out (key k.Comma ∷ []) (lexemes_of_part c.name-item.result) c.in_ok-put.ensures c.in_ok-put_part.ensures)

@@ -1,6 +1,6 @@
 use Rattle.lex_words.specs.declared.key.Key.TheVariants as k
 use Rattle.lex_words.specs.Seen.{key}
-use Rattle.std.proofs.Common.{◌++◌, ◌∷◌, [], string_bytes}
+use Rattle.std.proofs.Common.{◌++◌, ◌∷◌, []}
 use Rattle.p4_tree.specs.View.{expr_of}
 use Rattle.p4_printer.specs.Expressions.{lexemes_of_expr}
 use Rattle.p4_printer.proofs.Texts.{follows}
@@ -8,7 +8,7 @@ use Rattle.p4_printer.proofs.statement.put_test.Goals as goal
 
 pub returns : goal.returns
 returns c =
-    follows (string_bytes c.args.out.now) (string_bytes c.put.new.out) (string_bytes c.put-3.new.out) (key k.If ∷ []) ((key k.Open ∷ []) ++ ((lexemes_of_expr (expr_of c.args.e.now)) ++ (key k.Close ∷ []))) c.in_ok-put.ensures
-    (follows (string_bytes c.put.new.out) (string_bytes c.put-2.new.out) (string_bytes c.put-3.new.out) (key k.Open ∷ []) ((lexemes_of_expr (expr_of c.args.e.now)) ++ (key k.Close ∷ [])) c.in_ok-put-2.ensures
-    (follows (string_bytes c.put-2.new.out) (string_bytes c.put_expr.new.out) (string_bytes c.put-3.new.out) (lexemes_of_expr (expr_of c.args.e.now)) (key k.Close ∷ []) c.in_ok-put_expr.ensures
+    follows c.args.out.now c.put.new.out c.put-3.new.out (key k.If ∷ []) ((key k.Open ∷ []) ++ ((lexemes_of_expr (expr_of c.args.e.now)) ++ (key k.Close ∷ []))) c.in_ok-put.ensures
+    (follows c.put.new.out c.put-2.new.out c.put-3.new.out (key k.Open ∷ []) ((lexemes_of_expr (expr_of c.args.e.now)) ++ (key k.Close ∷ [])) c.in_ok-put-2.ensures
+    (follows c.put-2.new.out c.put_expr.new.out c.put-3.new.out (lexemes_of_expr (expr_of c.args.e.now)) (key k.Close ∷ []) c.in_ok-put_expr.ensures
     c.in_ok-put-3.ensures))

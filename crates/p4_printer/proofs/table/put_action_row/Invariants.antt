@@ -1,7 +1,7 @@
-use Rattle.std.proofs.Common.{◌≡◌, ◌++◌, string_bytes, map, take}
-use Rattle.p4_printer.specs.Layout.{text_of, in_row}
+use Rattle.std.proofs.Common.{◌≡◌, ◌++◌, map, take}
+use Rattle.p4_printer.specs.Layout.{written, in_row}
 use Rattle.p4_printer.specs.Programs.{lexemes_of_listed}
 use Rattle.p4_printer.proofs.table.put_action_row.Given as goal
 
 abbrev pub invariant-loop-action : goal.invariant-loop-action
-invariant-loop-action l = string_bytes l.out ≡ string_bytes l.initial.out ++ text_of (in_row (map lexemes_of_listed (take l.action-index l.actions)))
+invariant-loop-action l = l.out ≡ written l.initial.out (in_row (map lexemes_of_listed (take l.action-index l.actions)))
