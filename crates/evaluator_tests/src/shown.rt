@@ -99,7 +99,8 @@ fn put_cells(
     first: &[Bits],
     cells: &[Bits],
 ) -> Result<(), AllocError> {
-    for (at, (before, now)) in first.iter().zip(cells).enumerate() {
+    for (at, now) in cells.iter().enumerate() {
+        let before = first.get(at).copied().unwrap_or(*now);
         let held = before.value ^ now.value;
         if held != 0 {
             lines.push_str(&format!(in alloc; "{front} {at} {held}\n")?)?;
@@ -247,7 +248,7 @@ impl Shown {
             "captures"
         } else if file(files, "o.reports.txt") != self.reports.as_bytes() {
             "reports"
-        } else if file(files, "o.digests.txt") != b"" {
+        } else if !file(files, "o.digests.txt").is_empty() {
             "digests"
         } else if file(files, "o.registers.txt") != self.registers.as_bytes() {
             "registers"
