@@ -48,7 +48,11 @@ fn word(width: u8, bytes: &[u8]) -> Bits {
 
 /// What a header variable reads of a frame, in a half of a passage with these ports.
 fn read_header(decl: &Decl, frame: &[u8], ingress: u16, egress: u16) -> Bits {
-    let part = if decl.valid { 1 } else { decl.path.len().wrapping_sub(1) };
+    let part = if decl.valid {
+        1
+    } else {
+        decl.path.len().wrapping_sub(1)
+    };
     let name = match decl.path.get(part) {
         Some(name) => name.as_str(),
         None => "",
