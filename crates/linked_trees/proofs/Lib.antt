@@ -1,4 +1,3 @@
 pub mod BlockLists
-pub mod RootLemmas
 pub mod Built
 pub mod Retyped

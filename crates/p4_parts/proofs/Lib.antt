@@ -1,2 +1,3 @@
 pub mod ActionsLemmas
 pub mod SettingsLemmas
+pub mod Placed

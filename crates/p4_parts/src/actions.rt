@@ -8,15 +8,12 @@ ghost use Rattle.p4_meaning.specs.Under.{in_control, no_scope};
 ghost use Rattle.p4_meaning.specs.Actions.{param_under, action_under, actions_in, actions_of, action_named, params_of, args_of};
 ghost use Rattle.p4_resolved.specs.Lent.{lent};
 ghost use Rattle.p4_parts.specs.PartsIn.{action_in, param_in};
-ghost use Rattle.p4_resolved.specs.Scopes.{scope_of};
+ghost use Rattle.p4_resolved.specs.Scopes.{at_part, at_top, scope_of};
 
 use crate::parts::{Action, Taken};
 use bit_values::Bits;
 use lex_text::Name;
-use p4_resolved::{
-    Scope, first_name, full_name, in_action, in_control, no_scope, pass_local, pass_top,
-    stmts_under, width_under,
-};
+use p4_resolved::{Inner, Layer, Scope, first_name, full_name, stmts_under, width_under};
 use p4_tree::{Arg, Control, Expr, Local, PTy, Top};
 use p4_values::{Sight, same_text, value_of};
 use std::alloc::{AllocError, Global};
@@ -25,7 +22,7 @@ fn param_under(alloc: Global, sc: &Scope, p: &(PTy, Name)) -> Result<Taken, Allo
     ensures { IfOk result (λ t. param_in t ≡ param_under (scope_of sc.now) p.now) }
 {
     let name = first_name(alloc, sc, &p.1)?;
-    let width = width_under(&sc.types, &p.0);
+    let width = width_under(sc, &p.0);
     Ok(Taken { name, width })
 }
 
@@ -39,33 +36,40 @@ fn params_under(alloc: Global, sc: &Scope, list: &[(PTy, Name)]) -> Result<Vec<T
     Ok(params)
 }
 
-/// An action.
-fn action_under(alloc: Global, sc: &Scope, a: &p4_tree::Action) -> Result<Action, AllocError>
-    ensures { IfOk result (λ t. action_in t ≡ action_under (scope_of sc.now) (action_of a.now)) }
+/// An action of a control with this layer.
+fn action_under(
+    alloc: Global,
+    top: &Layer,
+    layer: &Layer,
+    a: &p4_tree::Action,
+) -> Result<Action, AllocError>
+    ensures { IfOk result (λ t. action_in t ≡ action_under (at_part top.now layer.now) (action_of a.now)) }
 {
-    let inner = in_action(alloc, sc, a)?;
-    let name = full_name(alloc, sc, &a.name)?;
-    let params = params_under(alloc, &inner, &a.params)?;
-    let body = stmts_under(alloc, &inner, &a.body)?;
+    let inner = Inner::of(alloc, a)?;
+    let name = full_name(alloc, &layer.within(top), &a.name)?;
+    let sc = inner.within(top, layer);
+    let params = params_under(alloc, &sc, &a.params)?;
+    let body = stmts_under(alloc, &sc, &a.body)?;
     Ok(Action { name, params, body })
 }
 
 /// The actions among a control's declarations go behind those that are there.
 fn push_actions_in(
     alloc: Global,
-    sc: &mut Scope,
+    top: &Layer,
+    layer: &mut Layer,
     locals: &[Local],
     actions: &mut Vec<Action>,
 ) -> Result<(), AllocError>
-    ensures { OnOk result (map action_in actions.new.items ≡ map action_in actions.old.items ++ actions_in (scope_of sc.old) (map local_of locals.now)) }
+    ensures { OnOk result (map action_in actions.new.items ≡ map action_in actions.old.items ++ actions_in (at_part top.now layer.old) (map local_of locals.now)) }
 {
     for local in locals {
         match local {
-            Local::Act(_, a) => actions.push(action_under(alloc, sc, a)?)?,
-            Local::Tab(_, _) => pass_local(alloc, sc, local)?,
-            Local::Reg(_, _) => pass_local(alloc, sc, local)?,
-            Local::Const(_, _, _, _) => pass_local(alloc, sc, local)?,
-            Local::Var(_, _, _, _) => pass_local(alloc, sc, local)?,
+            Local::Act(_, a) => actions.push(action_under(alloc, top, layer, a)?)?,
+            Local::Tab(_, _) => layer.pass_local(alloc, top, local)?,
+            Local::Reg(_, _) => layer.pass_local(alloc, top, local)?,
+            Local::Const(_, _, _, _) => layer.pass_local(alloc, top, local)?,
+            Local::Var(_, _, _, _) => layer.pass_local(alloc, top, local)?,
         }
     }
     Ok(())
@@ -74,31 +78,31 @@ fn push_actions_in(
 /// The actions of a control go behind those that are there.
 fn push_actions_of(
     alloc: Global,
-    sc: &Scope,
+    top: &Layer,
     control: &Control,
     actions: &mut Vec<Action>,
 ) -> Result<(), AllocError>
-    ensures { OnOk result (map action_in actions.new.items ≡ map action_in actions.old.items ++ actions_in (in_control 0 1 2 (scope_of sc.now) (control_of control.now)) (control_of control.now).locals) }
+    ensures { OnOk result (map action_in actions.new.items ≡ map action_in actions.old.items ++ actions_in (in_control 0 1 2 (at_top top.now) (control_of control.now)) (control_of control.now).locals) }
 {
-    let mut inner = in_control(alloc, 0, 1, 2, sc, control)?;
-    push_actions_in(alloc, &mut inner, &control.locals, actions)
+    let mut layer = Layer::of_control(alloc, 0, 1, 2, control)?;
+    push_actions_in(alloc, top, &mut layer, &control.locals, actions)
 }
 
 /// The actions of a program, in the order of the text.
 pub fn actions_of(alloc: Global, tops: &[Top]) -> Result<Vec<Action>, AllocError>
     ensures { IfOk result (λ v. map action_in v.items ≡ actions_of no_scope (map top_of tops.now)) }
 {
-    let mut sc = no_scope(alloc)?;
+    let mut layer = Layer::outside(alloc)?;
     let mut actions = Vec::new(alloc);
     for top in tops {
         match top {
-            Top::Ctl(_, c) => push_actions_of(alloc, &sc, c, &mut actions)?,
-            Top::Const(_, _, _, _) => pass_top(alloc, &mut sc, top)?,
-            Top::Typedef(_, _, _) => pass_top(alloc, &mut sc, top)?,
-            Top::Header(_, _, _) => pass_top(alloc, &mut sc, top)?,
-            Top::Struct(_, _, _) => pass_top(alloc, &mut sc, top)?,
-            Top::Reg(_, _) => pass_top(alloc, &mut sc, top)?,
-            Top::Pars(_, _) => pass_top(alloc, &mut sc, top)?,
+            Top::Ctl(_, c) => push_actions_of(alloc, &layer, c, &mut actions)?,
+            Top::Const(_, _, _, _) => layer.pass_top(alloc, top)?,
+            Top::Typedef(_, _, _) => layer.pass_top(alloc, top)?,
+            Top::Header(_, _, _) => layer.pass_top(alloc, top)?,
+            Top::Struct(_, _, _) => layer.pass_top(alloc, top)?,
+            Top::Reg(_, _) => layer.pass_top(alloc, top)?,
+            Top::Pars(_, _) => layer.pass_top(alloc, top)?,
         }
     }
     Ok(actions)

@@ -9,89 +9,93 @@ ghost use Rattle.p4_meaning.specs.Under.{behind_locals, behind_tops, no_scope};
 ghost use Rattle.p4_resolved.specs.Lent.{lent};
 ghost use Rattle.p4_parts.specs.Locals.{settings};
 ghost use Rattle.p4_parts.specs.PartsIn.{body_in};
-ghost use Rattle.p4_resolved.specs.Scopes.{scope_of};
+ghost use Rattle.p4_resolved.specs.Scopes.{at_part, at_top};
 
 use crate::parts::Body;
 use p4_resolved::{
-    Scope, control_named, in_control, in_parser, named_in, no_scope, param_type, parser_named,
-    pass_local, pass_top, states_under, stmts_under, var_under,
+    Layer, control_named, named_in, param_type, parser_named, states_under, stmts_under, var_under,
 };
 use p4_tree::{Control, Local, Parser, ParserState, Program, Stmt, Top};
 use p4_values::same_text;
 use std::alloc::{AllocError, Global};
 
-/// The scope behind all declarations.
-pub fn scope_behind(alloc: Global, tops: &[Top]) -> Result<Scope, AllocError>
-    ensures { IfOk result (λ s. scope_of s ≡ behind_tops no_scope (map top_of tops.now)) }
+/// The layer behind all declarations.
+pub fn layer_behind(alloc: Global, tops: &[Top]) -> Result<Box<Layer>, AllocError>
+    ensures { IfOk result (λ l. at_top l.value ≡ behind_tops no_scope (map top_of tops.now)) }
 {
-    let mut sc = no_scope(alloc)?;
+    let mut layer = Layer::outside(alloc)?;
     for top in tops {
-        pass_top(alloc, &mut sc, top)?;
+        layer.pass_top(alloc, top)?;
     }
-    Ok(sc)
+    Ok(layer)
 }
 
-/// The scope at the control of a name.
-fn scope_at_control(alloc: Global, tops: &[Top], name: &str) -> Result<Scope, AllocError>
-    ensures { IfOk result (λ s. scope_of s ≡ scope_at_control no_scope (map top_of tops.now) name.now) }
+/// The layer of the program at the control of a name.
+fn layer_at_control(alloc: Global, tops: &[Top], name: &str) -> Result<Box<Layer>, AllocError>
+    ensures { IfOk result (λ l. at_top l.value ≡ scope_at_control no_scope (map top_of tops.now) name.now) }
 {
-    let mut sc = no_scope(alloc)?;
+    let mut layer = Layer::outside(alloc)?;
     for top in tops {
         match top {
             Top::Ctl(_, c) => {
                 if same_text(c.name.as_str(), name) {
-                    return Ok(sc);
+                    return Ok(layer);
                 }
             }
-            Top::Const(_, _, _, _) => pass_top(alloc, &mut sc, top)?,
-            Top::Typedef(_, _, _) => pass_top(alloc, &mut sc, top)?,
-            Top::Header(_, _, _) => pass_top(alloc, &mut sc, top)?,
-            Top::Struct(_, _, _) => pass_top(alloc, &mut sc, top)?,
-            Top::Reg(_, _) => pass_top(alloc, &mut sc, top)?,
-            Top::Pars(_, _) => pass_top(alloc, &mut sc, top)?,
+            Top::Const(_, _, _, _) => layer.pass_top(alloc, top)?,
+            Top::Typedef(_, _, _) => layer.pass_top(alloc, top)?,
+            Top::Header(_, _, _) => layer.pass_top(alloc, top)?,
+            Top::Struct(_, _, _) => layer.pass_top(alloc, top)?,
+            Top::Reg(_, _) => layer.pass_top(alloc, top)?,
+            Top::Pars(_, _) => layer.pass_top(alloc, top)?,
         }
     }
-    Ok(sc)
+    Ok(layer)
 }
 
-/// The scope at the parser of a name.
-fn scope_at_parser(alloc: Global, tops: &[Top], name: &str) -> Result<Scope, AllocError>
-    ensures { IfOk result (λ s. scope_of s ≡ scope_at_parser no_scope (map top_of tops.now) name.now) }
+/// The layer of the program at the parser of a name.
+fn layer_at_parser(alloc: Global, tops: &[Top], name: &str) -> Result<Box<Layer>, AllocError>
+    ensures { IfOk result (λ l. at_top l.value ≡ scope_at_parser no_scope (map top_of tops.now) name.now) }
 {
-    let mut sc = no_scope(alloc)?;
+    let mut layer = Layer::outside(alloc)?;
     for top in tops {
         match top {
             Top::Pars(_, p) => {
                 if same_text(p.name.as_str(), name) {
-                    return Ok(sc);
+                    return Ok(layer);
                 }
             }
-            Top::Const(_, _, _, _) => pass_top(alloc, &mut sc, top)?,
-            Top::Typedef(_, _, _) => pass_top(alloc, &mut sc, top)?,
-            Top::Header(_, _, _) => pass_top(alloc, &mut sc, top)?,
-            Top::Struct(_, _, _) => pass_top(alloc, &mut sc, top)?,
-            Top::Reg(_, _) => pass_top(alloc, &mut sc, top)?,
-            Top::Ctl(_, _) => pass_top(alloc, &mut sc, top)?,
+            Top::Const(_, _, _, _) => layer.pass_top(alloc, top)?,
+            Top::Typedef(_, _, _) => layer.pass_top(alloc, top)?,
+            Top::Header(_, _, _) => layer.pass_top(alloc, top)?,
+            Top::Struct(_, _, _) => layer.pass_top(alloc, top)?,
+            Top::Reg(_, _) => layer.pass_top(alloc, top)?,
+            Top::Ctl(_, _) => layer.pass_top(alloc, top)?,
         }
     }
-    Ok(sc)
+    Ok(layer)
 }
 
-/// The statements that set a control's variables. The scope is behind its declarations then.
-fn settings_under(alloc: Global, sc: &mut Scope, locals: &[Local]) -> Result<Vec<Stmt>, AllocError>
-    ensures settings { IfOk result (λ v. map stmt_of v.items ≡ settings (scope_of sc.old) (map local_of locals.now)) }
-    ensures behind { OnOk result (scope_of sc.new ≡ behind_locals (scope_of sc.old) (map local_of locals.now)) }
+/// The statements that set a control's variables. Its layer is behind its declarations then.
+fn settings_under(
+    alloc: Global,
+    top: &Layer,
+    layer: &mut Layer,
+    locals: &[Local],
+) -> Result<Vec<Stmt>, AllocError>
+    ensures settings { IfOk result (λ v. map stmt_of v.items ≡ settings (at_part top.now layer.old) (map local_of locals.now)) }
+    ensures behind { OnOk result (at_part top.now layer.new ≡ behind_locals (at_part top.now layer.old) (map local_of locals.now)) }
 {
     let mut body = Vec::new(alloc);
     for local in locals {
         match local {
             Local::Var(at, ty, name, start) => {
-                body.push(var_under(alloc, sc, *at, ty, name, start)?)?;
+                body.push(var_under(alloc, &layer.within(top), *at, ty, name, start)?)?;
             }
-            Local::Act(_, _) => pass_local(alloc, sc, local)?,
-            Local::Tab(_, _) => pass_local(alloc, sc, local)?,
-            Local::Reg(_, _) => pass_local(alloc, sc, local)?,
-            Local::Const(_, _, _, _) => pass_local(alloc, sc, local)?,
+            Local::Act(_, _) => layer.pass_local(alloc, top, local)?,
+            Local::Tab(_, _) => layer.pass_local(alloc, top, local)?,
+            Local::Reg(_, _) => layer.pass_local(alloc, top, local)?,
+            Local::Const(_, _, _, _) => layer.pass_local(alloc, top, local)?,
         }
     }
     Ok(body)
@@ -104,14 +108,14 @@ fn body_under(
     headers: u8,
     metadata: u8,
     standard: u8,
-    sc: &Scope,
+    top: &Layer,
     control: &Control,
 ) -> Result<Body, AllocError>
-    ensures { IfOk result (λ b. body_in b ≡ body_of headers metadata standard (scope_of sc.now) (Some (control_of control.now))) }
+    ensures { IfOk result (λ b. body_in b ≡ body_of headers metadata standard (at_top top.now) (Some (control_of control.now))) }
 {
-    let mut inner = in_control(alloc, headers, metadata, standard, sc, control)?;
-    let locals = settings_under(alloc, &mut inner, &control.locals)?;
-    let body = stmts_under(alloc, &inner, &control.apply)?;
+    let mut layer = Layer::of_control(alloc, headers, metadata, standard, control)?;
+    let locals = settings_under(alloc, top, &mut layer, &control.locals)?;
+    let body = stmts_under(alloc, &layer.within(top), &control.apply)?;
     Ok(Body { locals, body })
 }
 
@@ -121,17 +125,17 @@ fn body_of(
     headers: u8,
     metadata: u8,
     standard: u8,
-    sc: &Scope,
+    top: &Layer,
     control: Option<&Control>,
 ) -> Result<Body, AllocError>
-    ensures { IfOk result (λ b. body_in b ≡ body_of headers metadata standard (scope_of sc.now) (option_map control_of (lent control.entry))) }
+    ensures { IfOk result (λ b. body_in b ≡ body_of headers metadata standard (at_top top.now) (option_map control_of (lent control.entry))) }
 {
     match control {
         None => Ok(Body {
             locals: Vec::new(alloc),
             body: Vec::new(alloc),
         }),
-        Some(c) => body_under(alloc, headers, metadata, standard, sc, c),
+        Some(c) => body_under(alloc, headers, metadata, standard, top, c),
     }
 }
 
@@ -147,13 +151,13 @@ pub fn body_at(
     ensures { IfOk result (λ b. body_in b ≡ meaning.body_in headers metadata standard (program_of p.now) n) }
 {
     let name = named_in(&p.main, n);
-    let sc = scope_at_control(alloc, &p.tops, name)?;
+    let top = layer_at_control(alloc, &p.tops, name)?;
     body_of(
         alloc,
         headers,
         metadata,
         standard,
-        &sc,
+        &top,
         control_named(&p.tops, name),
     )
 }
@@ -161,16 +165,16 @@ pub fn body_at(
 /// The states of a parser that may be there.
 fn states_of(
     alloc: Global,
-    sc: &Scope,
+    top: &Layer,
     parser: Option<&Parser>,
 ) -> Result<Vec<ParserState>, AllocError>
-    ensures { IfOk result (λ v. map state_of v.items ≡ states_of (scope_of sc.now) (option_map parser_of (lent parser.entry))) }
+    ensures { IfOk result (λ v. map state_of v.items ≡ states_of (at_top top.now) (option_map parser_of (lent parser.entry))) }
 {
     match parser {
         None => Ok(Vec::new(alloc)),
         Some(p) => {
-            let inner = in_parser(alloc, sc, p)?;
-            states_under(alloc, &inner, &p.states)
+            let layer = Layer::of_parser(alloc, top, p)?;
+            states_under(alloc, &layer.within(top), &p.states)
         }
     }
 }
@@ -186,8 +190,8 @@ pub fn parser_in(p: &Program) -> Option<&Parser>
 pub fn states_in(alloc: Global, p: &Program) -> Result<Vec<ParserState>, AllocError>
     ensures { IfOk result (λ v. map state_of v.items ≡ states_in (program_of p.now)) }
 {
-    let sc = scope_at_parser(alloc, &p.tops, named_in(&p.main, 0))?;
-    states_of(alloc, &sc, parser_in(p))
+    let top = layer_at_parser(alloc, &p.tops, named_in(&p.main, 0))?;
+    states_of(alloc, &top, parser_in(p))
 }
 
 /// The name of the type of a parser's parameter.

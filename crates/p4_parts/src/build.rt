@@ -8,7 +8,7 @@ ghost use Rattle.p4_parts.specs.Headers.{field_in, header_in};
 ghost use Rattle.p4_parts.specs.PartsIn.{action_in, cells_decl, parts_in, table_in};
 
 use crate::actions::actions_of;
-use crate::bodies::{body_at, parser_in, parser_type, scope_behind, states_in};
+use crate::bodies::{body_at, layer_behind, parser_in, parser_type, states_in};
 use crate::emits::emits_in;
 use crate::fields::{fields_of, headers_of, registers_of};
 use crate::header::{Field, Header};
@@ -31,9 +31,9 @@ fn declared_in(alloc: Global, p: &Program) -> Result<(Vec<Header>, Vec<Field>), 
     ensures headers { IfOk result (λ r. map header_in r.0.items ≡ (parts_of (program_of p.now)).headers) }
     ensures metadata { IfOk result (λ r. map field_in r.1.items ≡ (parts_of (program_of p.now)).metadata) }
 {
-    let sc = scope_behind(alloc, &p.tops)?;
-    let headers = headers_of(alloc, &sc.types, &p.tops, struct_at(p, 1))?;
-    let metadata = fields_of(alloc, &sc.types, struct_at(p, 2))?;
+    let layer = layer_behind(alloc, &p.tops)?;
+    let headers = headers_of(alloc, &layer.scope(), &p.tops, struct_at(p, 1))?;
+    let metadata = fields_of(alloc, &layer.scope(), struct_at(p, 2))?;
     Ok((headers, metadata))
 }
 

@@ -4,7 +4,7 @@
 //! found by the names that `main` and the parameters give. What names stand for is written in their
 //! place: paths begin with fixed roots, constants are their words, typedefs the types that they stand
 //! for, and what a control or an action declares has its full name. Besides: words for the parameters
-//! of an action (`args_of`), which paths a program declares, and how many values a packet has between
+//! of an action (`args_of`), actions by a table of their names (`ActionTable`), which paths a program declares, and how many values a packet has between
 //! the halves (`slots_of`).
 //!
 //! Follows: P4_16 Language Specification and v1model, this project's subset.
@@ -20,6 +20,7 @@ mod emits;
 mod fields;
 mod header;
 mod parts;
+mod places;
 mod slots;
 mod tables;
 
@@ -28,5 +29,6 @@ pub use build::parts_of;
 pub use declared::{is_assignable, is_declared_header, is_declared_path};
 pub use header::{Field, Header};
 pub use parts::{Action, Body, Cells, Chosen, Key, Parts, Table, Taken};
+pub use places::{ActionTable, action_places, add_place};
 pub use slots::slots_of;
 pub use tables::table_named;

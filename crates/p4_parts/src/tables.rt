@@ -8,14 +8,13 @@ ghost use Rattle.p4_meaning.specs.Under.{in_control, no_scope};
 ghost use Rattle.p4_meaning.specs.Tables.{default_under, key_under, table_under, table_named, tables_in, tables_of};
 ghost use Rattle.p4_resolved.specs.Lent.{lent};
 ghost use Rattle.p4_parts.specs.PartsIn.{action_in, chosen_in, key_in, table_in};
-ghost use Rattle.p4_resolved.specs.Scopes.{scope_of};
+ghost use Rattle.p4_resolved.specs.Scopes.{at_part, at_top, scope_of};
 
-use crate::actions::{action_named, params_of, words_of};
+use crate::actions::{params_of, words_of};
 use crate::parts::{Action, Chosen, Key, Table};
+use crate::places::{ActionTable, action_places};
 use lex_text::Name;
-use p4_resolved::{
-    Scope, expr_under, exprs_under, full_name, in_control, no_scope, pass_local, pass_top,
-};
+use p4_resolved::{Layer, Scope, expr_under, exprs_under, full_name};
 use p4_tree::{Control, Expr, Local, Top};
 use p4_values::{Nowhere, same_text};
 use std::alloc::{AllocError, Global};
@@ -52,10 +51,10 @@ fn full_names(alloc: Global, sc: &Scope, list: &[Name]) -> Result<Vec<Name>, All
 fn default_under(
     alloc: Global,
     sc: &Scope,
-    actions: &[Action],
+    actions: &ActionTable,
     default: &Option<(Name, Vec<Expr>)>,
 ) -> Result<Chosen, AllocError>
-    ensures { IfOk result (λ c. chosen_in c ≡ default_under (scope_of sc.now) (map action_in actions.now) (option_map default_of default.now)) }
+    ensures { IfOk result (λ c. chosen_in c ≡ default_under (scope_of sc.now) (map action_in actions.now.actions.now) (option_map default_of default.now)) }
 {
     match default {
         None => Ok(Chosen {
@@ -65,7 +64,7 @@ fn default_under(
         Some(d) => {
             let action = full_name(alloc, sc, &d.0)?;
             let list = exprs_under(alloc, sc, &d.1)?;
-            let params = params_of(action_named(actions, action.as_str()));
+            let params = params_of(actions.named(action.as_str()));
             let args = words_of(alloc, params, &list, &Nowhere)?;
             Ok(Chosen { action, args })
         }
@@ -75,10 +74,10 @@ fn default_under(
 fn table_under(
     alloc: Global,
     sc: &Scope,
-    actions: &[Action],
+    actions: &ActionTable,
     t: &p4_tree::Table,
 ) -> Result<Table, AllocError>
-    ensures { IfOk result (λ u. table_in u ≡ table_under (scope_of sc.now) (map action_in actions.now) (table_of t.now)) }
+    ensures { IfOk result (λ u. table_in u ≡ table_under (scope_of sc.now) (map action_in actions.now.actions.now) (table_of t.now)) }
 {
     Ok(Table {
         name: full_name(alloc, sc, &t.name)?,
@@ -92,20 +91,21 @@ fn table_under(
 /// The tables among a control's declarations go behind those that are there.
 fn push_tables_in(
     alloc: Global,
-    sc: &mut Scope,
-    actions: &[Action],
+    top: &Layer,
+    layer: &mut Layer,
+    actions: &ActionTable,
     locals: &[Local],
     tables: &mut Vec<Table>,
 ) -> Result<(), AllocError>
-    ensures { OnOk result (map table_in tables.new.items ≡ map table_in tables.old.items ++ tables_in (scope_of sc.old) (map action_in actions.now) (map local_of locals.now)) }
+    ensures { OnOk result (map table_in tables.new.items ≡ map table_in tables.old.items ++ tables_in (at_part top.now layer.old) (map action_in actions.now.actions.now) (map local_of locals.now)) }
 {
     for local in locals {
         match local {
-            Local::Tab(_, t) => tables.push(table_under(alloc, sc, actions, t)?)?,
-            Local::Act(_, _) => pass_local(alloc, sc, local)?,
-            Local::Reg(_, _) => pass_local(alloc, sc, local)?,
-            Local::Const(_, _, _, _) => pass_local(alloc, sc, local)?,
-            Local::Var(_, _, _, _) => pass_local(alloc, sc, local)?,
+            Local::Tab(_, t) => tables.push(table_under(alloc, &layer.within(top), actions, t)?)?,
+            Local::Act(_, _) => layer.pass_local(alloc, top, local)?,
+            Local::Reg(_, _) => layer.pass_local(alloc, top, local)?,
+            Local::Const(_, _, _, _) => layer.pass_local(alloc, top, local)?,
+            Local::Var(_, _, _, _) => layer.pass_local(alloc, top, local)?,
         }
     }
     Ok(())
@@ -114,32 +114,37 @@ fn push_tables_in(
 /// The tables of a control go behind those that are there.
 fn push_tables_of(
     alloc: Global,
-    sc: &Scope,
-    actions: &[Action],
+    top: &Layer,
+    actions: &ActionTable,
     control: &Control,
     tables: &mut Vec<Table>,
 ) -> Result<(), AllocError>
-    ensures { OnOk result (map table_in tables.new.items ≡ map table_in tables.old.items ++ tables_in (in_control 0 1 2 (scope_of sc.now) (control_of control.now)) (map action_in actions.now) (control_of control.now).locals) }
+    ensures { OnOk result (map table_in tables.new.items ≡ map table_in tables.old.items ++ tables_in (in_control 0 1 2 (at_top top.now) (control_of control.now)) (map action_in actions.now.actions.now) (control_of control.now).locals) }
 {
-    let mut inner = in_control(alloc, 0, 1, 2, sc, control)?;
-    push_tables_in(alloc, &mut inner, actions, &control.locals, tables)
+    let mut layer = Layer::of_control(alloc, 0, 1, 2, control)?;
+    push_tables_in(alloc, top, &mut layer, actions, &control.locals, tables)
 }
 
 /// The tables of a program with these actions, in the order of the text.
 pub fn tables_of(alloc: Global, actions: &[Action], tops: &[Top]) -> Result<Vec<Table>, AllocError>
     ensures { IfOk result (λ v. map table_in v.items ≡ tables_of no_scope (map action_in actions.now) (map top_of tops.now)) }
 {
-    let mut sc = no_scope(alloc)?;
+    let places = action_places(alloc, actions)?;
+    let named = ActionTable {
+        actions,
+        places: &places,
+    };
+    let mut layer = Layer::outside(alloc)?;
     let mut tables = Vec::new(alloc);
     for top in tops {
         match top {
-            Top::Ctl(_, c) => push_tables_of(alloc, &sc, actions, c, &mut tables)?,
-            Top::Const(_, _, _, _) => pass_top(alloc, &mut sc, top)?,
-            Top::Typedef(_, _, _) => pass_top(alloc, &mut sc, top)?,
-            Top::Header(_, _, _) => pass_top(alloc, &mut sc, top)?,
-            Top::Struct(_, _, _) => pass_top(alloc, &mut sc, top)?,
-            Top::Reg(_, _) => pass_top(alloc, &mut sc, top)?,
-            Top::Pars(_, _) => pass_top(alloc, &mut sc, top)?,
+            Top::Ctl(_, c) => push_tables_of(alloc, &layer, &named, c, &mut tables)?,
+            Top::Const(_, _, _, _) => layer.pass_top(alloc, top)?,
+            Top::Typedef(_, _, _) => layer.pass_top(alloc, top)?,
+            Top::Header(_, _, _) => layer.pass_top(alloc, top)?,
+            Top::Struct(_, _, _) => layer.pass_top(alloc, top)?,
+            Top::Reg(_, _) => layer.pass_top(alloc, top)?,
+            Top::Pars(_, _) => layer.pass_top(alloc, top)?,
         }
     }
     Ok(tables)

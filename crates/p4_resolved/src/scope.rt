@@ -1,56 +1,27 @@
 //! What names stand for at a place of a program.
 
-ghost use Rattle.std.specs.Prelude.{◌≡◌, ◌++◌, ◌∷◌, reverse, IfOk, OnOk};
-ghost use Rattle.p4_meaning.specs.Scope.{full, full_name, first_name, root_of, is_among, is_inner, inner_name, path_under, constant_at, constant_named, type_named, type_under};
+ghost use Rattle.std.specs.Prelude.{◌≡◌, ◌++◌, IfOk, OnOk};
+ghost use Rattle.std.specs.Option.{option_map};
+ghost use Rattle.p4_meaning.specs.Scope.{full, full_name, first_name, root_of, is_inner, inner_name, path_under, constant_at, constant_named, type_named, type_under};
 ghost use Rattle.p4_meaning.specs.Under.{callee_under};
 ghost use Rattle.p4_meaning.specs.Value.{width_of};
 ghost use Rattle.p4_resolved.specs.Lent.{lent};
 ghost use Rattle.p4_resolved.specs.Scopes.{scope_of, inner_of, roots_in, type_or};
-ghost use Rattle.std.specs.Option.{option_map};
 
+use crate::layer::{Inner, Layer, Roots};
 use bit_values::Bits;
 use lex_text::Name;
 use p4_tree::PTy;
 use p4_values::{same_text, width_of};
 use std::alloc::{AllocError, Global};
 
-/// The names that a parser or control gives to the headers, the metadata and the standard metadata.
-#[derive(Drop)]
-pub struct Roots {
-    pub headers: Name,
-    pub metadata: Name,
-    pub standard: Name,
-}
-
-/// The action around a place, and all names that it declares.
-#[derive(Drop)]
-pub struct Inner {
-    pub action: Name,
-    pub names: Vec<Name>,
-}
-
-/// What names stand for. Of constants and of typedefs the last of a name counts.
-#[derive(Drop)]
-pub struct Scope {
-    pub roots: Roots,
-    /// The control around, and the names of its registers, tables and actions.
-    pub control: Name,
-    pub own: Vec<Name>,
-    pub constants: Vec<(Name, Bits)>,
-    pub types: Vec<(Name, PTy)>,
-    pub inner: Option<Inner>,
-}
-
-/// Whether a name is one of these.
-fn is_among(names: &[Name], x: &str) -> bool
-    ensures { result ≡ is_among names.now x.now }
-{
-    for name in names {
-        if same_text(name.as_str(), x) {
-            return true;
-        }
-    }
-    false
+/// What names stand for at a place: the layer of the part that is around it, with that of the program
+/// around this, or at top level the program's alone; and the action around.
+#[derive(Clone, Copy)]
+pub struct Scope<'a> {
+    pub top: Option<&'a Layer>,
+    pub layer: &'a Layer,
+    pub inner: Option<&'a Inner>,
 }
 
 /// The full name of what is declared in a control or an action.
@@ -65,31 +36,31 @@ fn full(alloc: Global, around: &Name, x: &Name) -> Result<Name, AllocError>
 pub fn full_name(alloc: Global, sc: &Scope, x: &Name) -> Result<Name, AllocError>
     ensures { IfOk result (λ n. n ≡ full_name (scope_of sc.now) x.now) }
 {
-    if is_among(&sc.own, x.as_str()) {
-        full(alloc, &sc.control, x)
+    if sc.layer.own.has(x.as_str()) {
+        full(alloc, &sc.layer.control, x)
     } else {
         x.copy(alloc)
     }
 }
 
 /// The action around declares the name.
-fn is_inner(inner: &Option<Inner>, x: &Name) -> bool
-    ensures { result ≡ is_inner (option_map inner_of inner.now) x.now }
+fn is_inner(inner: Option<&Inner>, x: &Name) -> bool
+    ensures { result ≡ is_inner (option_map inner_of (lent inner.entry)) x.now }
 {
     match inner {
         None => false,
-        Some(i) => is_among(&i.names, x.as_str()),
+        Some(i) => i.names.has(x.as_str()),
     }
 }
 
 /// The full name of what an action declares.
 fn inner_name(
     alloc: Global,
-    inner: &Option<Inner>,
+    inner: Option<&Inner>,
     control: &Name,
     x: &Name,
 ) -> Result<Name, AllocError>
-    ensures { IfOk result (λ n. n ≡ inner_name (option_map inner_of inner.now) control.now x.now) }
+    ensures { IfOk result (λ n. n ≡ inner_name (option_map inner_of (lent inner.entry)) control.now x.now) }
 {
     match inner {
         None => x.copy(alloc),
@@ -119,10 +90,10 @@ fn root_of(alloc: Global, r: &Roots, x: &Name) -> Result<Name, AllocError>
 pub fn first_name(alloc: Global, sc: &Scope, x: &Name) -> Result<Name, AllocError>
     ensures { IfOk result (λ n. n ≡ first_name (scope_of sc.now) x.now) }
 {
-    if is_inner(&sc.inner, x) {
-        inner_name(alloc, &sc.inner, &sc.control, x)
+    if is_inner(sc.inner, x) {
+        inner_name(alloc, sc.inner, &sc.layer.control, x)
     } else {
-        root_of(alloc, &sc.roots, x)
+        root_of(alloc, &sc.layer.roots, x)
     }
 }
 
@@ -179,17 +150,17 @@ pub fn callee_under(alloc: Global, sc: &Scope, path: &[Name]) -> Result<Vec<Name
     }
 }
 
-/// The word of the last constant of a name.
-fn constant_named(list: &[(Name, Bits)], x: &str) -> Option<Bits>
-    ensures { result ≡ constant_named (reverse list.now) x.now }
+/// The word of the nearest constant of a name.
+fn constant_named(sc: &Scope, x: &str) -> Option<Bits>
+    ensures { result ≡ constant_named (scope_of sc.now).constants x.now }
 {
-    let mut found = None;
-    for c in list {
-        if same_text(c.0.as_str(), x) {
-            found = Some(c.1);
-        }
+    match sc.layer.constants.find(x) {
+        Some(word) => Some(*word),
+        None => match sc.top {
+            Some(top) => top.constants.find(x).copied(),
+            None => None,
+        },
     }
-    found
 }
 
 /// The word of the constant that a path is, which no declaration of the action around hides.
@@ -200,10 +171,10 @@ pub fn constant_at(sc: &Scope, path: &[Name]) -> Option<Bits>
         [] => None,
         [x, rest @ ..] => match rest {
             [] => {
-                if is_inner(&sc.inner, x) {
+                if is_inner(sc.inner, x) {
                     None
                 } else {
-                    constant_named(&sc.constants, x.as_str())
+                    constant_named(sc, x.as_str())
                 }
             }
             [_second, _others @ ..] => None,
@@ -211,27 +182,27 @@ pub fn constant_at(sc: &Scope, path: &[Name]) -> Option<Bits>
     }
 }
 
-/// The type that the last typedef of a name stands for; `None` where there is none.
-fn type_named<'a>(list: &'a [(Name, PTy)], x: &str) -> Option<&'a PTy>
-    ensures { type_or x.now (lent result) ≡ type_named (reverse list.now) x.now }
+/// The type that the nearest typedef of a name stands for; `None` where there is none.
+fn type_named<'a>(sc: &'a Scope, x: &str) -> Option<&'a PTy>
+    ensures { type_or x.now (lent result) ≡ type_named (scope_of sc.now).types x.now }
 {
-    let mut found = None;
-    for t in list {
-        if same_text(t.0.as_str(), x) {
-            found = Some(&t.1);
-        }
+    match sc.layer.types.find(x) {
+        Some(ty) => Some(ty),
+        None => match sc.top {
+            Some(top) => top.types.find(x),
+            None => None,
+        },
     }
-    found
 }
 
 /// The type that a type stands for.
-pub fn type_under(alloc: Global, types: &[(Name, PTy)], ty: &PTy) -> Result<PTy, AllocError>
-    ensures { IfOk result (λ t. t ≡ type_under (reverse types.now) ty.now) }
+pub fn type_under(alloc: Global, sc: &Scope, ty: &PTy) -> Result<PTy, AllocError>
+    ensures { IfOk result (λ t. t ≡ type_under (scope_of sc.now).types ty.now) }
 {
     match ty {
         PTy::Bit(w) => Ok(PTy::Bit(*w)),
         PTy::Bool => Ok(PTy::Bool),
-        PTy::Named(x) => match type_named(types, x.as_str()) {
+        PTy::Named(x) => match type_named(sc, x.as_str()) {
             None => Ok(PTy::Named(x.copy(alloc)?)),
             Some(t) => t.copy(alloc),
         },
@@ -239,13 +210,13 @@ pub fn type_under(alloc: Global, types: &[(Name, PTy)], ty: &PTy) -> Result<PTy,
 }
 
 /// The bits of a value of the type that a type stands for.
-pub fn width_under(types: &[(Name, PTy)], ty: &PTy) -> u8
-    ensures { result ≡ width_of (type_under (reverse types.now) ty.now) }
+pub fn width_under(sc: &Scope, ty: &PTy) -> u8
+    ensures { result ≡ width_of (type_under (scope_of sc.now).types ty.now) }
 {
     match ty {
         PTy::Bit(w) => *w,
         PTy::Bool => 1,
-        PTy::Named(x) => match type_named(types, x.as_str()) {
+        PTy::Named(x) => match type_named(sc, x.as_str()) {
             None => 0,
             Some(t) => width_of(t),
         },

@@ -133,7 +133,7 @@ pub fn var_under(
 ) -> Result<Stmt, AllocError>
     ensures { IfOk result (λ s. stmt_of s ≡ stmt_under (scope_of sc.now) (var at ty.now name.now (option_map expr_of start.now))) }
 {
-    let ty = type_under(alloc, &sc.types, ty)?;
+    let ty = type_under(alloc, sc, ty)?;
     let name = first_name(alloc, sc, name)?;
     let start = start_under(alloc, sc, start)?;
     Ok(Stmt::Var(at, ty, name, start))

@@ -7,37 +7,48 @@ ghost use Rattle.p4_tree.specs.View.{control_of, parser_of, program_of};
 ghost use Rattle.p4_meaning.specs.Parts.{control_in, parser_in};
 ghost use Rattle.p4_packets.specs.Fields.{store_of};
 ghost use Rattle.p4_resolved.specs.Lent.{lent};
-ghost use Rattle.p4_resolved.specs.Scopes.{scope_of};
+ghost use Rattle.p4_resolved.specs.Scopes.{at_part, at_top};
+ghost use Rattle.p4_meaning.specs.Under.{no_scope};
 ghost use Rattle.packet_parse.specs.Stores.{behind_parser, consumed, deparsed, deparser_scope, parser_end, parser_scope, shown_standard, shown_valid, shown_value, store_under};
 
 use crate::fields::Fields;
 use crate::stores::{show, store_under};
 use p4_packets::{Fields as Store, Rest, parse_from, write_frame};
 use p4_parts::parts_of;
-use p4_resolved::{Scope, control_named, in_control, in_parser, named_in, no_scope, parser_named};
+use p4_resolved::{Layer, control_named, named_in, parser_named};
 use p4_tree::{Control, Parser, Program};
 use p4_types::TypedProgram;
 use std::alloc::{AllocError, Global};
 
-/// What paths stand for in a parser.
-fn parser_scope(alloc: Global, parser: Option<&Parser>) -> Result<Scope, AllocError>
-    ensures { IfOk result (λ s. scope_of s ≡ parser_scope (option_map parser_of (lent parser.entry))) }
+/// The layer of a parser, in a program where nothing is declared.
+#[tactic(auto, using(crate::proofs::Layers::outside_twice))]
+fn parser_layer(
+    alloc: Global,
+    top: &Layer,
+    parser: Option<&Parser>,
+) -> Result<Box<Layer>, AllocError>
+    requires { at_top top.now ≡ no_scope }
+    ensures { IfOk result (λ l. at_part top.now l.value ≡ parser_scope (option_map parser_of (lent parser.entry))) }
 {
-    let sc = no_scope(alloc)?;
     match parser {
-        None => Ok(sc),
-        Some(parser) => in_parser(alloc, &sc, parser),
+        None => Layer::outside(alloc),
+        Some(parser) => Layer::of_parser(alloc, top, parser),
     }
 }
 
-/// What paths stand for in a deparser.
-fn deparser_scope(alloc: Global, deparser: Option<&Control>) -> Result<Scope, AllocError>
-    ensures { IfOk result (λ s. scope_of s ≡ deparser_scope (option_map control_of (lent deparser.entry))) }
+/// The layer of a deparser, in a program where nothing is declared.
+#[tactic(auto, using(crate::proofs::Layers::outside_twice))]
+fn deparser_layer(
+    alloc: Global,
+    top: &Layer,
+    deparser: Option<&Control>,
+) -> Result<Box<Layer>, AllocError>
+    requires { at_top top.now ≡ no_scope }
+    ensures { IfOk result (λ l. at_part top.now l.value ≡ deparser_scope (option_map control_of (lent deparser.entry))) }
 {
-    let sc = no_scope(alloc)?;
     match deparser {
-        None => Ok(sc),
-        Some(deparser) => in_control(alloc, 1, 9, 9, &sc, deparser),
+        None => Layer::outside(alloc),
+        Some(deparser) => Layer::of_control(alloc, 1, 9, 9, deparser),
     }
 }
 
@@ -69,11 +80,12 @@ fn run_on(alloc: Global, p: &Program, s: &mut Fields, frame: &[u8]) -> Result<us
     ensures standard { OnOk result (s.new.std
         ≡ shown_standard (behind_parser (program_of p.now) s.old frame.now)) }
 {
-    let sc = parser_scope(alloc, parser_in(p))?;
+    let top = Layer::outside(alloc)?;
+    let layer = parser_layer(alloc, &top, parser_in(p))?;
     let parts = parts_of(alloc, p)?;
-    let mut store = store_under(alloc, &sc, s)?;
+    let mut store = store_under(alloc, &layer.within(&top), s)?;
     let at = parse_from(alloc, &parts, frame, &mut store)?;
-    show(alloc, &sc, &store, s)?;
+    show(alloc, &layer.within(&top), &store, s)?;
     Ok(at)
 }
 
@@ -108,8 +120,9 @@ fn deparser_store(alloc: Global, p: &Program, s: &Fields) -> Result<Store, Alloc
     ensures { IfOk result (λ t. store_of t
         ≡ store_under (deparser_scope (control_in (program_of p.now) 5)) s.now) }
 {
-    let sc = deparser_scope(alloc, deparser_in(p))?;
-    let store = store_under(alloc, &sc, s)?;
+    let top = Layer::outside(alloc)?;
+    let layer = deparser_layer(alloc, &top, deparser_in(p))?;
+    let store = store_under(alloc, &layer.within(&top), s)?;
     Ok(store)
 }
 

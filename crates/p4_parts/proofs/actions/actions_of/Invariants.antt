@@ -3,8 +3,8 @@ use Rattle.p4_tree.specs.View.{top_of}
 use Rattle.p4_meaning.specs.Actions.{actions_of}
 use Rattle.p4_meaning.specs.Under.{no_scope}
 use Rattle.p4_parts.specs.PartsIn.{action_in}
-use Rattle.p4_resolved.specs.Scopes.{scope_of}
+use Rattle.p4_resolved.specs.Scopes.{at_top}
 use Rattle.p4_parts.proofs.actions.actions_of.Given as goal
 
 abbrev pub invariant-loop-top : goal.invariant-loop-top
-invariant-loop-top l = map action_in l.actions.items ++ actions_of (scope_of l.sc) (map top_of (drop l.top-index l.tops)) ≡ actions_of no_scope (map top_of l.tops)
+invariant-loop-top l = map action_in l.actions.items ++ actions_of (at_top l.layer.value) (map top_of (drop l.top-index l.tops)) ≡ actions_of no_scope (map top_of l.tops)

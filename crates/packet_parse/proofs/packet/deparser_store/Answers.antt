@@ -5,4 +5,4 @@ use Rattle.packet_parse.proofs.packet.deparser_store.Goals as goal
 
 pub returns : goal.returns
 returns c =
-    c.in_ok-store.ensures ∙ ap (λ (d : Scope). store_under d c.args.s.now) (c.in_ok-sc.ensures ∙ ap deparser_scope c.deparser_in.ensures)
+    c.in_ok-store.ensures ∙ ap (λ (d : Scope). store_under d c.args.s.now) (c.in_ok-layer.ensures ∙ ap deparser_scope c.deparser_in.ensures)

@@ -1,0 +1,8 @@
+use Rattle.std.proofs.Common.{◌≡◌, map, drop}
+use Rattle.p4_tree.specs.View.{top_of}
+use Rattle.p4_meaning.specs.Under.{behind_tops, no_scope}
+use Rattle.p4_resolved.specs.Scopes.{at_top}
+use Rattle.p4_parts.proofs.bodies.layer_behind.Given as goal
+
+abbrev pub invariant-loop-top : goal.invariant-loop-top
+invariant-loop-top l = behind_tops (at_top l.layer.value) (map top_of (drop l.top-index l.tops)) ≡ behind_tops no_scope (map top_of l.tops)

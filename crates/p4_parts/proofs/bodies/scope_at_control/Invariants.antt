@@ -1,9 +1,0 @@
-use Rattle.std.proofs.Common.{◌≡◌, map, drop}
-use Rattle.p4_tree.specs.View.{top_of}
-use Rattle.p4_meaning.specs.Parts.{scope_at_control}
-use Rattle.p4_meaning.specs.Under.{no_scope}
-use Rattle.p4_resolved.specs.Scopes.{scope_of}
-use Rattle.p4_parts.proofs.bodies.scope_at_control.Given as goal
-
-abbrev pub invariant-loop-top : goal.invariant-loop-top
-invariant-loop-top l = scope_at_control (scope_of l.sc) (map top_of (drop l.top-index l.tops)) l.name ≡ scope_at_control no_scope (map top_of l.tops) l.name

@@ -1,8 +1,0 @@
-use Rattle.std.proofs.Common.{◌≡◌, map, drop}
-use Rattle.p4_tree.specs.View.{top_of}
-use Rattle.p4_meaning.specs.Under.{behind_tops, no_scope}
-use Rattle.p4_resolved.specs.Scopes.{scope_of}
-use Rattle.p4_parts.proofs.bodies.scope_behind.Given as goal
-
-abbrev pub invariant-loop-top : goal.invariant-loop-top
-invariant-loop-top l = behind_tops (scope_of l.sc) (map top_of (drop l.top-index l.tops)) ≡ behind_tops no_scope (map top_of l.tops)
