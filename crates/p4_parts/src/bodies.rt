@@ -2,7 +2,7 @@
 
 ghost use Rattle.std.specs.Prelude.{◌≡◌, Some, IfOk, OnOk, map};
 ghost use Rattle.std.specs.Option.{option_map};
-ghost use Rattle.p4_tree.specs.View.{control_of, local_of, parser_of, program_of, state_of, stmt_of, stmts_of, top_of};
+ghost use Rattle.p4_tree.specs.View.{control_of, local_of, parser_of, program_of, state_of, stmt_of, top_of};
 ghost use Rattle.p4_meaning.specs.Parts as meaning;
 ghost use Rattle.p4_meaning.specs.Parts.{body_of, parser_in, parser_type, scope_at_control, scope_at_parser, states_in, states_of};
 ghost use Rattle.p4_meaning.specs.Under.{behind_locals, behind_tops, no_scope};

@@ -1,6 +1,6 @@
 //! Headers, metadata and registers of a program.
 
-ghost use Rattle.std.specs.Prelude.{◌≡◌, ◌++◌, ◌∷◌, [], IfOk, OnOk, map};
+ghost use Rattle.std.specs.Prelude.{◌≡◌, ◌++◌, IfOk, OnOk, map};
 ghost use Rattle.p4_tree.specs.View.{control_of, local_of, top_of};
 ghost use Rattle.p4_meaning.specs.Parts.{field_of, cells_under, registers_in, registers_of};
 ghost use Rattle.p4_meaning.specs.Under.{in_control, no_scope};

@@ -1,7 +1,6 @@
 -- The words of constants by a table are those of the scope.
 use Rattle.std.proofs.Common.{◌≡◌, ℕ, ◌+◌, ◌<◌, take, length, get_or, Bool, true, false, cond, List, [], ◌∷◌, ◌++◌, map, Option, Some, None, String, Global, string_bytes, refl, sym, ap, ◌∙◌}
 use Rattle.std.specs.Str.{bytes_eq}
-use Rattle.std.proofs.lemmas.Slice.Eq.{bytes_eq-Decides}
 use Rattle.indexmap.specs.IndexMap.{insert_entry}
 use Rattle.bit_values.specs.Bits.{Word, word}
 use Rattle.bit_values.specs.Widths.{sound_width, cast_word}
@@ -21,36 +20,8 @@ use Rattle.p4_types.specs.Kept.{at_name}
 use Rattle.p4_types.specs.Words.{constants_store, or_none, width_in, IsBehind}
 use Rattle.p4_types.specs.declared.constants.Known.{Known}
 use Rattle.p4_types.proofs.Alike.{each_read, value_alike}
-use Rattle.p4_types.proofs.Numbered.{flip, map_more}
-
-abbrev same_keys : String Global → String Global → Bool
-same_keys a b = bytes_eq (string_bytes a) (string_bytes b)
-
--- one entry that is new or replaced
-set_entry : {V : Type 0} (es : List (String Global × V)) (k : String Global) (v : V) (x : List ℕ) → at_name (insert_entry same_keys es k v) x ≡ cond (bytes_eq x (string_bytes k)) (Some v) (at_name es x)
-set_entry [] k v x = refl
-set_entry (e ∷ es) k v x = by (same_keys k e.0) refl (bytes_eq x (string_bytes e.0)) refl (bytes_eq x (string_bytes k)) refl (set_entry es k v x)
-  where
-    by : (b : Bool) → same_keys k e.0 ≡ b → (c : Bool) → bytes_eq x (string_bytes e.0) ≡ c → (d : Bool) → bytes_eq x (string_bytes k) ≡ d
-        → at_name (insert_entry same_keys es k v) x ≡ cond (bytes_eq x (string_bytes k)) (Some v) (at_name es x)
-        → at_name (cond b ((e.0, v) ∷ es) (e ∷ insert_entry same_keys es k v)) x ≡ cond (bytes_eq x (string_bytes k)) (Some v) (cond (bytes_eq x (string_bytes e.0)) (Some e.1) (at_name es x))
-    by true p c q d r ih =
-        let same : bytes_eq x (string_bytes e.0) ≡ bytes_eq x (string_bytes k) = ap (bytes_eq x) (sym ((bytes_eq-Decides (string_bytes k) (string_bytes e.0)).0 p)) in
-        ap (λ (b : Bool). cond b (Some v) (at_name es x)) same ∙ either (bytes_eq x (string_bytes k)) (bytes_eq x (string_bytes e.0)) same
-      where
-        either : (f g : Bool) → g ≡ f → cond f (Some v) (at_name es x) ≡ cond f (Some v) (cond g (Some e.1) (at_name es x))
-        either true g h = refl
-        either false g h = sym (ap (λ (b : Bool). cond b (Some e.1) (at_name es x)) h)
-    by false p true q true r ih =
-        let k_is : x ≡ string_bytes k = (bytes_eq-Decides x (string_bytes k)).0 r in
-        let e_is : x ≡ string_bytes e.0 = (bytes_eq-Decides x (string_bytes e.0)).0 q in
-        absurd (let c : true ≡ false = sym ((bytes_eq-Decides (string_bytes k) (string_bytes e.0)).1 (sym k_is ∙ e_is)) ∙ p in cc)
-    by false p true q false r ih =
-        ap (λ (b : Bool). cond b (Some e.1) (at_name (insert_entry same_keys es k v) x)) q
-        ∙ sym (ap (λ (b : Bool). cond b (Some v) (cond (bytes_eq x (string_bytes e.0)) (Some e.1) (at_name es x))) r ∙ ap (λ (b : Bool). cond b (Some e.1) (at_name es x)) q)
-    by false p false q d r ih =
-        ap (λ (b : Bool). cond b (Some e.1) (at_name (insert_entry same_keys es k v) x)) q ∙ ih
-        ∙ sym (ap (λ (b : Bool). cond (bytes_eq x (string_bytes k)) (Some v) (cond b (Some e.1) (at_name es x))) q)
+use Rattle.p4_resolved.proofs.Rows.{same_keys, set_entry, flip}
+use Rattle.p4_types.proofs.Numbered.{map_more}
 
 -- the bits of a type's values
 type_width : (k : Known) (sc : Scope) → IsBehind k sc → (t : PTy) → width_in k.widths.entries t ≡ width_of (type_under sc.types t)

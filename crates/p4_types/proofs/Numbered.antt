@@ -13,6 +13,7 @@ use Rattle.p4_tree.specs.View.{local_of, top_of}
 use Rattle.p4_tree.specs.declared.program.Local as code_local
 use Rattle.p4_tree.specs.declared.program.Top as code_top
 use Rattle.p4_types.specs.Numbers.{Sort, dotted, number_from, number_in, local_name, all_dotted, locals_names, top_names, tops_names}
+pub use Rattle.p4_resolved.proofs.Rows.{flip, same_keys}
 use Rattle.p4_types.specs.Kept.{at_name, behind, at_rest, number_in_group, fronted, Gains, IsGroup, lesser, least, IsNumbering}
 use Rattle.p4_types.specs.declared.numbers.Group.{Group}
 use Rattle.p4_types.specs.declared.numbers.Numbering.{Numbering}
@@ -38,22 +39,9 @@ entry_more (e ∷ es) k v x = step (bytes_eq x (string_bytes e.0)) (entry_more e
     step true h = refl
     step false h = h
 
-pub flip : (x y : List ℕ) → bytes_eq x y ≡ same_text y x
-flip x y = by (bytes_eq x y) refl (same_text y x) refl
-  where
-    by : (a : Bool) → bytes_eq x y ≡ a → (b : Bool) → same_text y x ≡ b → bytes_eq x y ≡ same_text y x
-    by true e true f = e ∙ sym f
-    by false e false f = e ∙ sym f
-    by true e false f = absurd (let c : true ≡ false = sym ((bytes_eq-Decides y x).1 (sym ((bytes_eq-Decides x y).0 e))) ∙ f in cc)
-    by false e true f = absurd (let c : true ≡ false = sym ((bytes_eq-Decides x y).1 (sym ((bytes_eq-Decides y x).0 f))) ∙ e in cc)
-
 pub no_one : (o : Option ℕ) → is_some o ≡ false → o ≡ None
 no_one None h = refl
 no_one (Some n) h = absurd (let c : true ≡ false = h in cc)
-
--- two keys have one text
-abbrev pub same_keys : String Global → String Global → Bool
-same_keys a b = bytes_eq (string_bytes a) (string_bytes b)
 
 -- ---- what stands behind a front
 

@@ -1,10 +1,9 @@
 -- What the tables of numbers hold. Read `Numbers` before it.
 use Rattle.std.specs.Prelude.{◌≡◌, ℕ, ◌+◌, nat_eq, min, List, [], ◌∷◌, ◌++◌, length, Option, Some, None, String, string_bytes, if◌then◌else◌}
 use Rattle.std.specs.Option.{option_or}
-use Rattle.std.specs.Map.{lookup}
-use Rattle.std.specs.Str.{bytes_eq}
 use Rattle.std.specs.Borrow.{Bor}
 use Rattle.std.specs.declared.alloc.Global.{Global}
+pub use Rattle.p4_resolved.specs.Rows.{at_name}
 use Rattle.p4_types.specs.Numbers.{Sort, tables, registers, actions, dotted, number_from, number_in}
 use Rattle.p4_types.specs.declared.numbers.Sort as code
 use Rattle.p4_types.specs.declared.numbers.Sort.TheVariants as sort
@@ -20,10 +19,6 @@ sort_of sort.Actions = actions
 abbrev pub as_list : Option (Bor (List ℕ)) → List (List ℕ)
 as_list None = []
 as_list (Some x) = x.now ∷ []
-
--- what a table has at a name
-abbrev pub at_name : {V : Type 0} → List (String Global × V) → List ℕ → Option V
-at_name es x = lookup (λ k. bytes_eq x (string_bytes k)) es
 
 -- what stands behind a front, where the text begins with it
 abbrev pub behind : (front x : List ℕ) → Option (List ℕ)

@@ -3,7 +3,7 @@ use Rattle.p4_tree.specs.View.{stmts_of}
 use Rattle.p4_tree.specs.declared.statement.PTy.{PTy}
 use Rattle.p4_meaning.specs.Scope.{Scope, full_name}
 use Rattle.p4_meaning.specs.Under.{stmts_under}
-use Rattle.p4_meaning.specs.Actions.{Action, Param, param_under}
+use Rattle.p4_meaning.specs.Actions.{param_under}
 use Rattle.p4_resolved.specs.Scopes.{at_part, inner_of}
 use Rattle.p4_resolved.specs.declared.layer.Inner.{Inner}
 use Rattle.p4_parts.proofs.ActionsLemmas.{action_is}

@@ -1,4 +1,4 @@
-use Rattle.std.proofs.Common.{sym, ap, ◌∙◌}
+use Rattle.std.proofs.Common.{◌∙◌}
 use Rattle.p4_parts.proofs.Placed.{tells_again, tells_more}
 use Rattle.p4_parts.proofs.places.add_place.Goals as goal
 

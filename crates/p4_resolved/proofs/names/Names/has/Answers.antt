@@ -1,4 +1,4 @@
-use Rattle.std.proofs.Common.{ℕ, List, Bor, Option, Some, None, is_some, ◌≡◌, refl, ap, ◌∙◌}
+use Rattle.std.proofs.Common.{Bor, Option, Some, None, is_some, ◌≡◌, refl, ap, ◌∙◌}
 use Rattle.p4_resolved.specs.Lent.{lent}
 use Rattle.p4_resolved.proofs.Rows.{among}
 use Rattle.p4_resolved.proofs.names.Names.has.Goals as goal
