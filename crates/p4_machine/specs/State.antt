@@ -12,4 +12,4 @@ pub record State : Type 0 where
   pub registers : List (List ℕ × List Word)
 
 abbrev pub state_of : Inside → State
-state_of s = record { program = s.program; tables = s.tables; registers = s.registers.items }
+state_of s = record { program = s.program; tables = s.tables; registers = s.registers }

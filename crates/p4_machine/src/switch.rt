@@ -21,11 +21,9 @@ use crate::needs::{Needs, needs_of};
 use crate::pass::{Entered, Pass, Passed};
 use crate::queued::Queued;
 use bit_values::Bits;
-use lex_text::Name;
 use p4_parts::{Cells as Declared, Parts, parts_of};
 use p4_passages::{Gone, Waiting, enter, leave, start_cells};
-use p4_registers::Cells;
-use p4_statements::read_cell;
+use p4_statements::Registers;
 use p4_tables::{Entry, TableState};
 use p4_types::TypedProgram;
 use std::alloc::{AllocError, Global};
@@ -37,7 +35,7 @@ use std::mem;
 pub struct Switch {
     program: TypedProgram,
     parts: Parts,
-    registers: Vec<(Name, Cells)>,
+    registers: Registers,
     tables: TableState,
     needs: Needs,
 }
@@ -109,19 +107,19 @@ fn go_in(
     alloc: Global,
     p: &Parts,
     tables: &TableState,
-    registers: &mut Vec<(Name, Cells)>,
+    registers: &mut Registers,
     port: u16,
     frame: &[u8],
     buf: &mut FrameBuf,
 ) -> Result<Option<Waiting>, AllocError>
     requires fits { fits_in (parts_in p.now).tables (shapes tables.now) ≡ true }
     requires short { length frame.now ≤ 65791 }
-    ensures registers { OnOk result (cells_in registers.new.items ≡ (parts_enter (parts_in p.now)
-        (tables_in (parts_in p.now) tables.now) (cells_in registers.old.items) port frame.now).registers) }
+    ensures registers { OnOk result (cells_in registers.new ≡ (parts_enter (parts_in p.now)
+        (tables_in (parts_in p.now) tables.now) (cells_in registers.old) port frame.now).registers) }
     ensures digests { OnOk result (buf.new.digests ≡ buf.old.digests ++ (parts_enter (parts_in p.now)
-        (tables_in (parts_in p.now) tables.now) (cells_in registers.old.items) port frame.now).digests) }
+        (tables_in (parts_in p.now) tables.now) (cells_in registers.old) port frame.now).digests) }
     ensures queued { IfOk result (λ q. option_map waiting_of q ≡ (parts_enter (parts_in p.now)
-        (tables_in (parts_in p.now) tables.now) (cells_in registers.old.items) port frame.now).queued) }
+        (tables_in (parts_in p.now) tables.now) (cells_in registers.old) port frame.now).queued) }
     ensures frame { buf.new.frame ≡ buf.old.frame }
     ensures needs { buf.new.needs ≡ buf.old.needs }
 {
@@ -134,18 +132,18 @@ fn go_out(
     alloc: Global,
     p: &Parts,
     tables: &TableState,
-    registers: &mut Vec<(Name, Cells)>,
+    registers: &mut Registers,
     waiting: Option<Waiting>,
     buf: &mut FrameBuf,
 ) -> Result<Passed, AllocError>
     requires fits { fits_in (parts_in p.now).tables (shapes tables.now) ≡ true }
     requires empty { buf.old.frame ≡ [] }
-    ensures registers { OnOk result (cells_in registers.new.items ≡ (exit_from (parts_in p.now) (tables_in
-        (parts_in p.now) tables.now) (cells_in registers.old.items) buf.old.digests (option_map waiting_of waiting)).registers) }
+    ensures registers { OnOk result (cells_in registers.new ≡ (exit_from (parts_in p.now) (tables_in
+        (parts_in p.now) tables.now) (cells_in registers.old) buf.old.digests (option_map waiting_of waiting)).registers) }
     ensures out { IfOk result (λ x. goes_out x buf.new.frame ≡ (exit_from (parts_in p.now) (tables_in
-        (parts_in p.now) tables.now) (cells_in registers.old.items) buf.old.digests (option_map waiting_of waiting)).out) }
+        (parts_in p.now) tables.now) (cells_in registers.old) buf.old.digests (option_map waiting_of waiting)).out) }
     ensures digests { OnOk result (buf.new.digests ≡ (exit_from (parts_in p.now) (tables_in
-        (parts_in p.now) tables.now) (cells_in registers.old.items) buf.old.digests (option_map waiting_of waiting)).digests) }
+        (parts_in p.now) tables.now) (cells_in registers.old) buf.old.digests (option_map waiting_of waiting)).digests) }
     ensures dropped { IfOk result (λ x. x ≡ passed.Dropped → buf.new.frame ≡ []) }
     ensures needs { buf.new.needs ≡ buf.old.needs }
 {
@@ -295,10 +293,7 @@ impl Pass for Switch {
     }
 
     fn cell(&self, register: u32, index: u32) -> Bits {
-        read_cell(
-            &self.registers,
-            register_name(&self.parts.registers, register),
-            u128::from(index),
-        )
+        let name = register_name(&self.parts.registers, register);
+        self.registers.read(name, u128::from(index))
     }
 }

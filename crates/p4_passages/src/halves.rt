@@ -9,21 +9,19 @@ ghost use Rattle.p4_packets.specs.Fields.{store_of};
 ghost use Rattle.p4_statements.specs.Runs.{run_of, cells_in, digest_of};
 ghost use Rattle.p4_passages.specs.Halves.{ingress_run, egress_run, computed};
 
-use lex_text::Name;
 use p4_packets::{Fields, number, standard_value};
 use p4_parts::Parts;
-use p4_registers::Cells;
-use p4_statements::{Digest, Held, NoCalls, Run, Tables, run_body};
+use p4_statements::{Digest, Held, NoCalls, Registers, Run, Tables, run_body};
 use std::alloc::{AllocError, Global};
 use std::mem;
 
 /// A run that begins. It takes the registers, which come back at its end.
-fn run_from(alloc: Global, fields: Fields, registers: &mut Vec<(Name, Cells)>) -> Run
-    ensures { run_of result ≡ run_from (store_of fields) (cells_in registers.old.items) }
+fn run_from(alloc: Global, fields: Fields, registers: &mut Registers) -> Run
+    ensures { run_of result ≡ run_from (store_of fields) (cells_in registers.old) }
 {
     Run {
         fields,
-        registers: mem::replace(registers, Vec::new(alloc)),
+        registers: mem::replace(registers, Registers::none(alloc)),
         digests: Vec::new(alloc),
     }
 }
@@ -71,13 +69,13 @@ pub(crate) fn ingress<T: Tables>(
     p: &Parts,
     tables: &T,
     fields: Fields,
-    registers: &mut Vec<(Name, Cells)>,
+    registers: &mut Registers,
     told: &mut Vec<Digest>,
 ) -> Result<Fields, AllocError>
     requires { T.fits tables.now (parts_in p.now) ≡ true }
-    ensures store { IfOk result (λ s. store_of s ≡ (ingress_run (parts_in p.now) (T.held tables.now (parts_in p.now)) (store_of fields) (cells_in registers.old.items)).store) }
-    ensures cells { OnOk result (cells_in registers.new.items ≡ (ingress_run (parts_in p.now) (T.held tables.now (parts_in p.now)) (store_of fields) (cells_in registers.old.items)).cells) }
-    ensures told { OnOk result (map digest_of told.new.items ≡ map digest_of told.old.items ++ (ingress_run (parts_in p.now) (T.held tables.now (parts_in p.now)) (store_of fields) (cells_in registers.old.items)).digests) }
+    ensures store { IfOk result (λ s. store_of s ≡ (ingress_run (parts_in p.now) (T.held tables.now (parts_in p.now)) (store_of fields) (cells_in registers.old)).store) }
+    ensures cells { OnOk result (cells_in registers.new ≡ (ingress_run (parts_in p.now) (T.held tables.now (parts_in p.now)) (store_of fields) (cells_in registers.old)).cells) }
+    ensures told { OnOk result (map digest_of told.new.items ≡ map digest_of told.old.items ++ (ingress_run (parts_in p.now) (T.held tables.now (parts_in p.now)) (store_of fields) (cells_in registers.old)).digests) }
 {
     let mut r = run_from(alloc, fields, registers);
     let ran = run_ingress(alloc, p, tables, &mut r);
@@ -98,13 +96,13 @@ pub(crate) fn egress<T: Tables>(
     p: &Parts,
     tables: &T,
     fields: Fields,
-    registers: &mut Vec<(Name, Cells)>,
+    registers: &mut Registers,
     told: &mut Vec<Digest>,
 ) -> Result<Fields, AllocError>
     requires { T.fits tables.now (parts_in p.now) ≡ true }
-    ensures store { IfOk result (λ s. store_of s ≡ (egress_run (parts_in p.now) (T.held tables.now (parts_in p.now)) (store_of fields) (cells_in registers.old.items)).store) }
-    ensures cells { OnOk result (cells_in registers.new.items ≡ (egress_run (parts_in p.now) (T.held tables.now (parts_in p.now)) (store_of fields) (cells_in registers.old.items)).cells) }
-    ensures told { OnOk result (map digest_of told.new.items ≡ map digest_of told.old.items ++ (egress_run (parts_in p.now) (T.held tables.now (parts_in p.now)) (store_of fields) (cells_in registers.old.items)).digests) }
+    ensures store { IfOk result (λ s. store_of s ≡ (egress_run (parts_in p.now) (T.held tables.now (parts_in p.now)) (store_of fields) (cells_in registers.old)).store) }
+    ensures cells { OnOk result (cells_in registers.new ≡ (egress_run (parts_in p.now) (T.held tables.now (parts_in p.now)) (store_of fields) (cells_in registers.old)).cells) }
+    ensures told { OnOk result (map digest_of told.new.items ≡ map digest_of told.old.items ++ (egress_run (parts_in p.now) (T.held tables.now (parts_in p.now)) (store_of fields) (cells_in registers.old)).digests) }
 {
     let mut r = run_from(alloc, fields, registers);
     let ran = run_egress(alloc, p, tables, &mut r);

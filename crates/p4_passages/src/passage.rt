@@ -13,11 +13,9 @@ use crate::gone::Gone;
 use crate::halves::{computed, egress, ingress, is_dropped};
 use crate::waiting::{Waiting, queue, taken};
 use bit_values::Bits;
-use lex_text::Name;
 use p4_packets::{parse_frame, standard_value, write_frame};
 use p4_parts::Parts;
-use p4_registers::Cells;
-use p4_statements::{Digest, Tables};
+use p4_statements::{Digest, Registers, Tables};
 use std::alloc::{AllocError, Global};
 
 /// A frame enters by a port: parser, verify checksum and ingress. `None` says that the packet is
@@ -28,16 +26,16 @@ pub fn enter<T: Tables>(
     alloc: Global,
     p: &Parts,
     tables: &T,
-    registers: &mut Vec<(Name, Cells)>,
+    registers: &mut Registers,
     port: u16,
     frame: &[u8],
     told: &mut Vec<Digest>,
 ) -> Result<Option<Waiting>, AllocError>
     requires fits { T.fits tables.now (parts_in p.now) ≡ true }
     requires short { length frame.now ≤ 65791 }
-    ensures registers { OnOk result (cells_in registers.new.items ≡ (parts_enter (parts_in p.now) (T.held tables.now (parts_in p.now)) (cells_in registers.old.items) port frame.now).registers) }
-    ensures told { OnOk result (map digest_of told.new.items ≡ map digest_of told.old.items ++ (parts_enter (parts_in p.now) (T.held tables.now (parts_in p.now)) (cells_in registers.old.items) port frame.now).digests) }
-    ensures queued { IfOk result (λ q. option_map waiting_of q ≡ (parts_enter (parts_in p.now) (T.held tables.now (parts_in p.now)) (cells_in registers.old.items) port frame.now).queued) }
+    ensures registers { OnOk result (cells_in registers.new ≡ (parts_enter (parts_in p.now) (T.held tables.now (parts_in p.now)) (cells_in registers.old) port frame.now).registers) }
+    ensures told { OnOk result (map digest_of told.new.items ≡ map digest_of told.old.items ++ (parts_enter (parts_in p.now) (T.held tables.now (parts_in p.now)) (cells_in registers.old) port frame.now).digests) }
+    ensures queued { IfOk result (λ q. option_map waiting_of q ≡ (parts_enter (parts_in p.now) (T.held tables.now (parts_in p.now)) (cells_in registers.old) port frame.now).queued) }
 {
     let (fields, at) = parse_frame(alloc, p, port, frame)?;
     let fields = ingress(alloc, p, tables, fields, registers, told)?;
@@ -53,14 +51,14 @@ pub fn leave<T: Tables>(
     alloc: Global,
     p: &Parts,
     tables: &T,
-    registers: &mut Vec<(Name, Cells)>,
+    registers: &mut Registers,
     waiting: Waiting,
     told: &mut Vec<Digest>,
 ) -> Result<Gone, AllocError>
     requires { T.fits tables.now (parts_in p.now) ≡ true }
-    ensures registers { OnOk result (cells_in registers.new.items ≡ (parts_leave (parts_in p.now) (T.held tables.now (parts_in p.now)) (cells_in registers.old.items) (waiting_of waiting)).registers) }
-    ensures told { OnOk result (map digest_of told.new.items ≡ map digest_of told.old.items ++ (parts_leave (parts_in p.now) (T.held tables.now (parts_in p.now)) (cells_in registers.old.items) (waiting_of waiting)).digests) }
-    ensures gone { IfOk result (λ x. gone_of x ≡ goes_to (parts_leave (parts_in p.now) (T.held tables.now (parts_in p.now)) (cells_in registers.old.items) (waiting_of waiting)).going) }
+    ensures registers { OnOk result (cells_in registers.new ≡ (parts_leave (parts_in p.now) (T.held tables.now (parts_in p.now)) (cells_in registers.old) (waiting_of waiting)).registers) }
+    ensures told { OnOk result (map digest_of told.new.items ≡ map digest_of told.old.items ++ (parts_leave (parts_in p.now) (T.held tables.now (parts_in p.now)) (cells_in registers.old) (waiting_of waiting)).digests) }
+    ensures gone { IfOk result (λ x. gone_of x ≡ goes_to (parts_leave (parts_in p.now) (T.held tables.now (parts_in p.now)) (cells_in registers.old) (waiting_of waiting)).going) }
 {
     let (fields, rest) = taken(waiting);
     let left = egress(alloc, p, tables, fields, registers, told)?;

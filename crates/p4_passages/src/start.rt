@@ -7,9 +7,9 @@ ghost use Rattle.p4_parts.specs.PartsIn.{cells_decl};
 ghost use Rattle.p4_statements.specs.Runs.{cells_in};
 
 use bit_values::sound_width;
-use lex_text::Name;
 use p4_parts::Cells as Declared;
 use p4_registers::Cells;
+use p4_statements::Registers;
 use std::alloc::{AllocError, Global};
 
 /// The cells of a register at the start. No memory holds as many as 32 bits don't count.
@@ -23,13 +23,13 @@ fn cells_before(alloc: Global, declared: &Declared) -> Result<Cells, AllocError>
 }
 
 /// The registers at the start.
-pub fn start_cells(alloc: Global, list: &[Declared]) -> Result<Vec<(Name, Cells)>, AllocError>
-    ensures { IfOk result (λ v. cells_in v.items ≡ start_cells (map cells_decl list.now)) }
+pub fn start_cells(alloc: Global, list: &[Declared]) -> Result<Registers, AllocError>
+    ensures { IfOk result (λ v. cells_in v ≡ start_cells (map cells_decl list.now)) }
 {
-    let mut registers = Vec::new(alloc);
+    let mut rows = Vec::new(alloc);
     for declared in list {
         let cells = cells_before(alloc, declared)?;
-        registers.push((declared.name.copy(alloc)?, cells))?;
+        rows.push((declared.name.copy(alloc)?, cells))?;
     }
-    Ok(registers)
+    Registers::of(alloc, rows)
 }

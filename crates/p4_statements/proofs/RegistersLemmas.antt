@@ -1,11 +1,12 @@
 -- Registers, of which one has other cells.
-use Rattle.std.proofs.Common.{◌≡◌, ℕ, suc, ◌<◌, ◌≤◌, length, get_or, arith, List, [], ◌∷◌, Bool, true, false, cond, refl, sym, ap, ◌∙◌, Decides}
+use Rattle.std.proofs.Common.{◌≡◌, ℕ, zero, suc, ◌<◌, ◌≤◌, length, get_or, arith, List, [], ◌∷◌, Bool, true, false, cond, Option, Some, None, option_map, refl, sym, ap, ◌∙◌, Decides}
 use Rattle.std.proofs.lemmas.Slice.Eq.{bytes_eq-Decides}
 use Rattle.std.specs.Prelude.{slice_set}
 use Rattle.bit_values.specs.Bits.{Word}
 use Rattle.lex_text.specs.Names.{same_text}
 use Rattle.p4_meaning.specs.Statements.{put_cells, cell_set}
-use Rattle.p4_statements.specs.Runs.{Rows, cells_in, place_in}
+use Rattle.p4_parts.specs.Places.{first_in}
+use Rattle.p4_statements.specs.Runs.{Rows, names_in, cells_in, place_in}
 
 pub text_decides : (x y : List ℕ) → Decides (same_text x y) (x ≡ y)
 text_decides x y = bytes_eq-Decides x y
@@ -77,3 +78,24 @@ cells_written es x d r n i v at lt key is =
     let key' : r.0 ≡ (get_or es (place_in es x) d).0 = key ∙ ap (λ m. (get_or es m d).0) at in
     let is' : r.1 ≡ cell_set (cells_in es x) i v = is ∙ ap (λ m. cell_set (get_or es m d).1 i v) at ∙ ap (λ l. cell_set l i v) (sym (cells_found es x d lt')) in
     ap (λ m. cells_in (slice_set es m r)) at ∙ (λ j y. written_at es x y d r (cell_set (cells_in es x) i v) lt' key' is' j)
+
+-- ---- places by a table
+
+abbrev pub place_or : ℕ → Option ℕ → ℕ
+place_or n None = n
+place_or n (Some i) = i
+
+pub placed : (es : Rows) (x : List ℕ) → place_in es x ≡ place_or (length es) (first_in (names_in es) x)
+placed [] x = refl
+placed (e ∷ es) x = by (same_text e.0 x) (first_in (names_in es) x) (placed es x)
+  where
+    by : (b : Bool) (o : Option ℕ) → place_in es x ≡ place_or (length es) o → cond b 0 (suc (place_in es x)) ≡ place_or (suc (length es)) (cond b (Some 0) (option_map suc o))
+    by true o rest = refl
+    by false None rest = ap suc rest
+    by false (Some n) rest = ap suc rest
+
+-- other cells leave the names as they are
+pub names_kept : (es : Rows) (n : ℕ) (d r : List ℕ × List Word) → n < length es → r.0 ≡ (get_or es n d).0 → names_in (slice_set es n r) ≡ names_in es
+names_kept [] n d r lt key = absurd (omega arith)
+names_kept (e ∷ es) zero d r lt key = ap (λ y. y ∷ names_in es) key
+names_kept (e ∷ es) (suc n) d r lt key = ap (λ ys. e.0 ∷ ys) (names_kept es n d r (omega arith) key)

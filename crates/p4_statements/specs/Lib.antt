@@ -3,3 +3,4 @@ pub mod Runs
 pub mod Outcomes
 -- What serves the proofs.
 pub mod Calls
+pub mod Kept

@@ -1,5 +1,5 @@
 -- What a machine works on, as a run.
-use Rattle.std.specs.Prelude.{ℕ, suc, List, [], ◌∷◌, map, Option, Some, None, if◌then◌else◌}
+use Rattle.std.specs.Prelude.{ℕ, suc, List, [], ◌∷◌, map, if◌then◌else◌}
 use Rattle.bit_values.specs.Bits.{Word}
 use Rattle.lex_text.specs.Names.{same_text}
 use Rattle.p4_meaning.specs.Statements as meaning
@@ -18,15 +18,14 @@ digest_of d = record { receiver = d.receiver; values = d.values.items }
 abbrev pub Rows : Type 0
 Rows = List (List ℕ × List Word)
 
+-- their names
+abbrev pub names_in : Rows → List (List ℕ)
+names_in es = map (λ e. e.0) es
+
 -- the cells of the first register of a name
 abbrev pub cells_in : Rows → List ℕ → List Word
 cells_in [] x = []
 cells_in (e ∷ es) x = if same_text e.0 x then e.1 else cells_in es x
-
--- the cells of a register that may be there
-abbrev pub cells_or : Option (List Word) → List Word
-cells_or None = []
-cells_or (Some cells) = cells
 
 -- how many registers stand before the first of a name
 abbrev pub place_in : Rows → List ℕ → ℕ
@@ -35,7 +34,7 @@ place_in (e ∷ es) x = if same_text e.0 x then 0 else suc (place_in es x)
 
 -- what statements work on
 abbrev pub run_of : code_run.Run → meaning.Run
-run_of r = record { store = store_of r.fields; cells = cells_in r.registers.items; digests = map digest_of r.digests.items }
+run_of r = record { store = store_of r.fields; cells = cells_in r.registers; digests = map digest_of r.digests.items }
 
 -- how a statement ends
 abbrev pub flow_of : code_flow.Flow → meaning.Flow

@@ -8,7 +8,6 @@ ghost use Rattle.p4_meaning.specs.Statements.{index_of, act_on_header, drops, re
 ghost use Rattle.p4_statements.specs.Calls.{Does};
 ghost use Rattle.p4_packets.specs.Fields.{store_of};
 
-use crate::registers::{read_cell, write_cell};
 use crate::run::{Digest, Run};
 use arrayvec::ArrayVec;
 use bit_values::{Bits, sound_width};
@@ -68,7 +67,7 @@ fn read_into(
 ) -> Result<(), AllocError>
     ensures { OnOk result (Does (reads name.now target.now (expr_of index.now)) r.old r.new) }
 {
-    let v = read_cell(&r.registers, name, index_of(index, &r.fields));
+    let v = r.registers.read(name, index_of(index, &r.fields));
     assign(alloc, target, v, &mut r.fields)?;
     Ok(())
 }
@@ -109,9 +108,9 @@ pub fn write_register(name: &str, args: &[Arg], r: &mut Run)
     match args {
         [Arg::One(_, i), Arg::One(_, e)] => {
             let index = index_of(i, &r.fields);
-            let old = read_cell(&r.registers, name, index);
+            let old = r.registers.read(name, index);
             let v = value_of(e, old.width(), &r.fields);
-            write_cell(&mut r.registers, name, index, v);
+            r.registers.write(name, index, v);
         }
         _ => {}
     }

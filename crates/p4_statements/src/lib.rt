@@ -24,7 +24,7 @@ mod tables;
 
 pub use calls::{Calls, NoCalls};
 pub use outcome::{Outcome, Tables, Written};
-pub use registers::{read_cell, register_named};
+pub use registers::Registers;
 pub use run::{Digest, Flow, Run, Tested};
 pub use statements::{run_body, run_stmts};
 pub use tables::Held;

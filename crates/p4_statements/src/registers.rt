@@ -1,61 +1,97 @@
 //! The registers of a program, by their full names.
 
-ghost use Rattle.std.specs.Prelude.{◌≡◌};
+ghost use Rattle.std.specs.Prelude.{◌≡◌, [], IfOk};
 ghost use Rattle.p4_meaning.specs.Statements.{cell_at, cell_set, put_cells};
-ghost use Rattle.p4_resolved.specs.Lent.{lent};
-ghost use Rattle.p4_statements.specs.Runs.{cells_in, cells_or, place_in};
+ghost use Rattle.p4_parts.specs.Places.{Tells};
+ghost use Rattle.p4_statements.specs.Runs.{cells_in, names_in, place_in};
 
 use bit_values::Bits;
+use indexmap::IndexMap;
 use lex_text::Name;
+use p4_parts::add_place;
 use p4_registers::Cells;
-use p4_values::same_text;
+use std::alloc::{AllocError, Global};
+use std::marker::Model;
 
-/// The first register of a name.
-pub fn register_named<'a>(registers: &'a [(Name, Cells)], name: &str) -> Option<&'a Cells>
-    ensures { cells_or (lent result) ≡ cells_in registers.now name.now }
+/// Registers with their cells, and a table of their names. Of those of one name the first counts.
+/// Contracts see the names with the cells, in order.
+#[derive(Drop)]
+pub struct Registers {
+    rows: Vec<(Name, Cells)>,
+    places: IndexMap<String, usize>,
+}
+
+impl Model for Registers {
+    ghost use Rattle.p4_statements.specs.Runs.{Rows};
+
+    ghost Value = { Rows };
+
+    ghost use Rattle.p4_statements.specs.Kept.{rows_of, IsKept};
+
+    ghost view = { rows_of };
+
+    ghost invariant = { IsKept };
+}
+
+/// The places of registers by their names.
+fn places_of(alloc: Global, rows: &[(Name, Cells)]) -> Result<IndexMap<String, usize>, AllocError>
+    ensures { IfOk result (λ places. Tells places.entries (names_in rows.now)) }
 {
-    for r in registers {
-        if same_text(r.0.as_str(), name) {
-            return Some(&r.1);
+    let mut places = IndexMap::new(alloc);
+    for i in 0..rows.len() {
+        add_place(alloc, &mut places, &rows[i].0, i)?;
+    }
+    Ok(places)
+}
+
+impl Registers {
+    /// No register.
+    pub fn none(alloc: Global) -> Registers
+        ensures { result ≡ [] }
+    {
+        Registers {
+            rows: Vec::new(alloc),
+            places: IndexMap::new(alloc),
         }
     }
-    None
-}
 
-/// A cell of a register that may be there.
-fn cell_in(register: Option<&Cells>, index: u128) -> Bits
-    ensures { result ≡ cell_at (cells_or (lent register.entry)) index }
-{
-    match register {
-        None => Bits::default(),
-        Some(cells) => cells.read(index),
+    /// These registers.
+    pub fn of(alloc: Global, rows: Vec<(Name, Cells)>) -> Result<Registers, AllocError>
+        ensures { IfOk result (λ r. r ≡ rows.items) }
+    {
+        let places = places_of(alloc, &rows)?;
+        Ok(Registers { rows, places })
     }
-}
 
-/// A cell of the first register of a name; out of range, or where there is no register, it is 0.
-pub fn read_cell(registers: &[(Name, Cells)], name: &str, index: u128) -> Bits
-    ensures { result ≡ cell_at (cells_in registers.now name.now) index }
-{
-    cell_in(register_named(registers, name), index)
-}
-
-fn place_of(registers: &[(Name, Cells)], name: &str) -> usize
-    ensures { result ≡ place_in registers.now name.now }
-{
-    for i in 0..registers.len() {
-        if same_text(registers[i].0.as_str(), name) {
-            return i;
+    /// How many registers stand before the first of a name.
+    fn place(&self, name: &str) -> usize
+        ensures { result ≡ place_in self.now name.now }
+    {
+        match self.places.get(name) {
+            Some(place) => *place,
+            None => self.rows.len(),
         }
     }
-    registers.len()
-}
 
-/// Writes a cell of the first register of a name, if there is one.
-pub fn write_cell(registers: &mut Vec<(Name, Cells)>, name: &str, index: u128, v: Bits)
-    ensures { cells_in registers.new.items ≡ put_cells (cells_in registers.old.items) name.now (cell_set (cells_in registers.old.items name.now) index v) }
-{
-    let at = place_of(registers, name);
-    if at < registers.len() {
-        registers[at].1.write(index, v);
+    /// A cell of the first register of a name; out of range, or where there is no register, it is 0.
+    pub fn read(&self, name: &str, index: u128) -> Bits
+        ensures { result ≡ cell_at (cells_in self.now name.now) index }
+    {
+        let at = self.place(name);
+        if at < self.rows.len() {
+            self.rows[at].1.read(index)
+        } else {
+            Bits::default()
+        }
+    }
+
+    /// Writes a cell of the first register of a name, if there is one.
+    pub fn write(&mut self, name: &str, index: u128, v: Bits)
+        ensures { cells_in self.new ≡ put_cells (cells_in self.old) name.now (cell_set (cells_in self.old name.now) index v) }
+    {
+        let at = self.place(name);
+        if at < self.rows.len() {
+            self.rows[at].1.write(index, v);
+        }
     }
 }

@@ -3,11 +3,10 @@
 ghost use Rattle.std.specs.Prelude.{◌≡◌};
 ghost use Rattle.p4_statements.specs.Runs.{digest_of};
 
+use crate::registers::Registers;
 use arrayvec::ArrayVec;
 use bit_values::Bits;
-use lex_text::Name;
 use p4_packets::Fields;
-use p4_registers::Cells;
 
 /// What a `digest` hands up: the receiver's number, and the words, nine at most. It takes no memory.
 #[derive(Drop)]
@@ -36,7 +35,7 @@ impl Digest {
 #[derive(Drop)]
 pub struct Run {
     pub fields: Fields,
-    pub registers: Vec<(Name, Cells)>,
+    pub registers: Registers,
     pub digests: Vec<Digest>,
 }
 

@@ -1,7 +1,10 @@
 -- The names of actions by their numbers.
-use Rattle.std.proofs.Common.{◌≡◌, ℕ, zero, suc, ◌<◌, ◌≤◌, List, [], ◌∷◌, codes, length, map, get_or, refl, sym, ap, arith}
+use Rattle.std.proofs.Common.{◌≡◌, ℕ, zero, suc, ◌<◌, ◌≤◌, Bool, true, false, cond, Option, Some, None, option_map, List, [], ◌∷◌, codes, length, map, get_or, refl, sym, ap, arith}
 use Rattle.p4_parts.specs.PartsIn.{action_in}
 use Rattle.p4_parts.specs.declared.parts.Action as code_action
+use Rattle.lex_text.specs.Names.{same_text}
+use Rattle.p4_parts.specs.Places.{first_in, action_names}
+use Rattle.p4_tables.specs.Programs.{action_place}
 use Rattle.p4_tables.specs.Named.{action_name}
 
 pub name_there : (as' : List code_action.Action) (n : ℕ) (a : code_action.Action) → n < length as' → a ≡ get_or as' n a → action_name (map action_in as') n ≡ a.name
@@ -13,3 +16,18 @@ pub none_numbered : (as' : List code_action.Action) (n : ℕ) → length as' ≤
 none_numbered [] n le = refl
 none_numbered (b ∷ bs) zero le = absurd (omega arith)
 none_numbered (b ∷ bs) (suc n) le = none_numbered bs n (omega arith)
+
+-- ---- places by a table
+
+abbrev pub place_or : ℕ → Option ℕ → ℕ
+place_or n None = n
+place_or n (Some i) = i
+
+pub placed : (as' : List code_action.Action) (x : List ℕ) → place_or (length as') (first_in (action_names as') x) ≡ action_place (map action_in as') x
+placed [] x = refl
+placed (a ∷ as') x = by (same_text a.name x) (first_in (action_names as') x) (placed as' x)
+  where
+    by : (b : Bool) (o : Option ℕ) → place_or (length as') o ≡ action_place (map action_in as') x → place_or (suc (length as')) (cond b (Some 0) (option_map suc o)) ≡ cond b 0 (suc (action_place (map action_in as') x))
+    by true o rest = refl
+    by false None rest = ap suc rest
+    by false (Some n) rest = ap suc rest

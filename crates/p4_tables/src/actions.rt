@@ -7,7 +7,7 @@ ghost use Rattle.p4_tables.specs.Named.{action_name};
 ghost use Rattle.table_entries.specs.View.{act_of, entry_of};
 
 use crate::start::action_place;
-use p4_parts::Action;
+use p4_parts::{Action, ActionTable};
 use std::alloc::{AllocError, Global};
 use table_entries::{Act, Entry};
 
@@ -23,9 +23,9 @@ pub(crate) fn action_name(actions: &[Action], number: u32) -> &str
 }
 
 /// The number of the action of the same name.
-pub(crate) fn same_action(from: &[Action], to: &[Action], number: u32) -> Result<u32, AllocError>
+pub(crate) fn same_action(from: &[Action], to: &ActionTable, number: u32) -> Result<u32, AllocError>
     ensures { IfOk result (λ n. n
-        ≡ same_number (map action_in from.now) (map action_in to.now) number) }
+        ≡ same_number (map action_in from.now) (map action_in to.now.actions.now) number) }
 {
     action_place(to, action_name(from, number))
 }
@@ -34,11 +34,11 @@ pub(crate) fn same_action(from: &[Action], to: &[Action], number: u32) -> Result
 pub(crate) fn same_entry(
     alloc: Global,
     from: &[Action],
-    to: &[Action],
+    to: &ActionTable,
     e: &Entry,
 ) -> Result<Entry, AllocError>
     ensures { IfOk result (λ f. entry_of f ≡ renumbered
-        (same_number (map action_in from.now) (map action_in to.now)) (entry_of e.now)) }
+        (same_number (map action_in from.now) (map action_in to.now.actions.now)) (entry_of e.now)) }
 {
     let action = same_action(from, to, e.action)?;
     let mut copy = e.copy(alloc)?;
@@ -50,11 +50,11 @@ pub(crate) fn same_entry(
 pub(crate) fn same_default(
     alloc: Global,
     from: &[Action],
-    to: &[Action],
+    to: &ActionTable,
     d: &Act,
 ) -> Result<Act, AllocError>
     ensures { IfOk result (λ a. act_of a ≡ act_renumbered
-        (same_number (map action_in from.now) (map action_in to.now)) (act_of d.now)) }
+        (same_number (map action_in from.now) (map action_in to.now.actions.now)) (act_of d.now)) }
 {
     let action = same_action(from, to, d.action)?;
     let mut copy = d.copy(alloc)?;

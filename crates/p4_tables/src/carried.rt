@@ -10,7 +10,7 @@ ghost use Rattle.p4_tables.specs.Carried.{AreRefilled, HoldsCarried, StandsIn};
 use crate::carry::carry;
 use crate::start::state_before;
 use crate::state::TableState;
-use p4_parts::parts_of;
+use p4_parts::{ActionTable, action_places, parts_of};
 use p4_types::TypedProgram;
 use std::alloc::{AllocError, Global};
 
@@ -37,7 +37,12 @@ impl TableState {
         let parts = parts_of(alloc, from.program())?;
         let target = parts_of(alloc, to.program())?;
         let mut tables = state_before(alloc, to.program())?;
-        carry(alloc, &parts, self.tables(), &target, &mut tables)?;
+        let places = action_places(alloc, &target.actions)?;
+        let actions = ActionTable {
+            actions: &target.actions,
+            places: &places,
+        };
+        carry(alloc, &parts, self.tables(), &target, &actions, &mut tables)?;
         Ok(TableState::of(tables))
     }
 }

@@ -1,6 +1,6 @@
 //! Tables of one program into those of another.
 
-ghost use Rattle.std.specs.Prelude.{◌≡◌, ◌≤◌, length, map, IfOk, OnOk};
+ghost use Rattle.std.specs.Prelude.{◌≡◌, length, map, IfOk, OnOk};
 ghost use Rattle.p4_parts.specs.PartsIn.{action_in, parts_in, table_in};
 ghost use Rattle.table_entries.specs.View.{entry_of};
 ghost use Rattle.p4_tables.specs.Named.{table_place};
@@ -9,7 +9,7 @@ ghost use Rattle.p4_tables.specs.CarriedWalk.{all_refilled, with_refilled};
 
 use crate::actions::{same_default, same_entry};
 use crate::held::{Held, put_all};
-use p4_parts::{Action, Parts, Table};
+use p4_parts::{Action, ActionTable, Parts, Table};
 use p4_values::same_text;
 use std::alloc::{AllocError, Global};
 use table_entries::Entry;
@@ -18,11 +18,11 @@ use table_entries::Entry;
 fn same_entries(
     alloc: Global,
     from: &[Action],
-    to: &[Action],
+    to: &ActionTable,
     entries: &[Entry],
 ) -> Result<Vec<Entry>, AllocError>
     ensures { IfOk result (λ v. map entry_of v.items ≡ map (renumbered
-        (same_number (map action_in from.now) (map action_in to.now))) (map entry_of entries.now)) }
+        (same_number (map action_in from.now) (map action_in to.now.actions.now))) (map entry_of entries.now)) }
 {
     let mut same = Vec::new(alloc);
     for e in entries {
@@ -49,16 +49,18 @@ fn refill(
     from: &Parts,
     held: &Held,
     to: &Parts,
+    actions: &ActionTable,
     tables: &mut Vec<Held>,
     name: &str,
 ) -> Result<(), AllocError>
+    requires { actions.now.actions.now ≡ to.now.actions.items }
     ensures { OnOk result (tables.new.items ≡ with_refilled (parts_in from.now)
         (parts_in to.now) name.now held.now tables.old.items) }
 {
     let place = table_place(&to.tables, name);
     if place < tables.len() {
-        let list = same_entries(alloc, &from.actions, &to.actions, held.listed())?;
-        let default = same_default(alloc, &from.actions, &to.actions, held.default())?;
+        let list = same_entries(alloc, &from.actions, actions, held.listed())?;
+        let default = same_default(alloc, &from.actions, actions, held.default())?;
         put_all(
             alloc,
             tables,
@@ -76,9 +78,11 @@ pub(crate) fn carry(
     from: &Parts,
     held: &[Held],
     to: &Parts,
+    actions: &ActionTable,
     tables: &mut Vec<Held>,
 ) -> Result<(), AllocError>
-    requires { length (parts_in from.now).tables ≡ length held.now }
+    requires actions { actions.now.actions.now ≡ to.now.actions.items }
+    requires count { length (parts_in from.now).tables ≡ length held.now }
     ensures { OnOk result (tables.new.items ≡ all_refilled (parts_in from.now) (parts_in to.now)
         (parts_in from.now).tables held.now tables.old.items) }
 {
@@ -90,6 +94,7 @@ pub(crate) fn carry(
             from,
             &held[left],
             to,
+            actions,
             tables,
             from.tables[left].name.as_str(),
         )?;

@@ -10,7 +10,7 @@ ghost use Rattle.value_shapes.specs.Values.{lists_in};
 
 use crate::held::Held;
 use lex_text::Name;
-use p4_parts::{Action, Chosen, Key, Table, parts_of};
+use p4_parts::{ActionTable, Chosen, Key, Table, action_places, parts_of};
 use p4_tree::Program;
 use std::alloc::{AllocError, Global};
 use table_entries::Act;
@@ -61,18 +61,24 @@ fn key_shapes(
     Ok(shapes)
 }
 
-/// The number of the action of a full name.
-pub(crate) fn action_place(actions: &[Action], name: &str) -> Result<u32, AllocError>
-    ensures { IfOk result (λ n. n ≡ action_place (map action_in actions.now) name.now) }
+/// So many actions are numbered by 32 bits. No memory holds more.
+fn number(place: usize) -> Result<u32, AllocError>
+    ensures { IfOk result (λ n. n ≡ place) }
 {
-    let mut place: u32 = 0;
-    for action in actions {
-        if action.name.as_str() == name {
-            return Ok(place);
-        }
-        place = place.checked_add(1).ok_or(AllocError)?;
+    match u32::try_from(place) {
+        Ok(number) => Ok(number),
+        Err(_) => Err(AllocError),
     }
-    Ok(place)
+}
+
+/// The number of the action of a full name.
+pub(crate) fn action_place(actions: &ActionTable, name: &str) -> Result<u32, AllocError>
+    ensures { IfOk result (λ n. n ≡ action_place (map action_in actions.now.actions.now) name.now) }
+{
+    match actions.place(name) {
+        Some(place) => number(place),
+        None => number(actions.actions.len()),
+    }
 }
 
 /// What the table or the action of a number holds.
@@ -88,12 +94,12 @@ fn values_at(lists: &[Vec<ValueShape>], i: usize) -> &[ValueShape]
 /// The action of a full name in the list of a table.
 fn action_shape(
     alloc: Global,
-    actions: &[Action],
+    actions: &ActionTable,
     params: &[Vec<ValueShape>],
     name: &Name,
 ) -> Result<ActionShape, AllocError>
     ensures { IfOk result (λ a. action_shape_of a
-        ≡ action_shape (map action_in actions.now) (lists_in params.now) name.now) }
+        ≡ action_shape (map action_in actions.now.actions.now) (lists_in params.now) name.now) }
 {
     let number = action_place(actions, name.as_str())?;
     let params = copy_values(alloc, values_at(params, number as usize))?;
@@ -102,12 +108,12 @@ fn action_shape(
 
 fn action_shapes(
     alloc: Global,
-    actions: &[Action],
+    actions: &ActionTable,
     params: &[Vec<ValueShape>],
     names: &[Name],
 ) -> Result<Vec<ActionShape>, AllocError>
     ensures { IfOk result (λ v. map action_shape_of v.items
-        ≡ map (action_shape (map action_in actions.now) (lists_in params.now)) names.now) }
+        ≡ map (action_shape (map action_in actions.now.actions.now) (lists_in params.now)) names.now) }
 {
     let mut shapes = Vec::new(alloc);
     for name in names {
@@ -117,8 +123,8 @@ fn action_shapes(
 }
 
 /// An action by its number.
-fn numbered(alloc: Global, actions: &[Action], c: &Chosen) -> Result<Act, AllocError>
-    ensures { IfOk result (λ a. act_of a ≡ numbered (map action_in actions.now) (chosen_in c.now)) }
+fn numbered(alloc: Global, actions: &ActionTable, c: &Chosen) -> Result<Act, AllocError>
+    ensures { IfOk result (λ a. act_of a ≡ numbered (map action_in actions.now.actions.now) (chosen_in c.now)) }
 {
     let action = action_place(actions, c.action.as_str())?;
     let args = copy_words(alloc, &c.args)?;
@@ -128,13 +134,13 @@ fn numbered(alloc: Global, actions: &[Action], c: &Chosen) -> Result<Act, AllocE
 /// What a table takes, where its keys hold `keys`, and the parameters of the actions `params`.
 fn table_shape(
     alloc: Global,
-    actions: &[Action],
+    actions: &ActionTable,
     params: &[Vec<ValueShape>],
     table: &Table,
     keys: &[ValueShape],
 ) -> Result<Shape, AllocError>
     ensures { IfOk result (λ s. shape_of s
-        ≡ table_shape (map action_in actions.now) (lists_in params.now) (table_in table.now) keys.now) }
+        ≡ table_shape (map action_in actions.now.actions.now) (lists_in params.now) (table_in table.now) keys.now) }
 {
     let keys = key_shapes(alloc, &table.keys, keys)?;
     let list = action_shapes(alloc, actions, params, &table.actions)?;
@@ -152,13 +158,13 @@ fn table_shape(
 /// A table with no entry and the default that is written.
 fn table_before(
     alloc: Global,
-    actions: &[Action],
+    actions: &ActionTable,
     params: &[Vec<ValueShape>],
     table: &Table,
     keys: &[ValueShape],
 ) -> Result<Held, AllocError>
     ensures { IfOk result (λ h. h
-        ≡ table_before (map action_in actions.now) (lists_in params.now) (table_in table.now) keys.now) }
+        ≡ table_before (map action_in actions.now.actions.now) (lists_in params.now) (table_in table.now) keys.now) }
 {
     let shape = table_shape(alloc, actions, params, table, keys)?;
     let default = numbered(alloc, actions, &table.default)?;
@@ -169,13 +175,13 @@ fn table_before(
 #[tactic(auto, using(crate::proofs::Steps::tables_step))]
 fn tables_before(
     alloc: Global,
-    actions: &[Action],
+    actions: &ActionTable,
     params: &[Vec<ValueShape>],
     tables: &[Table],
     keys: &[Vec<ValueShape>],
 ) -> Result<Vec<Held>, AllocError>
     ensures { IfOk result (λ v. v.items
-        ≡ tables_before (map action_in actions.now) (lists_in params.now)
+        ≡ tables_before (map action_in actions.now.actions.now) (lists_in params.now)
         (map table_in tables.now) (lists_in keys.now)) }
 {
     let mut held = Vec::new(alloc);
@@ -192,5 +198,10 @@ pub(crate) fn state_before(alloc: Global, p: &Program) -> Result<Vec<Held>, Allo
     let parts = parts_of(alloc, p)?;
     let params = values_of(alloc, Holder::Params, &p.tops)?;
     let keys = values_of(alloc, Holder::Keys, &p.tops)?;
-    tables_before(alloc, &parts.actions, &params, &parts.tables, &keys)
+    let places = action_places(alloc, &parts.actions)?;
+    let actions = ActionTable {
+        actions: &parts.actions,
+        places: &places,
+    };
+    tables_before(alloc, &actions, &params, &parts.tables, &keys)
 }

@@ -7,5 +7,5 @@ use Rattle.p4_passages.proofs.start.start_cells.Goals as goal
 
 pub returns : goal.returns
 returns c =
-    start_rows c.loop-declared.registers.items (map cells_decl c.args.list.now)
+    start_rows c.loop-declared.rows.items (map cells_decl c.args.list.now)
     (c.loop-declared.invariant ∙ ap (λ l. map row_at_start (map cells_decl l)) (take_all c.loop-declared.declared-index c.args.list.now (omega arith)))

@@ -17,12 +17,12 @@ returns-in_ok-put_all c =
     let there : c.table_place-place.result < length c.args.tables.now.items = omega (arith, c.len.ensures, c.if-place-len.true) in
     let list : map entry_of c.in_ok-list.list.items ≡ map (renumbered (same_number from.actions to.actions)) c.args.held.now.listed =
     c.in_ok-list.ensures
-    ∙ ap₂ (λ (as' bs : List Action). map (renumbered (same_number as' bs)) (map entry_of c.listed.result.now)) (ap (map action_in) c.deref-then-place-len.ensures.value) (ap (map action_in) c.deref-then-place-len-2.ensures.value)
+    ∙ ap₂ (λ (as' bs : List Action). map (renumbered (same_number as' bs)) (map entry_of c.listed.result.now)) (ap (map action_in) c.deref-then-place-len.ensures.value) (ap (map action_in) c.requires)
     ∙ ap (map (renumbered (same_number from.actions to.actions))) c.listed.ensures
     in
     let default : act_of c.in_ok-default.default ≡ act_renumbered (same_number from.actions to.actions) c.args.held.now.default =
     c.in_ok-default.ensures
-    ∙ ap₂ (λ (as' bs : List Action). act_renumbered (same_number as' bs) (act_of c.default.result.now)) (ap (map action_in) c.deref-then-place-len-3.ensures.value) (ap (map action_in) c.deref-then-place-len-4.ensures.value)
+    ∙ ap₂ (λ (as' bs : List Action). act_renumbered (same_number as' bs) (act_of c.default.result.now)) (ap (map action_in) c.deref-then-place-len-2.ensures.value) (ap (map action_in) c.requires)
     ∙ ap (act_renumbered (same_number from.actions to.actions)) c.default.ensures
     in
     c.in_ok-put_all.ensures.ok

@@ -7,5 +7,5 @@ use Rattle.p4_tables.proofs.stands.are_listed.Given as goal
 
 abbrev pub invariant-loop-i : goal.invariant-loop-i
 invariant-loop-i l =
-    pointwise (is_listed (map action_in l.from) (map action_in l.to)) (map action_shape_of (drop l.i l.others)) (map action_shape_of (drop l.i l.own))
-    ≡ pointwise (is_listed (map action_in l.from) (map action_in l.to)) (map action_shape_of l.others) (map action_shape_of l.own)
+    pointwise (is_listed (map action_in l.from.actions.now) (map action_in l.to.actions.now)) (map action_shape_of (drop l.i l.others)) (map action_shape_of (drop l.i l.own))
+    ≡ pointwise (is_listed (map action_in l.from.actions.now) (map action_in l.to.actions.now)) (map action_shape_of l.others) (map action_shape_of l.own)

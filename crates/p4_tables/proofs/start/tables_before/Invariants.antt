@@ -5,4 +5,4 @@ use Rattle.value_shapes.specs.Values.{lists_in}
 use Rattle.p4_tables.proofs.start.tables_before.Given as goal
 
 abbrev pub invariant-loop-i : goal.invariant-loop-i
-invariant-loop-i l = l.held.items ++ tables_before (map action_in l.actions) (lists_in l.params) (map table_in (drop l.i l.tables)) (drop l.i (lists_in l.keys)) ≡ tables_before (map action_in l.actions) (lists_in l.params) (map table_in l.tables) (lists_in l.keys)
+invariant-loop-i l = l.held.items ++ tables_before (map action_in l.actions.actions.now) (lists_in l.params) (map table_in (drop l.i l.tables)) (drop l.i (lists_in l.keys)) ≡ tables_before (map action_in l.actions.actions.now) (lists_in l.params) (map table_in l.tables) (lists_in l.keys)

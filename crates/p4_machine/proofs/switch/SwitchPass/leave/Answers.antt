@@ -16,7 +16,7 @@ go_out-requires-clause-fits c = parts_fit (parts_in c.self.inside.parts) (progra
 
 pub returns-clause-cells : goal.returns-clause-cells
 returns-clause-cells c =
-    subst (λ (x : Passage). OnOk c.go_out.result (cells_in c.go_out.new.registers.items ≡ x.registers))
+    subst (λ (x : Passage). OnOk c.go_out.result (cells_in c.go_out.new.registers ≡ x.registers))
     (left_by (parts_in c.self.inside.parts) (state_of c.self.inside) c.args.self.now c.clear.new.self.digests (option_map waiting_of c.take-waiting.result) (option_map waiting_of c.args.q.now.waiting) c.self.invariant.parts c.self.view_is c.clear.ensures.digests c.take-waiting.ensures.taken)
     c.go_out.ensures.registers
 

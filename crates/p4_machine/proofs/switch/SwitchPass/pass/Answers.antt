@@ -19,18 +19,18 @@ go_out-requires-clause-fits c = parts_fit (parts_in c.self.inside.parts) (progra
 
 pub returns-clause-cells : goal.returns-clause-cells
 returns-clause-cells c =
-    subst (λ (x : Passage). OnOk c.go_out.result (cells_in c.go_out.new.registers.items ≡ x.registers))
-    (passed_by (parts_in c.self.inside.parts) (state_of c.self.inside) c.args.self.now (cells_in c.go_in.new.registers.items) c.clear.new.self.digests c.go_in.new.buf.digests (option_map waiting_of c.in_ok-waiting.waiting) c.args.port c.args.frame.now c.self.invariant.parts c.self.view_is c.clear.ensures.digests c.in_ok-waiting.ensures.registers c.in_ok-waiting.ensures.digests c.in_ok-waiting.ensures.queued)
+    subst (λ (x : Passage). OnOk c.go_out.result (cells_in c.go_out.new.registers ≡ x.registers))
+    (passed_by (parts_in c.self.inside.parts) (state_of c.self.inside) c.args.self.now (cells_in c.go_in.new.registers) c.clear.new.self.digests c.go_in.new.buf.digests (option_map waiting_of c.in_ok-waiting.waiting) c.args.port c.args.frame.now c.self.invariant.parts c.self.view_is c.clear.ensures.digests c.in_ok-waiting.ensures.registers c.in_ok-waiting.ensures.digests c.in_ok-waiting.ensures.queued)
     c.go_out.ensures.registers
 
 pub returns-clause-out : goal.returns-clause-out
 returns-clause-out c =
     subst (λ (x : Passage). IfOk c.go_out.result (λ y. goes_out y c.go_out.new.buf.frame ≡ x.out))
-    (passed_by (parts_in c.self.inside.parts) (state_of c.self.inside) c.args.self.now (cells_in c.go_in.new.registers.items) c.clear.new.self.digests c.go_in.new.buf.digests (option_map waiting_of c.in_ok-waiting.waiting) c.args.port c.args.frame.now c.self.invariant.parts c.self.view_is c.clear.ensures.digests c.in_ok-waiting.ensures.registers c.in_ok-waiting.ensures.digests c.in_ok-waiting.ensures.queued)
+    (passed_by (parts_in c.self.inside.parts) (state_of c.self.inside) c.args.self.now (cells_in c.go_in.new.registers) c.clear.new.self.digests c.go_in.new.buf.digests (option_map waiting_of c.in_ok-waiting.waiting) c.args.port c.args.frame.now c.self.invariant.parts c.self.view_is c.clear.ensures.digests c.in_ok-waiting.ensures.registers c.in_ok-waiting.ensures.digests c.in_ok-waiting.ensures.queued)
     c.go_out.ensures.out
 
 pub returns-clause-digests : goal.returns-clause-digests
 returns-clause-digests c =
     subst (λ (x : Passage). OnOk c.go_out.result (c.go_out.new.buf.digests ≡ x.digests))
-    (passed_by (parts_in c.self.inside.parts) (state_of c.self.inside) c.args.self.now (cells_in c.go_in.new.registers.items) c.clear.new.self.digests c.go_in.new.buf.digests (option_map waiting_of c.in_ok-waiting.waiting) c.args.port c.args.frame.now c.self.invariant.parts c.self.view_is c.clear.ensures.digests c.in_ok-waiting.ensures.registers c.in_ok-waiting.ensures.digests c.in_ok-waiting.ensures.queued)
+    (passed_by (parts_in c.self.inside.parts) (state_of c.self.inside) c.args.self.now (cells_in c.go_in.new.registers) c.clear.new.self.digests c.go_in.new.buf.digests (option_map waiting_of c.in_ok-waiting.waiting) c.args.port c.args.frame.now c.self.invariant.parts c.self.view_is c.clear.ensures.digests c.in_ok-waiting.ensures.registers c.in_ok-waiting.ensures.digests c.in_ok-waiting.ensures.queued)
     c.go_out.ensures.digests
