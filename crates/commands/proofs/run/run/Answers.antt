@@ -1,0 +1,11 @@
+use Rattle.commands.specs.Job as job
+use Rattle.commands.specs.Output.{Outputs}
+use Rattle.commands.proofs.Planned.{planned, planned_first}
+use Rattle.run_job.specs.Views.{task_of}
+use Rattle.commands.proofs.run.run.Goals as goal
+
+pub returns-in_err-job : goal.returns-in_err-job
+returns-in_err-job g c = planned_first Outputs _ (λ task. job.run task c.args.out.now) task_of _ _ _ c.from_residual.ensures c.in_err-job.ensures.follows
+
+pub returns : goal.returns
+returns g c = planned Outputs _ (λ task. job.run task c.args.out.now) task_of _ _ c.in_ok-output.output c.in_ok-job.ensures.follows c.in_ok-output.ensures

@@ -1,0 +1,25 @@
+//! `wire`: a property linked into the built-in program, and one raw frame at three switches.
+
+ghost use Rattle.job_course.specs.Plan.{Plans};
+ghost use Rattle.commands.specs.Command.{course_of, wire};
+ghost use Rattle.commands.specs.Output.{Outputs};
+
+use job_course::{Output, Stop};
+use linked_run::run_wire;
+use outside::Store;
+use std::alloc::Global;
+use wire_job::load_wire;
+
+/// Reads the files of the property and of the frame, links, and runs the linked programs on the frame.
+pub fn wire<S: Store>(
+    alloc: Global,
+    store: &mut S,
+    property: &str,
+    frame: &str,
+    out: &str,
+) -> Result<Output, Stop>
+    ensures { Plans Outputs (course_of (wire property.now frame.now out.now)) (S.state store.old) (S.state store.new) result }
+{
+    let job = load_wire(alloc, store, property, frame)?;
+    Ok(run_wire(alloc, job, out)?)
+}
