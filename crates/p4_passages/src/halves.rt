@@ -123,7 +123,7 @@ pub(crate) fn computed(alloc: Global, p: &Parts, fields: Fields) -> Result<Field
 {
     let mut r = Run {
         fields,
-        registers: Vec::new(alloc),
+        registers: Registers::none(alloc),
         digests: Vec::new(alloc),
     };
     let _ = run_body(alloc, &NoCalls, &p.compute, &mut r)?;
