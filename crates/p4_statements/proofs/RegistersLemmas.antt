@@ -1,12 +1,14 @@
 -- Registers, of which one has other cells.
-use Rattle.std.proofs.Common.{◌≡◌, ℕ, zero, suc, ◌<◌, ◌≤◌, length, get_or, arith, List, [], ◌∷◌, Bool, true, false, cond, Option, Some, None, option_map, refl, sym, ap, ◌∙◌, Decides}
+use Rattle.std.proofs.Common.{◌≡◌, ℕ, zero, suc, ◌<◌, ◌≤◌, length, get_or, arith, List, [], ◌∷◌, Bool, true, false, cond, Option, Some, None, String, option_map, refl, sym, ap, ◌∙◌, Decides}
 use Rattle.std.proofs.lemmas.Slice.Eq.{bytes_eq-Decides}
 use Rattle.std.specs.Prelude.{slice_set}
 use Rattle.bit_values.specs.Bits.{Word}
 use Rattle.lex_text.specs.Names.{same_text}
 use Rattle.p4_meaning.specs.Statements.{put_cells, cell_set}
-use Rattle.p4_parts.specs.Places.{first_in}
-use Rattle.p4_statements.specs.Runs.{Rows, names_in, cells_in, place_in}
+use Rattle.std.specs.declared.alloc.Global.{Global}
+use Rattle.p4_resolved.specs.Rows.{at_name}
+use Rattle.p4_parts.specs.Places.{first_in, Tells}
+use Rattle.p4_statements.specs.Cells.{Rows, names_in, cells_in, place_in}
 
 pub text_decides : (x y : List ℕ) → Decides (same_text x y) (x ≡ y)
 text_decides x y = bytes_eq-Decides x y
@@ -24,7 +26,7 @@ none_step : (e : List ℕ × List Word) (es : Rows) (x : List ℕ) (b : Bool) �
 none_step e es x true le h = absurd (omega arith)
 none_step e es x false le h = h (omega arith)
 
-none_found : (es : Rows) (x : List ℕ) → length es ≤ place_in es x → cells_in es x ≡ []
+pub none_found : (es : Rows) (x : List ℕ) → length es ≤ place_in es x → cells_in es x ≡ []
 none_found [] x le = refl
 none_found (e ∷ es) x le = none_step e es x (same_text e.0 x) le (none_found es x)
 
@@ -99,3 +101,14 @@ pub names_kept : (es : Rows) (n : ℕ) (d r : List ℕ × List Word) → n < len
 names_kept [] n d r lt key = absurd (omega arith)
 names_kept (e ∷ es) zero d r lt key = ap (λ y. y ∷ names_in es) key
 names_kept (e ∷ es) (suc n) d r lt key = ap (λ ys. e.0 ∷ ys) (names_kept es n d r (omega arith) key)
+
+-- ---- what a table finds
+
+pub found_place : (es rows : Rows) (ps : List (String Global × ℕ)) (x : List ℕ) (o : Option ℕ) → Tells ps (names_in rows) → rows ≡ es → at_name ps x ≡ o → place_or (length rows) o ≡ place_in es x
+found_place es rows ps x o told same is = ap (place_or (length rows)) (sym is ∙ told x) ∙ sym (placed rows x) ∙ ap (λ l. place_in l x) same
+
+pub cells_there : (es rows : Rows) (x : List ℕ) (n : ℕ) (r : List ℕ × List Word) → rows ≡ es → n ≡ place_in es x → n < length rows → r ≡ get_or rows n r → r.1 ≡ cells_in es x
+cells_there es rows x n r same at lt is =
+    let here : n ≡ place_in rows x = at ∙ ap (λ l. place_in l x) (sym same) in
+    let low : place_in rows x < length rows = omega (arith, lt, here) in
+    ap (λ (e : List ℕ × List Word). e.1) is ∙ ap (λ m. (get_or rows m r).1) here ∙ sym (cells_found rows x r low) ∙ ap (λ l. cells_in l x) same

@@ -1,6 +1,6 @@
--- What holds of registers. Read `Runs` before it.
+-- What holds of registers. Read `Cells` before it.
 use Rattle.p4_parts.specs.Places.{Tells}
-use Rattle.p4_statements.specs.Runs.{Rows, names_in}
+use Rattle.p4_statements.specs.Cells.{Rows, names_in}
 use Rattle.p4_statements.specs.declared.registers.Registers.TheInside.{Inside}
 
 -- the names with their cells

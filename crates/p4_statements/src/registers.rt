@@ -3,7 +3,7 @@
 ghost use Rattle.std.specs.Prelude.{◌≡◌, [], IfOk};
 ghost use Rattle.p4_meaning.specs.Statements.{cell_at, cell_set, put_cells};
 ghost use Rattle.p4_parts.specs.Places.{Tells};
-ghost use Rattle.p4_statements.specs.Runs.{cells_in, names_in, place_in};
+ghost use Rattle.p4_statements.specs.Cells.{cells_in, names_in, place_in};
 
 use bit_values::Bits;
 use indexmap::IndexMap;
@@ -22,7 +22,7 @@ pub struct Registers {
 }
 
 impl Model for Registers {
-    ghost use Rattle.p4_statements.specs.Runs.{Rows};
+    ghost use Rattle.p4_statements.specs.Cells.{Rows};
 
     ghost Value = { Rows };
 

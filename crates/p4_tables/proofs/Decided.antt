@@ -14,6 +14,9 @@ use Rattle.p4_tree.specs.Tree.{Program}
 use Rattle.p4_meaning.specs.Actions.{Action}
 use Rattle.p4_meaning.specs.Tables.{Table}
 use Rattle.p4_meaning.specs.Parts.{Parts, parts_of}
+use Rattle.p4_parts.specs.PartsIn.{action_in, table_in}
+use Rattle.p4_parts.specs.declared.parts.Action as code_action
+use Rattle.p4_parts.specs.declared.parts.Table as code_table
 use Rattle.table_shapes.specs.Shapes.{ActionShape, Shape}
 use Rattle.table_shapes.specs.declared.shape.KeyKind.{KeyKind}
 use Rattle.table_shapes.specs.declared.shape.KeyKind.TheVariants.{Exact, Lpm, Ternary}
@@ -176,6 +179,13 @@ program_same from to f g hs gs own other theirs ours =
     ap (λ (x : Parts). tables_stand x.actions g.actions g.tables hs x.tables gs) own
     ∙ (ap (λ (y : Parts). tables_stand (parts_of from).actions y.actions y.tables hs (parts_of from).tables gs) other
     ∙ ap₂ (λ (ks ls : List Held). tables_stand (parts_of from).actions (parts_of to).actions (parts_of to).tables ks (parts_of from).tables ls) theirs ours)
+
+-- the same lists
+pub listed_same : (as' bs cs ds : List code_action.Action) (ts us vs ws : List code_table.Table) (hs gs : List Held) → as' ≡ bs → cs ≡ ds → ts ≡ us → vs ≡ ws
+    → tables_stand (map action_in as') (map action_in cs) (map table_in ts) hs (map table_in vs) gs ≡ tables_stand (map action_in bs) (map action_in ds) (map table_in us) hs (map table_in ws) gs
+listed_same as' bs cs ds ts us vs ws hs gs a c t v =
+    ap₂ (λ (xs ys : List code_action.Action). tables_stand (map action_in xs) (map action_in ys) (map table_in ts) hs (map table_in vs) gs) a c
+    ∙ ap₂ (λ (xs ys : List code_table.Table). tables_stand (map action_in bs) (map action_in ds) (map table_in xs) hs (map table_in ys) gs) t v
 
 pub on_true : (b c : Bool) {P : Type 0} → b ≡ c → Decides c P → OnTrue b P
 on_true true c e d = d.0 (sym e)

@@ -37,9 +37,10 @@ impl TableState {
         let parts = parts_of(alloc, from.program())?;
         let target = parts_of(alloc, to.program())?;
         let mut tables = state_before(alloc, to.program())?;
-        let places = action_places(alloc, &target.actions)?;
+        let list = target.actions.as_slice();
+        let places = action_places(alloc, list)?;
         let actions = ActionTable {
-            actions: &target.actions,
+            actions: list,
             places: &places,
         };
         carry(alloc, &parts, self.tables(), &target, &actions, &mut tables)?;

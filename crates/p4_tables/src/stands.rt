@@ -141,14 +141,16 @@ pub fn stands_in(alloc: Global, from: &TypedProgram, to: &TypedProgram) -> Resul
     let target = parts_of(alloc, to.program())?;
     let own = state_before(alloc, from.program())?;
     let others = state_before(alloc, to.program())?;
-    let own_places = action_places(alloc, &parts.actions)?;
-    let places = action_places(alloc, &target.actions)?;
+    let own_list = parts.actions.as_slice();
+    let own_places = action_places(alloc, own_list)?;
     let from = ActionTable {
-        actions: &parts.actions,
+        actions: own_list,
         places: &own_places,
     };
+    let list = target.actions.as_slice();
+    let places = action_places(alloc, list)?;
     let to = ActionTable {
-        actions: &target.actions,
+        actions: list,
         places: &places,
     };
     tables_stand(&from, &parts.tables, &to, &target.tables, &others, &own)

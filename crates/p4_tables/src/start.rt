@@ -198,9 +198,10 @@ pub(crate) fn state_before(alloc: Global, p: &Program) -> Result<Vec<Held>, Allo
     let parts = parts_of(alloc, p)?;
     let params = values_of(alloc, Holder::Params, &p.tops)?;
     let keys = values_of(alloc, Holder::Keys, &p.tops)?;
-    let places = action_places(alloc, &parts.actions)?;
+    let list = parts.actions.as_slice();
+    let places = action_places(alloc, list)?;
     let actions = ActionTable {
-        actions: &parts.actions,
+        actions: list,
         places: &places,
     };
     tables_before(alloc, &actions, &params, &parts.tables, &keys)

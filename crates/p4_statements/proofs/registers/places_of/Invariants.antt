@@ -1,6 +1,6 @@
 use Rattle.std.proofs.Common.{take}
 use Rattle.p4_parts.specs.Places.{Tells}
-use Rattle.p4_statements.specs.Runs.{names_in}
+use Rattle.p4_statements.specs.Cells.{names_in}
 use Rattle.p4_statements.proofs.registers.places_of.Given as goal
 
 abbrev pub invariant-loop-i : goal.invariant-loop-i

@@ -5,5 +5,5 @@ use Rattle.p4_tables.proofs.stands.tables_stand.Given as goal
 
 abbrev pub invariant-loop-i : goal.invariant-loop-i
 invariant-loop-i l =
-    tables_stand (map action_in l.from.actions.now) (map action_in l.to.actions.now) (map table_in l.tables) l.others (map table_in (drop l.i l.own_tables)) (drop l.i l.own)
+    tables_stand (map action_in l.from.actions.now) (map action_in l.to.actions.now) (map table_in l.tables) l.others (drop l.i (map table_in l.own_tables)) (drop l.i l.own)
     ≡ tables_stand (map action_in l.from.actions.now) (map action_in l.to.actions.now) (map table_in l.tables) l.others (map table_in l.own_tables) l.own

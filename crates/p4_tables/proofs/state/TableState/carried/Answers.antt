@@ -14,7 +14,10 @@ pub carry-requires : goal.carry-requires
 carry-requires c =
     let p = program_of c.args.from.now in
     let own : parts_in c.in_ok-parts.parts ≡ parts_of p = c.in_ok-parts.ensures ∙ ap (λ x. parts_of (program_of x)) c.program.ensures.same in
-    ap (λ (f : Parts). length f.tables) own ∙ (sym (before_long p) ∙ (sym (as_many c.args.self.now (state_before p) c.requires.state.same) ∙ sym (ap length c.tables.ensures.same)))
+    record {
+      actions = c.as_slice-list.ensures.value;
+      count = ap (λ (f : Parts). length f.tables) own ∙ (sym (before_long p) ∙ (sym (as_many c.args.self.now (state_before p) c.requires.state.same) ∙ sym (ap length c.tables.ensures.same)));
+    }
 
 pub of-requires : goal.of-requires
 of-requires c =
