@@ -7,77 +7,74 @@ ghost use Rattle.lex_text.specs.declared.token.Words.TheVariants.{P4};
 ghost use Rattle.lex_words.specs.Seen.{lexemes_of};
 ghost use Rattle.lex_words.specs.Written.{AreLexemes};
 
-use crate::show::show;
+use crate::show::{counted, put, same, show, sides};
 use lex_text::{Token, Words, tokens};
 use lex_words::{Cursor, Halt};
 use p4_expressions::expr;
 use p4_tree::Expr;
-use std::alloc::{AllocError, Global};
+use std::alloc::Global;
+use std::mem::forget;
 use std::process::Abort;
-use std::test::Fail;
 
-/// The expression that all tokens spell.
-fn whole(alloc: Global, text: &[u8], list: &[Token]) -> Result<Expr, Halt>
+/// An expression as a text. It is let go of, since to drop a tree costs the proof more than all else.
+fn shown(rt: &impl Abort, alloc: Global, tree: Expr) -> String {
+    let mut out = String::new(alloc);
+    show(rt, alloc, &mut out, &tree);
+    forget(tree);
+    out
+}
+
+/// A fault.
+fn halted(rt: &impl Abort, alloc: Global, halt: Halt) -> String {
+    let (word, at) = match halt {
+        Halt::NoMemory => ("memory ", 0),
+        Halt::Wrong(at) => ("syntax ", at),
+        Halt::High(at) => ("too high ", at),
+        Halt::Deep(at) => ("too deep ", at),
+    };
+    counted(rt, alloc, word, u128::from(at))
+}
+
+/// What all tokens spell, or the fault.
+fn whole(rt: &impl Abort, alloc: Global, text: &[u8], list: &[Token]) -> String
     requires fits { AreIn text.now list.now }
     requires fair { AreLexemes P4 (lexemes_of P4 text.now list.now) }
     requires short { length list.now ≤ 16777216 }
 {
     let mut cursor = Cursor::new(Words::P4, text, list);
-    let found = expr(alloc, &mut cursor, 11, 256, 256)?;
-    if !cursor.is_end() {
-        return Err(Halt::Wrong(cursor.at()));
+    match expr(alloc, &mut cursor, 11, 256, 256) {
+        Ok(found) => {
+            let line = shown(rt, alloc, found.tree);
+            if cursor.is_end() {
+                line
+            } else {
+                halted(rt, alloc, Halt::Wrong(cursor.at()))
+            }
+        }
+        Err(halt) => halted(rt, alloc, halt),
     }
-    Ok(found.tree)
 }
 
-/// The expression of a text.
-fn read(rt: &impl Abort, alloc: Global, text: &str) -> Result<Result<Expr, Halt>, Fail> {
+/// What a text spells, or the fault.
+fn read(rt: &impl Abort, alloc: Global, text: &str) -> String {
     assert!(rt; text.len() <= 65536);
     let bytes = text.as_bytes();
     match tokens(alloc, bytes, Words::P4) {
-        Ok(list) => Ok(whole(alloc, bytes, &list)),
-        Err(_) => Err(Fail::new("a text has no tokens")),
+        Ok(list) => whole(rt, alloc, bytes, &list),
+        Err(_) => panic!(rt; "a text has no tokens"),
     }
-}
-
-/// What the text spells, or the fault.
-fn answer(rt: &impl Abort, alloc: Global, text: &str) -> Result<String, Fail> {
-    match read(rt, alloc, text)? {
-        Ok(tree) => {
-            let mut out = String::new(alloc);
-            show(alloc, &mut out, &tree)?;
-            Ok(out)
-        }
-        Err(Halt::NoMemory) => Err(Fail::from(AllocError)),
-        Err(Halt::Wrong(at)) => Ok(format!(in alloc; "syntax {at}")?),
-        Err(Halt::High(at)) => Ok(format!(in alloc; "too high {at}")?),
-        Err(Halt::Deep(at)) => Ok(format!(in alloc; "too deep {at}")?),
-    }
-}
-
-/// The text has this answer.
-fn same(rt: &impl Abort, alloc: Global, text: &str, wanted: &str) -> Result<(), Fail> {
-    assert_eq!(rt;
-        answer(rt, alloc, text)?,
-        String::from_str(alloc, wanted)?,
-        "{text}"
-    );
-    Ok(())
 }
 
 /// Each line of a table is a text and its answer, with ` => ` between.
-fn each(rt: &impl Abort, alloc: Global, table: &str) -> Result<(), Fail> {
+fn each(rt: &impl Abort, alloc: Global, table: &str) {
     for row in table.lines() {
-        let Some((text, wanted)) = row.split_once(" => ") else {
-            return Err(Fail::new("a row has no answer"));
-        };
-        same(rt, alloc, text, wanted)?;
+        let (text, wanted) = sides(rt, row, " => ");
+        same(rt, &read(rt, alloc, text), wanted, text);
     }
-    Ok(())
 }
 
 #[test]
-fn operands(rt: HostRuntime) -> Result<(), Fail> {
+fn operands(rt: HostRuntime) {
     each(
         &rt,
         rt.alloc(),
@@ -99,11 +96,11 @@ a[255:0][3:0] => ([3:0]@0 ([255:0]@0 a@0))
 (bit<8w9>) a => (bit9@0 a@6)
 (bit) a[0:0] => (bit1@0 ([0:0]@3 a@3))
 (bool) ~a => (bool@0 (~@3 a@4))",
-    )
+    );
 }
 
 #[test]
-fn operators(rt: HostRuntime) -> Result<(), Fail> {
+fn operators(rt: HostRuntime) {
     each(
         &rt,
         rt.alloc(),
@@ -118,11 +115,11 @@ a ? b : c ? d : e => (?@0 a@0 b@2 (?@4 c@4 d@6 e@8))
 a ? b ? c : d : e => (?@0 a@0 (?@2 b@2 c@4 d@6) e@8)
 a || b ? c : d => (?@0 (||@0 a@0 b@2) c@4 d@6)
 (a ? b : c) ? d : e => (?@0 (?@1 a@1 b@3 c@5) d@8 e@10)",
-    )
+    );
 }
 
 #[test]
-fn dead_tokens(rt: HostRuntime) -> Result<(), Fail> {
+fn dead_tokens(rt: HostRuntime) {
     each(
         &rt,
         rt.alloc(),
@@ -148,35 +145,29 @@ _ + 1 => syntax 0
 error.bit => syntax 2
 a |+| b => syntax 1
 a / b => syntax 1",
-    )
+    );
 }
 
 /// A text so often, and then another.
-pub fn repeated(alloc: Global, text: &str, count: usize, end: &str) -> Result<String, AllocError> {
+pub fn repeated(rt: &impl Abort, alloc: Global, text: &str, count: usize, end: &str) -> String {
     let mut out = String::new(alloc);
     for _ in 0..count {
-        out.push_str(text)?;
+        put(rt, &mut out, text);
     }
-    out.push_str(end)?;
-    Ok(out)
+    put(rt, &mut out, end);
+    out
 }
 
 /// The text so often, and then `a`, has this answer.
-fn so_often(
-    rt: &impl Abort,
-    alloc: Global,
-    text: &str,
-    count: usize,
-    wanted: &str,
-) -> Result<(), Fail> {
-    let text = repeated(alloc, text, count, "a")?;
-    same(rt, alloc, text.as_str(), wanted)
+fn so_often(rt: &impl Abort, alloc: Global, text: &str, count: usize, wanted: &str) {
+    let all = repeated(rt, alloc, text, count, "a");
+    same(rt, &read(rt, alloc, &all), wanted, text);
 }
 
 #[test]
-fn limits(rt: HostRuntime) -> Result<(), Fail> {
-    so_often(&rt, rt.alloc(), "!", 256, "too high 255")?;
-    so_often(&rt, rt.alloc(), "(", 257, "too deep 256")?;
-    so_often(&rt, rt.alloc(), "(", 256, "syntax 257")?;
-    so_often(&rt, rt.alloc(), "a + ", 256, "too high 511")
+fn limits(rt: HostRuntime) {
+    so_often(&rt, rt.alloc(), "!", 256, "too high 255");
+    so_often(&rt, rt.alloc(), "(", 257, "too deep 256");
+    so_often(&rt, rt.alloc(), "(", 256, "syntax 257");
+    so_often(&rt, rt.alloc(), "a + ", 256, "too high 511");
 }

@@ -2,112 +2,101 @@
 //! a block up to its closing brace.
 
 use crate::expressions::repeated;
-use crate::show::show;
+use crate::show::{counted, put, same, show, sides};
 use crate::show_statements::show_all;
 use lex_text::{Words, tokens};
 use p4_reader::{ReadStop, read_expr, read_stmts};
-use std::alloc::{AllocError, Global};
+use p4_tree::{Expr, Stmt};
+use std::alloc::Global;
+use std::mem::forget;
 use std::process::Abort;
-use std::test::Fail;
 
 /// Why nothing was read.
-fn refusal(alloc: Global, stop: ReadStop) -> Result<String, Fail> {
-    match stop {
-        ReadStop::NoMemory => Err(Fail::from(AllocError)),
-        ReadStop::Syntax { at } => Ok(format!(in alloc; "syntax {at}")?),
-        ReadStop::LeftOut { at } => Ok(format!(in alloc; "left out {at}")?),
-        ReadStop::TooDeep { at } => Ok(format!(in alloc; "too deep {at}")?),
-    }
+fn refusal(rt: &impl Abort, alloc: Global, stop: ReadStop) -> String {
+    let (word, at) = match stop {
+        ReadStop::NoMemory => ("memory ", 0),
+        ReadStop::Syntax { at } => ("syntax ", at),
+        ReadStop::LeftOut { at } => ("left out ", at),
+        ReadStop::TooDeep { at } => ("too deep ", at),
+    };
+    counted(rt, alloc, word, u128::from(at))
+}
+
+/// Puts the place behind a tree.
+fn put_end(rt: &impl Abort, alloc: Global, out: &mut String, end: usize) {
+    put(rt, out, &counted(rt, alloc, " to ", end as u128));
+}
+
+/// An expression and the place behind it. It is let go of, since to drop a tree costs the proof more
+/// than all else.
+fn shown(rt: &impl Abort, alloc: Global, tree: Expr, end: usize) -> String {
+    let mut out = String::new(alloc);
+    show(rt, alloc, &mut out, &tree);
+    put_end(rt, alloc, &mut out, end);
+    forget(tree);
+    out
+}
+
+/// Statements and the place of the brace behind them.
+fn all_shown(rt: &impl Abort, alloc: Global, trees: &[Stmt], end: usize) -> String {
+    let mut out = String::new(alloc);
+    show_all(rt, alloc, &mut out, trees);
+    put_end(rt, alloc, &mut out, end);
+    out
 }
 
 /// The expression at a token, and the place behind it.
-fn expr_at(rt: &impl Abort, alloc: Global, text: &str, start: usize) -> Result<String, Fail> {
+fn expr_at(rt: &impl Abort, alloc: Global, text: &str, start: usize) -> String {
     assert!(rt; text.len() <= 65536);
     let bytes = text.as_bytes();
-    let Ok(list) = tokens(alloc, bytes, Words::P4) else {
-        return Err(Fail::new("a text has no tokens"));
-    };
+    let list = tokens(alloc, bytes, Words::P4).expect(rt, "tokens");
     assert!(rt; start <= list.len());
     match read_expr(alloc, bytes, &list, start) {
-        Ok((tree, end)) => {
-            let mut out = String::new(alloc);
-            show(alloc, &mut out, &tree)?;
-            out.push_str(&format!(in alloc; " to {end}")?)?;
-            Ok(out)
-        }
-        Err(stop) => refusal(alloc, stop),
+        Ok((tree, end)) => shown(rt, alloc, tree, end),
+        Err(stop) => refusal(rt, alloc, stop),
     }
 }
 
 /// The statements from a token on, and the place of the brace behind them.
-fn stmts_at(rt: &impl Abort, alloc: Global, text: &str, start: usize) -> Result<String, Fail> {
+fn stmts_at(rt: &impl Abort, alloc: Global, text: &str, start: usize) -> String {
     assert!(rt; text.len() <= 65536);
     let bytes = text.as_bytes();
-    let Ok(list) = tokens(alloc, bytes, Words::P4) else {
-        return Err(Fail::new("a text has no tokens"));
-    };
+    let list = tokens(alloc, bytes, Words::P4).expect(rt, "tokens");
     assert!(rt; start <= list.len());
     match read_stmts(alloc, bytes, &list, start) {
-        Ok((trees, end)) => {
-            let mut out = String::new(alloc);
-            show_all(alloc, &mut out, &trees)?;
-            out.push_str(&format!(in alloc; " to {end}")?)?;
-            Ok(out)
-        }
-        Err(stop) => refusal(alloc, stop),
+        Ok((trees, end)) => all_shown(rt, alloc, &trees, end),
+        Err(stop) => refusal(rt, alloc, stop),
     }
 }
 
 /// The expression at a token of the text has this answer.
-fn expr_is(
-    rt: &impl Abort,
-    alloc: Global,
-    text: &str,
-    start: usize,
-    wanted: &str,
-) -> Result<(), Fail> {
-    let found = expr_at(rt, alloc, text, start)?;
-    assert_eq!(rt; found.as_str(), wanted, "{text}");
-    Ok(())
+fn expr_is(rt: &impl Abort, alloc: Global, text: &str, start: usize, wanted: &str) {
+    same(rt, &expr_at(rt, alloc, text, start), wanted, text);
 }
 
 /// The statements from a token of the text on have this answer.
-fn stmts_are(
-    rt: &impl Abort,
-    alloc: Global,
-    text: &str,
-    start: usize,
-    wanted: &str,
-) -> Result<(), Fail> {
-    let found = stmts_at(rt, alloc, text, start)?;
-    assert_eq!(rt; found.as_str(), wanted, "{text}");
-    Ok(())
+fn stmts_are(rt: &impl Abort, alloc: Global, text: &str, start: usize, wanted: &str) {
+    same(rt, &stmts_at(rt, alloc, text, start), wanted, text);
 }
 
 /// Each line of a table is a text and the answer at its first token, with ` =>` between.
-fn each_expr(rt: &impl Abort, alloc: Global, table: &str) -> Result<(), Fail> {
+fn each_expr(rt: &impl Abort, alloc: Global, table: &str) {
     for row in table.lines() {
-        let Some((text, wanted)) = row.split_once(" => ") else {
-            return Err(Fail::new("a row has no answer"));
-        };
-        expr_is(rt, alloc, text, 0, wanted)?;
+        let (text, wanted) = sides(rt, row, " => ");
+        expr_is(rt, alloc, text, 0, wanted);
     }
-    Ok(())
 }
 
 /// The same for statements. An answer with statements begins with a space.
-fn each_stmts(rt: &impl Abort, alloc: Global, table: &str) -> Result<(), Fail> {
+fn each_stmts(rt: &impl Abort, alloc: Global, table: &str) {
     for row in table.lines() {
-        let Some((text, wanted)) = row.split_once(" =>") else {
-            return Err(Fail::new("a row has no answer"));
-        };
-        stmts_are(rt, alloc, text, 0, wanted)?;
+        let (text, wanted) = sides(rt, row, " =>");
+        stmts_are(rt, alloc, text, 0, wanted);
     }
-    Ok(())
 }
 
 #[test]
-fn fronts(rt: HostRuntime) -> Result<(), Fail> {
+fn fronts(rt: HostRuntime) {
     each_expr(
         &rt,
         rt.alloc(),
@@ -137,22 +126,22 @@ a ? enum : _ => syntax 4
 a[256:0] => syntax 2
 ) => syntax 0
 @ => left out 0",
-    )
+    );
 }
 
 #[test]
-fn starts(rt: HostRuntime) -> Result<(), Fail> {
+fn starts(rt: HostRuntime) {
     let alloc = rt.alloc();
-    expr_is(&rt, alloc, "a = b + c;", 2, "(+@2 b@2 c@4) to 5")?;
-    expr_is(&rt, alloc, "a", 1, "syntax 1")?;
-    expr_is(&rt, alloc, "( ( ( a", 2, "syntax 4")?;
-    stmts_are(&rt, alloc, "{ { x = 1; } }", 2, " (=@2 x 1@4) to 6")?;
-    stmts_are(&rt, alloc, "} }", 1, " to 1")?;
-    stmts_are(&rt, alloc, "x = 1;", 4, "syntax 4")
+    expr_is(&rt, alloc, "a = b + c;", 2, "(+@2 b@2 c@4) to 5");
+    expr_is(&rt, alloc, "a", 1, "syntax 1");
+    expr_is(&rt, alloc, "( ( ( a", 2, "syntax 4");
+    stmts_are(&rt, alloc, "{ { x = 1; } }", 2, " (=@2 x 1@4) to 6");
+    stmts_are(&rt, alloc, "} }", 1, " to 1");
+    stmts_are(&rt, alloc, "x = 1;", 4, "syntax 4");
 }
 
 #[test]
-fn statements(rt: HostRuntime) -> Result<(), Fail> {
+fn statements(rt: HostRuntime) {
     each_stmts(
         &rt,
         rt.alloc(),
@@ -172,11 +161,11 @@ if (a) if (b) ; else ; } => (if@0 a@2 (if@4 b@6 ;@8 else ;@10)) to 11
 if (a) { if (b) ; } else x = 1; } => (if@0 a@2 ({@4 (if@5 b@7 ;@9)) else (=@12 x 1@14)) to 16
 if (a) ; else if (b) ; else { } } => (if@0 a@2 ;@4 else (if@6 b@8 ;@10 else ({@12))) to 14
 if (a) if (b) ; else ; else ; } => (if@0 a@2 (if@4 b@6 ;@8 else ;@10) else ;@12) to 13",
-    )
+    );
 }
 
 #[test]
-fn dead_statements(rt: HostRuntime) -> Result<(), Fail> {
+fn dead_statements(rt: HostRuntime) {
     each_stmts(
         &rt,
         rt.alloc(),
@@ -208,30 +197,38 @@ error e; } =>left out 0
 verify x = hash random; } =>left out 4
 @name } =>left out 0
 #include <core.p4> =>syntax 0",
-    )
+    );
+}
+
+/// A text, so often another, and an end, as statements.
+fn are_long(
+    rt: &impl Abort,
+    alloc: Global,
+    front: &str,
+    text: &str,
+    count: usize,
+    end: &str,
+    wanted: &str,
+) {
+    let behind = repeated(rt, alloc, text, count, end);
+    let all = repeated(rt, alloc, front, 1, &behind);
+    stmts_are(rt, alloc, &all, 0, wanted);
 }
 
 #[test]
-fn limits(rt: HostRuntime) -> Result<(), Fail> {
+fn limits(rt: HostRuntime) {
     let alloc = rt.alloc();
-    let ifs = repeated(alloc, "if (a) ", 300, "; }")?;
-    stmts_are(&rt, alloc, ifs.as_str(), 0, "too deep 1020")?;
-    let blocks = repeated(alloc, "{ ", 300, "")?;
-    stmts_are(&rt, alloc, blocks.as_str(), 0, "too deep 256")?;
-    let operands = repeated(
-        alloc,
-        "x = a ",
-        1,
-        repeated(alloc, "+ a ", 300, "; }")?.as_str(),
-    )?;
-    stmts_are(&rt, alloc, operands.as_str(), 0, "too deep 511")?;
-    let brackets = repeated(alloc, "f", 1, repeated(alloc, "(", 300, "")?.as_str())?;
-    stmts_are(&rt, alloc, brackets.as_str(), 0, "too deep 257")?;
-    let many = repeated(alloc, ";", 60_000, "}")?;
+    are_long(&rt, alloc, "", "if (a) ", 300, "; }", "too deep 1020");
+    are_long(&rt, alloc, "", "{ ", 300, "", "too deep 256");
+    are_long(&rt, alloc, "x = a ", "+ a ", 300, "; }", "too deep 511");
+    are_long(&rt, alloc, "f", "(", 300, "", "too deep 257");
+}
+
+/// So many statements are read.
+#[test]
+fn many(rt: HostRuntime) {
+    let many = repeated(&rt, rt.alloc(), ";", 60_000, "}");
     assert!(rt; many.len() <= 65536);
-    let Ok(list) = tokens(alloc, many.as_bytes(), Words::P4) else {
-        return Err(Fail::new("a text has no tokens"));
-    };
-    assert!(rt; read_stmts(alloc, many.as_bytes(), &list, 0).is_ok());
-    Ok(())
+    let list = tokens(rt.alloc(), many.as_bytes(), Words::P4).expect(&rt, "tokens");
+    assert!(rt; read_stmts(rt.alloc(), many.as_bytes(), &list, 0).is_ok());
 }

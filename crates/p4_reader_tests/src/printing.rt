@@ -1,17 +1,19 @@
-//! Programs that are read and printed: their words, worked by hand; and their copies.
+//! Programs that are read, printed and copied: their words, worked by hand.
 
-use crate::programs::{read, spells};
+use crate::programs::{sample, spells};
+use crate::show::{put, same, sides};
 use p4_printer::print_program;
-use std::alloc::{AllocError, Global};
+use std::alloc::Global;
+use std::mem::forget;
 use std::process::Abort;
-use std::test::Fail;
 
 /// The text of a program of one control that does one statement.
-fn one_statement(alloc: Global, statement: &str) -> Result<String, AllocError> {
-    let mut text = String::from_str(alloc, "control c ( in h k ) { apply { ")?;
-    text.push_str(statement)?;
-    text.push_str(" } } V1Switch ( c ( ) ) main ;")?;
-    Ok(text)
+fn one_statement(rt: &impl Abort, alloc: Global, statement: &str) -> String {
+    let mut text = String::new(alloc);
+    put(rt, &mut text, "control c ( in h k ) { apply { ");
+    put(rt, &mut text, statement);
+    put(rt, &mut text, " } } V1Switch ( c ( ) ) main ;");
+    text
 }
 
 /// Statements, and their words where they are others.
@@ -38,16 +40,17 @@ digest(32w7, {x, hdr.h.a}); => digest ( 32w7 , { x , hdr . h . a } ) ;
 t.apply(); => t . apply ( ) ;";
 
 #[test]
-fn statements(rt: HostRuntime) -> Result<(), Fail> {
-    let alloc = rt.alloc();
+fn statements(rt: HostRuntime) {
     for row in STATEMENTS.lines() {
-        let Some((statement, wanted)) = row.split_once(" => ") else {
-            return Err(Fail::new("a row has no words"));
-        };
-        let text = one_statement(alloc, statement)?;
-        spells(&rt, alloc, &text, &one_statement(alloc, wanted)?)?;
+        let (statement, wanted) = sides(&rt, row, " => ");
+        let text = one_statement(&rt, rt.alloc(), statement);
+        spells(
+            &rt,
+            rt.alloc(),
+            &text,
+            &one_statement(&rt, rt.alloc(), wanted),
+        );
     }
-    Ok(())
 }
 
 /// Each declaration, as it is printed.
@@ -75,8 +78,8 @@ bool seen = false ; apply { ; exit ; } }
 V1Switch ( P ( ) , C ( ) ) main ;";
 
 #[test]
-fn declarations(rt: HostRuntime) -> Result<(), Fail> {
-    spells(&rt, rt.alloc(), DECLARATIONS, DECLARATIONS)
+fn declarations(rt: HostRuntime) {
+    spells(&rt, rt.alloc(), DECLARATIONS, DECLARATIONS);
 }
 
 /// These declarations as they are laid out: each form of declaration, statement and expression.
@@ -155,36 +158,9 @@ V1Switch(P(), C()) main;
 ";
 
 #[test]
-fn laid_out(rt: HostRuntime) -> Result<(), Fail> {
-    let alloc = rt.alloc();
-    let program = match read(&rt, alloc, LAID_OUT.as_bytes()) {
-        Ok(program) => program,
-        Err(_) => return Err(Fail::new("a sample is refused")),
-    };
-    assert_eq!(rt; print_program(alloc, &program)?.as_str(), LAID_OUT);
-    Ok(())
-}
-
-/// A copy of a text's program is shown as the program is, places and all.
-fn is_copied(rt: &impl Abort, alloc: Global, text: &str) -> Result<(), Fail> {
-    let program = match read(rt, alloc, text.as_bytes()) {
-        Ok(program) => program,
-        Err(_) => return Err(Fail::new("a program is refused")),
-    };
-    let copy = program.copy(alloc)?;
-    let shown = format!(in alloc; "{copy:?}")?;
-    assert!(rt; shown == format!(in alloc; "{program:?}")?);
-    Ok(())
-}
-
-#[test]
-fn programs_are_copied(rt: HostRuntime) -> Result<(), Fail> {
-    let alloc = rt.alloc();
-    is_copied(&rt, alloc, DECLARATIONS)?;
-    for row in STATEMENTS.lines() {
-        if let Some((statement, _)) = row.split_once(" => ") {
-            is_copied(&rt, alloc, &one_statement(alloc, statement)?)?;
-        }
-    }
-    Ok(())
+fn laid_out(rt: HostRuntime) {
+    let program = sample(&rt, rt.alloc(), LAID_OUT);
+    let printed = print_program(rt.alloc(), &program).expect(&rt, "memory");
+    forget(program);
+    same(&rt, &printed, LAID_OUT, "laid out");
 }
