@@ -4,8 +4,8 @@ use p4_decls::read_program;
 use p4_tree::Program;
 use p4_types::{ProgramTypeFault, TypedProgram, check_program};
 use std::alloc::Global;
+use std::mem::forget;
 use std::process::Abort;
-use std::test::Fail;
 
 /// A program that breaks no rule. A register at top level stands between those of two controls, and
 /// two controls have a table, a register and an action of one name.
@@ -54,23 +54,21 @@ control D(packet_out packet, in headers hdr) { apply { packet.emit(hdr.e); packe
 V1Switch(P(), V(), I(), E(), K(), D()) main;
 ";
 
-/// The program that a text spells.
-fn read(alloc: Global, text: &str) -> Result<Program, Fail> {
-    if text.len() > 16777216 {
-        return Err(Fail::new("a text is too long"));
-    }
-    match read_program(alloc, text.as_bytes()) {
-        Ok(program) => Ok(program),
-        Err(_) => Err(Fail::new("a text spells no program")),
-    }
+/// The program that a text spells. What is read is let go of, since to drop a program costs the proof
+/// more than all else.
+fn read(rt: &impl Abort, alloc: Global, text: &str) -> Program {
+    assert!(rt; text.len() <= 65536);
+    read_program(alloc, text.as_bytes()).expect(rt, "a program")
 }
 
 /// The program above.
-fn typed(alloc: Global) -> Result<TypedProgram, Fail> {
-    match check_program(alloc, read(alloc, TEXT)?) {
-        Ok(typed) => Ok(typed),
-        Err(_) => Err(Fail::new("the program is not well typed")),
-    }
+fn typed(rt: &impl Abort, alloc: Global) -> TypedProgram {
+    check_program(alloc, read(rt, alloc, TEXT)).expect(rt, "a well-typed program")
+}
+
+/// Its copy, which outlives it.
+fn copied(rt: &impl Abort, alloc: Global) -> TypedProgram {
+    typed(rt, alloc).copy(alloc).expect(rt, "memory")
 }
 
 fn wide(number: Option<u32>) -> Option<u128> {
@@ -91,19 +89,24 @@ fn of_name(program: &TypedProgram, call: &str, name: &str) -> Option<u128> {
     }
 }
 
-/// Each row is what is asked, a name, and the answer or `-`.
-fn each(rt: &impl Abort, program: &TypedProgram, table: &str) -> Result<(), Fail> {
-    for row in table.lines() {
-        let (call, rest) = row.split_once(" ").unwrap_or((row, ""));
-        let (name, wanted) = rest.rsplit_once(" ").unwrap_or((rest, ""));
-        let given = of_name(program, call, name);
-        if wanted == "-" {
-            assert!(rt; given.is_none(), "{row}");
-        } else {
-            assert_eq!(rt; given, Some(wanted.parse()?), "{row}");
+/// Whether this is the wanted answer, a number or `-`.
+fn is_answer(rt: &impl Abort, given: Option<u128>, wanted: &str) -> bool {
+    match given {
+        Some(number) => {
+            wanted != "-" && number == u128::from_str_radix(wanted, 10).expect(rt, "a number")
         }
+        None => wanted == "-",
     }
-    Ok(())
+}
+
+/// Each row is what is asked, a name, and the answer or `-`.
+fn each(rt: &impl Abort, program: &TypedProgram, table: &str) {
+    for row in table.lines() {
+        let (call, rest) = row.split_once(" ").expect(rt, "a name");
+        let (name, wanted) = rest.rsplit_once(" ").expect(rt, "an answer");
+        let given = of_name(program, call, name);
+        assert!(rt; is_answer(rt, given, wanted), "{row}");
+    }
 }
 
 const ANSWERS: &str = "\
@@ -149,45 +152,45 @@ constant kind_t -
 /// The bytes of headers are 3 and 14 and 3. Ingress gives a digest in `go` by `t`, and then two in the
 /// branch without `u`; egress gives one. The cells are 16, 4, 3 and 2.
 fn counts(rt: &impl Abort, program: &TypedProgram) {
-    assert_eq!(rt; program.header_bytes(), 20);
-    assert_eq!(rt; program.digest_bound(), 4);
-    assert_eq!(rt; program.cells(), 25);
-    assert_eq!(rt; program.program().tops.len(), 15);
+    assert!(rt; program.header_bytes() == 20);
+    assert!(rt; program.digest_bound() == 4);
+    assert!(rt; program.cells() == 25);
+    assert!(rt; program.program().tops.len() == 15);
+}
+
+/// All of it.
+fn answers_all(rt: &impl Abort, program: TypedProgram) {
+    each(rt, &program, ANSWERS);
+    counts(rt, &program);
+    forget(program);
 }
 
 #[test]
-fn answers(rt: HostRuntime) -> Result<(), Fail> {
-    let program = typed(rt.alloc())?;
-    each(&rt, &program, ANSWERS)?;
-    counts(&rt, &program);
-    Ok(())
-}
-
-#[test]
-fn copies(rt: HostRuntime) -> Result<(), Fail> {
-    let program = typed(rt.alloc())?.copy(rt.alloc())?;
-    each(&rt, &program, ANSWERS)?;
-    counts(&rt, &program);
-    Ok(())
+fn answers(rt: HostRuntime) {
+    answers_all(&rt, typed(&rt, rt.alloc()));
+    answers_all(&rt, copied(&rt, rt.alloc()));
 }
 
 /// A text whose words `old` are others.
-fn changed(alloc: Global, old: &str, new: &str) -> Result<String, Fail> {
-    let Some((front, back)) = TEXT.split_once(old) else {
-        return Err(Fail::new("the program lacks the old words"));
-    };
-    let mut text = String::from_str(alloc, front)?;
-    text.push_str(new)?;
-    text.push_str(back)?;
-    Ok(text)
+fn changed(rt: &impl Abort, alloc: Global, old: &str, new: &str) -> String {
+    let (front, back) = TEXT.split_once(old).expect(rt, "the old words");
+    let mut text = String::from_str(alloc, front).expect(rt, "memory");
+    text.push_str(new).expect(rt, "memory");
+    text.push_str(back).expect(rt, "memory");
+    text
 }
 
 /// The broken rule that is answered with its place, or `fine`.
-fn refusal(alloc: Global, text: &str) -> Result<String, Fail> {
-    match check_program(alloc, read(alloc, text)?) {
-        Ok(_) => Ok(String::from_str(alloc, "fine")?),
-        Err(ProgramTypeFault::Type_ { at, rule }) => Ok(format!(in alloc; "{rule:?} {at}")?),
-        Err(ProgramTypeFault::NoMemory) => Err(Fail::new("memory is wanting")),
+fn refusal(rt: &impl Abort, alloc: Global, text: &str) -> String {
+    match check_program(alloc, read(rt, alloc, text)) {
+        Ok(program) => {
+            forget(program);
+            String::from_str(alloc, "fine").expect(rt, "memory")
+        }
+        Err(ProgramTypeFault::Type_ { at, rule }) => {
+            format!(in alloc; "{rule:?} {at}").expect(rt, "memory")
+        }
+        Err(ProgramTypeFault::NoMemory) => panic!(rt; "memory is wanting"),
     }
 }
 
@@ -201,15 +204,17 @@ NoSuchName 22 | ONE + 32 | TWO + 32
 BadSize 26 | bit<16> kind_t | bit<129> kind_t
 ";
 
+/// A row is as it says.
+fn is_refused(rt: &impl Abort, alloc: Global, row: &str) {
+    let (wanted, words) = row.split_once(" | ").expect(rt, "old words");
+    let (old, new) = words.split_once(" | ").expect(rt, "new words");
+    let given = refusal(rt, alloc, &changed(rt, alloc, old, new));
+    assert!(rt; given.as_str() == wanted, "{row}");
+}
+
 #[test]
-fn changes(rt: HostRuntime) -> Result<(), Fail> {
-    let alloc = rt.alloc();
+fn changes(rt: HostRuntime) {
     for row in CHANGES.lines() {
-        let (wanted, words) = row.split_once(" | ").unwrap_or((row, ""));
-        let (old, new) = words.split_once(" | ").unwrap_or((words, ""));
-        let text = changed(alloc, old, new)?;
-        let given = refusal(alloc, text.as_str())?;
-        assert_eq!(rt; given.as_str(), wanted, "{row}");
+        is_refused(&rt, rt.alloc(), row);
     }
-    Ok(())
 }
