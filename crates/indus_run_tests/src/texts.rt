@@ -4,66 +4,103 @@ use bit_values::Bits;
 use indus_reader::read_property;
 use indus_tree::Property;
 use indus_values::{HopResult, SensorState, TeleState};
-use std::alloc::{AllocError, Global};
-use std::test::Fail;
+use std::alloc::Global;
+use std::process::Abort;
 
-/// The two sides of a row, which has ` => ` between.
-pub fn sides(row: &str) -> Result<(&str, &str), Fail> {
-    match row.split_once(" => ") {
-        Some(sides) => Ok(sides),
-        None => Err(Fail::new("a row has one side")),
-    }
+/// The answer of a row is the one that is wanted.
+pub fn same(rt: &impl Abort, found: &str, wanted: &str, row: &str) {
+    assert_eq!(rt; found, wanted, "{row}");
 }
 
-/// The property that a text spells.
-pub fn read(alloc: Global, text: &str) -> Result<Property, Fail> {
-    if text.len() > 65536 {
-        return Err(Fail::new("a property is too long"));
-    }
-    Ok(read_property(alloc, text.as_bytes())?)
+/// The two sides of a row, which has ` => ` between.
+pub fn sides<'a>(rt: &impl Abort, row: &'a str) -> (&'a str, &'a str) {
+    row.split_once(" => ").expect(rt, "a row has one side")
+}
+
+/// The property that a text spells. It is let go of, since to drop a tree costs the proof more than all
+/// else.
+pub fn read(rt: &impl Abort, alloc: Global, text: &str) -> Property {
+    assert!(rt; text.len() <= 65536);
+    read_property(alloc, text.as_bytes()).expect(rt, "a property")
+}
+
+/// Puts a text.
+pub fn put(rt: &impl Abort, out: &mut String, text: &str) {
+    out.push_str(text).expect(rt, "memory");
+}
+
+/// `8w5`
+fn put_word(rt: &impl Abort, alloc: Global, out: &mut String, word: Bits) {
+    let (width, value) = (word.width, word.value);
+    put(
+        rt,
+        out,
+        &format!(in alloc; "{width}w{value}").expect(rt, "memory"),
+    );
 }
 
 /// `8w5 9w6`
-pub fn show_words(alloc: Global, words: &[Bits]) -> Result<String, AllocError> {
-    let mut line = String::new(alloc);
+fn put_words(rt: &impl Abort, alloc: Global, out: &mut String, words: &[Bits]) {
+    let mut space = "";
     for word in words {
-        if !line.is_empty() {
-            line.push(' ')?;
-        }
-        let (width, value) = (word.width, word.value);
-        line.push_str(format!(in alloc; "{width}w{value}")?.as_str())?;
+        put(rt, out, space);
+        put_word(rt, alloc, out, *word);
+        space = " ";
     }
-    Ok(line)
 }
 
 /// `[8w5] [9w6 9w7] `
-fn show_lists(alloc: Global, lists: &[Vec<Bits>]) -> Result<String, AllocError> {
-    let mut line = String::new(alloc);
+fn put_lists(rt: &impl Abort, alloc: Global, out: &mut String, lists: &[Vec<Bits>]) {
     for list in lists {
-        let words = show_words(alloc, list)?;
-        line.push_str(format!(in alloc; "[{words}] ")?.as_str())?;
+        put(rt, out, "[");
+        put_words(rt, alloc, out, list);
+        put(rt, out, "] ");
     }
-    Ok(line)
+}
+
+/// ` #0(8w5 9w6)`
+fn put_report(rt: &impl Abort, alloc: Global, out: &mut String, number: u16, values: &[Bits]) {
+    put(
+        rt,
+        out,
+        &format!(in alloc; " #{number}(").expect(rt, "memory"),
+    );
+    put_words(rt, alloc, out, values);
+    put(rt, out, ")");
+}
+
+/// A word.
+pub fn show_word(rt: &impl Abort, alloc: Global, word: Bits) -> String {
+    let mut line = String::new(alloc);
+    put_word(rt, alloc, &mut line, word);
+    line
 }
 
 /// What the packet's variables hold, what the sensors hold, and what came of a hop: `reject`, and
 /// each report with its number.
 pub fn show_state(
+    rt: &impl Abort,
     alloc: Global,
     tele: &TeleState,
     sensors: &SensorState,
     hop: &HopResult,
-) -> Result<String, AllocError> {
-    let variables = show_lists(alloc, &tele.items)?;
-    let cells = show_lists(alloc, &sensors.cells)?;
-    let mut line = format!(in alloc; "{variables}/ {cells}/")?;
+) -> String {
+    let mut line = String::new(alloc);
+    put_lists(rt, alloc, &mut line, &tele.items);
+    put(rt, &mut line, "/ ");
+    put_lists(rt, alloc, &mut line, &sensors.cells);
+    put(rt, &mut line, "/");
     if hop.rejected {
-        line.push_str(" reject")?;
+        put(rt, &mut line, " reject");
     }
     for report in &hop.reports {
-        let number = report.number;
-        let values = show_words(alloc, report.values.as_slice())?;
-        line.push_str(format!(in alloc; " #{number}({values})")?.as_str())?;
+        put_report(
+            rt,
+            alloc,
+            &mut line,
+            report.number,
+            report.values.as_slice(),
+        );
     }
-    Ok(line)
+    line
 }
