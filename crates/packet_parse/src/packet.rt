@@ -82,10 +82,11 @@ fn run_on(alloc: Global, p: &Program, s: &mut Fields, frame: &[u8]) -> Result<us
 {
     let top = Layer::outside(alloc)?;
     let layer = parser_layer(alloc, &top, parser_in(p))?;
+    let sc = layer.within(&top);
     let parts = parts_of(alloc, p)?;
-    let mut store = store_under(alloc, &layer.within(&top), s)?;
+    let mut store = store_under(alloc, &sc, s)?;
     let at = parse_from(alloc, &parts, frame, &mut store)?;
-    show(alloc, &layer.within(&top), &store, s)?;
+    show(alloc, &sc, &store, s)?;
     Ok(at)
 }
 
