@@ -16,11 +16,13 @@ mod expressions;
 mod fault;
 mod nodes;
 mod places;
+mod state;
 mod term;
 mod typed;
 
 pub use expressions::{term_in_place, typed_term};
 pub use fault::Fault;
 pub use places::{Place, Places, add_place, header_number, no_places, place_at};
-pub use term::{Term, eval, is_valid, number_in};
+pub use state::State;
+pub use term::{Term, eval, is_valid, number_in, put_number};
 pub use typed::{Typed, constant, mask};

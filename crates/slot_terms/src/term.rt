@@ -1,6 +1,6 @@
 //! Terms, and their values.
 
-ghost use Rattle.std.specs.Prelude.{◌≡◌};
+ghost use Rattle.std.specs.Prelude.{◌≡◌, slice_set};
 ghost use Rattle.slot_terms.specs.Terms.{eval, term_of, combined, shifted_right, shifted_left, joined, truth_number, number_in, valid_at, field_at};
 
 use bit_values::Operator;
@@ -38,6 +38,16 @@ pub fn number_in(slots: &[u128], slot: u32) -> u128
 {
     let slot = slot as usize;
     if slot < slots.len() { slots[slot] } else { 0 }
+}
+
+/// A slot gets a number; where there is no such slot nothing is done.
+pub fn put_number(slots: &mut [u128], slot: u32, number: u128)
+    ensures { slots.new ≡ slice_set slots.old slot number }
+{
+    let slot = slot as usize;
+    if slot < slots.len() {
+        slots[slot] = number;
+    }
 }
 
 /// Whether the header of a number is valid; where there is no such header it is not.
