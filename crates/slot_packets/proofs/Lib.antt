@@ -1,0 +1,4 @@
+pub mod ByteLemmas
+pub mod HeaderLemmas
+pub mod ValidityLemmas
+pub mod QueuedLemmas
