@@ -33,7 +33,7 @@ fn with_bits(value: u128, bits: u8, low: u8) -> u128
 pub fn take_number(frame: &[u8], at: usize, width: u8) -> u128
     requires wide { 1 ≤ width }
     requires narrow { width ≤ 128 }
-    requires short { length frame.now ≤ 65791 }
+    requires short { length frame.now < 2 ^ 29 }
     requires within { at + width ≤ 8 * length frame.now }
     ensures { result ≡ number_at frame.now at width }
 {
