@@ -1,0 +1,6 @@
+pub mod ByteLemmas
+pub mod PartLemmas
+pub mod HeaderLemmas
+pub mod ValidityLemmas
+pub mod QueuedLemmas
+mod Rows

@@ -1,0 +1,9 @@
+pub mod TreeLemmas
+pub mod StoreLemmas
+pub mod StatementLemmas
+pub mod VarLemmas
+pub mod FlowLemmas
+pub mod CallLemmas
+pub mod ActionLemmas
+pub mod TableLemmas
+mod Rows
