@@ -1,12 +1,12 @@
 //! The registers of sensors that are declared in texts, and what their cells hold.
 
-use crate::texts::{sides, typed};
+use crate::texts::{put, put_count, same, sides, typed};
 use bit_values::Bits;
-use p4_tree::PTy;
+use p4_tree::{PTy, Register};
 use sensor_registers::{cell_value, register_for};
 use std::alloc::Global;
+use std::mem::forget;
 use std::process::Abort;
-use std::test::Fail;
 
 /// The bits of a cell; 0 where cells hold no numbers.
 fn bits(ty: &PTy) -> u8 {
@@ -16,16 +16,27 @@ fn bits(ty: &PTy) -> u8 {
     }
 }
 
-/// The name of the first sensor's register, the bits of a cell and the number of cells.
-fn register(alloc: Global, declaration: &str) -> Result<String, Fail> {
-    let text = format!(in alloc; "{declaration} {{}} {{}} {{}}")?;
-    let property = typed(alloc, text.as_str())?;
-    let Some(sensor) = property.property().decls.first() else {
-        return Err(Fail::new("a text declares nothing"));
-    };
-    let register = register_for(alloc, sensor)?;
-    let (name, bits, count) = (register.name.as_str(), bits(&register.ty), register.count);
-    Ok(format!(in alloc; "{name} {bits} {count}")?)
+/// The name of a register, the bits of a cell and the number of cells.
+fn shown(rt: &impl Abort, alloc: Global, register: &Register) -> String {
+    let mut line = String::new(alloc);
+    put(rt, &mut line, register.name.as_str());
+    let width = u128::from(bits(&register.ty));
+    put_count(rt, alloc, &mut line, " ", width, " ");
+    put_count(rt, alloc, &mut line, "", register.count, "");
+    line
+}
+
+/// The register of the sensor that a text declares.
+fn register(rt: &impl Abort, alloc: Global, declaration: &str) -> String {
+    let mut text = String::new(alloc);
+    put(rt, &mut text, declaration);
+    put(rt, &mut text, " {} {} {}");
+    let property = typed(rt, alloc, &text);
+    let sensor = property.property().decls.first().expect(rt, "a sensor");
+    let register = register_for(alloc, sensor).expect(rt, "memory");
+    let line = shown(rt, alloc, &register);
+    forget(property);
+    line
 }
 
 const REGISTERS: &str = "\
@@ -37,13 +48,17 @@ sensor bool[3] marks = true; => hydra_s_marks 1 3
 ";
 
 #[test]
-fn registers(rt: HostRuntime) -> Result<(), Fail> {
+fn registers(rt: HostRuntime) {
     for row in REGISTERS.lines() {
-        let (declaration, wanted) = sides(row)?;
-        let given = register(rt.alloc(), declaration)?;
-        assert_eq!(rt; given.as_str(), wanted, "{row}");
+        let (declaration, wanted) = sides(&rt, row);
+        let found = register(&rt, rt.alloc(), declaration);
+        same(&rt, &found, wanted, row);
     }
-    Ok(())
+}
+
+/// A number of 8 bits.
+fn byte(rt: &impl Abort, digits: &str) -> u8 {
+    u8::from_str_radix(digits, 10).expect(rt, "a number")
 }
 
 /// A cell's number in 8 bits where a sensor began with `start` and has this value.
@@ -63,16 +78,17 @@ const CELLS: &str = "\
 255 1 => 254
 ";
 
+/// A row is as it says.
+fn is_cell(rt: &impl Abort, row: &str) {
+    let (words, wanted) = sides(rt, row);
+    let (start, value) = words.split_once(" ").expect(rt, "a value");
+    let found = cell(byte(rt, start), byte(rt, value));
+    assert!(rt; found == u128::from(byte(rt, wanted)), "{row}");
+}
+
 #[test]
-fn cells(rt: HostRuntime) -> Result<(), Fail> {
+fn cells(rt: HostRuntime) {
     for row in CELLS.lines() {
-        let (words, wanted) = sides(row)?;
-        let (start, value) = words.split_once(" ").unwrap_or((words, ""));
-        assert_eq!(rt;
-            cell(start.parse()?, value.parse()?),
-            wanted.parse()?,
-            "{row}"
-        );
+        is_cell(&rt, row);
     }
-    Ok(())
 }

@@ -4,10 +4,10 @@
 ghost use Rattle.std.specs.Prelude.{◌≡◌, ◌+◌, length, IfOk};
 ghost use Rattle.tele_layout.specs.Layouts.{IsLayout};
 
-use crate::texts::{show_lists, sides, typed};
+use crate::texts::{put, put_count, put_lists, same, sides, typed};
 use std::alloc::{AllocError, Global};
+use std::mem::forget;
 use std::process::Abort;
-use std::test::Fail;
 use tele_layout::{Layout, LayoutFault, layout, read_tele, write_tele};
 
 /// So many bytes, none of which telemetry begins with.
@@ -22,54 +22,57 @@ fn blank(alloc: Global, count: usize) -> Result<Vec<u8>, AllocError>
 }
 
 /// What is read from the bytes, and whether it is written as the same.
-fn read_again(alloc: Global, l: &Layout, bytes: &[u8]) -> Result<String, Fail>
+fn put_again(rt: &impl Abort, alloc: Global, out: &mut String, l: &Layout, bytes: &[u8])
     requires { IsLayout l.now }
 {
-    if bytes.len() != l.bytes as usize {
-        return Err(Fail::new("a row has more bytes or fewer"));
+    assert!(rt; bytes.len() == l.bytes as usize);
+    match read_tele(alloc, l, bytes).expect(rt, "memory") {
+        None => put(rt, out, "none"),
+        Some(state) => {
+            let mut written = blank(alloc, l.bytes as usize).expect(rt, "memory");
+            write_tele(l, &state, &mut written);
+            put_lists(rt, alloc, out, &state.items);
+            put(
+                rt,
+                out,
+                if written.as_slice() == bytes {
+                    "back"
+                } else {
+                    "other"
+                },
+            );
+        }
     }
-    let Some(state) = read_tele(alloc, l, bytes)? else {
-        return Ok(format!(in alloc; "none")?);
-    };
-    let mut written = blank(alloc, l.bytes as usize)?;
-    write_tele(l, &state, &mut written);
-    let back = if written.as_slice() == bytes {
-        "back"
-    } else {
-        "other"
-    };
-    let lists = show_lists(alloc, &state.items)?;
-    Ok(format!(in alloc; "{lists}{back}")?)
 }
 
 /// What comes of a property, a room and hexadecimal digits.
-fn answer_of(alloc: Global, text: &str, room: &str, digits: &str) -> Result<String, Fail> {
-    let p = typed(alloc, text)?;
-    let Ok(room) = room.parse::<u16>() else {
-        return Err(Fail::new("a room is no number"));
-    };
+fn answer_of(rt: &impl Abort, alloc: Global, text: &str, room: &str, digits: &str) -> String {
+    let p = typed(rt, alloc, text);
+    let room = u16::from_str_radix(room, 10).expect(rt, "a room");
+    let mut out = String::new(alloc);
     match layout(alloc, &p, room) {
         Ok(l) => {
-            let Ok(bytes) = hex::decode(alloc, digits) else {
-                return Err(Fail::new("no hexadecimal digits"));
-            };
-            read_again(alloc, &l, &bytes)
+            let bytes = hex::decode(alloc, digits).expect(rt, "hexadecimal digits");
+            put_again(rt, alloc, &mut out, &l, &bytes);
         }
-        Err(LayoutFault::RoomShort { need, room }) => Ok(format!(in alloc; "short {need} {room}")?),
-        Err(LayoutFault::NoMemory) => Err(Fail::new("memory is wanting")),
+        Err(LayoutFault::RoomShort { need, room }) => {
+            put_count(rt, alloc, &mut out, "short ", u128::from(need), " ");
+            put_count(rt, alloc, &mut out, "", u128::from(room), "");
+        }
+        Err(LayoutFault::NoMemory) => panic!(rt; "memory is wanting"),
     }
+    forget(p);
+    out
 }
 
 /// Each row is a property, a room, digits and what comes of them.
-fn agree(rt: &impl Abort, alloc: Global, table: &str) -> Result<(), Fail> {
+fn agree(rt: &impl Abort, alloc: Global, table: &str) {
     for row in table.lines() {
-        let (text, rest) = sides(row)?;
-        let (room, rest) = sides(rest)?;
-        let (digits, wanted) = sides(rest)?;
-        let found = answer_of(alloc, text, room, digits)?;
-        assert_eq!(rt; found.as_str(), wanted, "{row}");
+        let (text, rest) = sides(rt, row);
+        let (room, rest) = sides(rt, rest);
+        let (digits, wanted) = sides(rt, rest);
+        same(rt, &answer_of(rt, alloc, text, room, digits), wanted, row);
     }
-    Ok(())
 }
 
 /// A number, a list and a truth value: 61 bits.
@@ -85,8 +88,8 @@ tele bit<8> tenant; tele bit<9>[4] ports; tele bool seen; {} {} {} => 8 => 48ff0
 tele bit<8> tenant; tele bit<9>[4] ports; tele bool seen; {} {} {} => 8 => 48ff04fffffffff8 => [8w255] [9w511 9w511 9w511 9w511] [1w1] back";
 
 #[test]
-fn a_number_a_list_and_a_truth_value(rt: HostRuntime) -> Result<(), Fail> {
-    agree(&rt, rt.alloc(), MIXED)
+fn a_number_a_list_and_a_truth_value(rt: HostRuntime) {
+    agree(&rt, rt.alloc(), MIXED);
 }
 
 /// No variable, the widest one, lists of truth values, other kinds of variables, the second edition.
@@ -107,6 +110,6 @@ sensor bit<8> s; tele bit<3> n; control bit<8> c; {} {} {} => 2 => 48a0 => [3w5]
 tele bit<128>[255] l; {} {} {} => 256 => - => short 4082 256";
 
 #[test]
-fn other_variables(rt: HostRuntime) -> Result<(), Fail> {
-    agree(&rt, rt.alloc(), OTHERS)
+fn other_variables(rt: HostRuntime) {
+    agree(&rt, rt.alloc(), OTHERS);
 }
