@@ -14,6 +14,7 @@ use report_writer::{CellRow, Counts, ReportRow, cells_text, reports_text, summar
 use schedule_file::{ScheduleFault, TooMany, read_schedule, table_items};
 use serde_json::Value;
 use std::alloc::{AllocError, Global};
+use std::mem::forget;
 use table_faults::TableFault;
 use table_file::{load_control, load_entries, read_contents};
 
@@ -23,15 +24,15 @@ pub fn captures(alloc: Global, file: &[u8], list: &[Captured], one: &Captured) {
     let _: u32 = one.micros;
     let _: &Vec<u8> = &one.bytes;
     if never() {
-        let _: Result<Vec<Captured>, CaptureFault> = read_capture(alloc, file);
-        let _: Result<Vec<u8>, AllocError> = write_capture(alloc, list);
+        forget::<Result<Vec<Captured>, CaptureFault>>(read_capture(alloc, file));
+        forget::<Result<Vec<u8>, AllocError>>(write_capture(alloc, list));
     }
 }
 
 /// Networks.
 pub fn networks(alloc: Global, v: &Value, network: &Network, switch: u16, port: u16, name: &str) {
     if never() {
-        let _: Result<Network, NetworkFault> = read_network(alloc, v);
+        forget::<Result<Network, NetworkFault>>(read_network(alloc, v));
         let _: u16 = network.count();
         let _: &str = network.name(switch);
         let _: Option<u16> = network.number(name);
@@ -50,11 +51,11 @@ pub fn tables(
     decl: &Decl,
 ) {
     if never() {
-        let _: Result<Vec<TableState>, TableFault> = load_entries(alloc, v, program, network);
-        let _: Result<Vec<Vec<ControlValue>>, TableFault> = load_control(
+        forget::<Result<Vec<TableState>, TableFault>>(load_entries(alloc, v, program, network));
+        forget::<Result<Vec<Vec<ControlValue>>, TableFault>>(load_control(
             alloc, v, property, network,
-        );
-        let _: Result<ControlValue, TableFault> = read_contents(alloc, path, v, decl);
+        ));
+        forget::<Result<ControlValue, TableFault>>(read_contents(alloc, path, v, decl));
     }
 }
 
@@ -70,14 +71,14 @@ pub fn schedules(
     events: &[Event],
 ) {
     if never() {
-        let _: Result<Vec<Event>, ScheduleFault> = read_schedule(
+        forget::<Result<Vec<Event>, ScheduleFault>>(read_schedule(
             alloc,
             v,
             packets,
             Some(property),
             network,
-        );
-        let _: Result<(), TooMany> = table_items(property, entries, control, events);
+        ));
+        forget::<Result<(), TooMany>>(table_items(property, entries, control, events));
     }
 }
 
@@ -127,9 +128,9 @@ pub fn texts(
     let _: u32 = counts.lost;
     let _: u64 = counts.reports;
     if never() {
-        let _: Result<String, AllocError> = reports_text(alloc, reports);
-        let _: Result<String, AllocError> = cells_text(alloc, cells);
-        let _: Result<String, AllocError> = summary_text(alloc, counts);
+        forget::<Result<String, AllocError>>(reports_text(alloc, reports));
+        forget::<Result<String, AllocError>>(cells_text(alloc, cells));
+        forget::<Result<String, AllocError>>(summary_text(alloc, counts));
     }
 }
 

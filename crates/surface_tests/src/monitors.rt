@@ -17,6 +17,7 @@ use p4_types::TypedProgram;
 use path_runner::{Net, Packet, RunLog, Sent, Told};
 use sensor_registers::{cell_value, register_for};
 use std::alloc::{AllocError, Global};
+use std::mem::forget;
 use tele_layout::{Layout, LayoutFault, Slot, layout, read_tele, write_tele};
 
 /// The bytes of telemetry.
@@ -36,9 +37,9 @@ pub fn telemetry(
     let _: u16 = l.bytes;
     let _: &Vec<Slot> = &l.slots;
     if never() {
-        let _: Result<Layout, LayoutFault> = layout(alloc, p, room);
+        forget::<Result<Layout, LayoutFault>>(layout(alloc, p, room));
         write_tele(l, tele, buf);
-        let _: Result<Option<TeleState>, AllocError> = read_tele(alloc, l, buf);
+        forget::<Result<Option<TeleState>, AllocError>>(read_tele(alloc, l, buf));
     }
 }
 
@@ -46,17 +47,17 @@ pub fn telemetry(
 pub fn tables(alloc: Global, d: &Decl, number: u32, v: &ControlValue, map: &ControlMap) {
     let _: &Vec<(Name, Name, u32)> = &map.tables;
     if never() {
-        let _: Result<(Table, Action), AllocError> = table_for(alloc, d, number);
-        let _: Result<(Vec<Entry>, Option<(u32, Vec<Bits>)>), AllocError> = contents_for(
+        forget::<Result<(Table, Action), AllocError>>(table_for(alloc, d, number));
+        forget::<Result<(Vec<Entry>, Option<(u32, Vec<Bits>)>), AllocError>>(contents_for(
             alloc, v, number,
-        );
+        ));
     }
 }
 
 /// The registers of sensors.
 pub fn registers(alloc: Global, d: &Decl, start: Bits, value: Bits) {
     if never() {
-        let _: Result<Register, AllocError> = register_for(alloc, d);
+        forget::<Result<Register, AllocError>>(register_for(alloc, d));
         let _: Bits = cell_value(start, value);
     }
 }
@@ -67,8 +68,8 @@ pub fn lowered(alloc: Global, p: &TypedProperty, flat: &FlatProperty, program: &
     let _: &Vec<Stmt> = &flat.tele;
     let _: &Vec<Stmt> = &flat.check;
     if never() {
-        let _: Result<FlatProperty, LowerFault> = flatten(alloc, p);
-        let _: Result<TypedProgram, AllocError> = without_exits(alloc, program);
+        forget::<Result<FlatProperty, LowerFault>>(flatten(alloc, p));
+        forget::<Result<TypedProgram, AllocError>>(without_exits(alloc, program));
     }
 }
 
@@ -101,9 +102,9 @@ pub fn started<P: Pass + Drop>(
     limit: u32,
 ) {
     if never() {
-        let _: Result<Net<P>, AllocError> = Net::new(
+        forget::<Result<Net<P>, AllocError>>(Net::new(
             alloc, switches, bufs, network, packets, map, hops, limit,
-        );
+        ));
     }
 }
 
@@ -111,8 +112,8 @@ pub fn started<P: Pass + Drop>(
 pub fn ended<P: Pass + Drop>(alloc: Global, net: Net<P>, event: &Event) {
     let mut net = net;
     if never() {
-        let _: Result<(), AllocError> = net.step(alloc, event);
-        let _: Result<RunLog<P>, AllocError> = net.finish(alloc);
+        forget::<Result<(), AllocError>>(net.step(alloc, event));
+        forget::<Result<RunLog<P>, AllocError>>(net.finish(alloc));
     }
 }
 

@@ -6,6 +6,7 @@ use outside::{
     MemSink, MemStore, RealSink, RealStore, Sink, SinkStop, Store, StoreStop, SureSink, SureStore,
 };
 use std::alloc::{AllocError, Global};
+use std::mem::forget;
 
 /// Any store and any sink.
 pub fn traits<S: Store, K: Sink>(
@@ -17,9 +18,9 @@ pub fn traits<S: Store, K: Sink>(
     limit: u64,
 ) {
     if never() {
-        let _: Result<Vec<u8>, StoreStop> = store.read(alloc, name, limit);
-        let _: Result<(), StoreStop> = store.write(alloc, name, bytes);
-        let _: Result<(), SinkStop> = sink.put(bytes);
+        forget::<Result<Vec<u8>, StoreStop>>(store.read(alloc, name, limit));
+        forget::<Result<(), StoreStop>>(store.write(alloc, name, bytes));
+        forget::<Result<(), SinkStop>>(sink.put(bytes));
     }
 }
 
@@ -27,10 +28,10 @@ pub fn traits<S: Store, K: Sink>(
 pub fn stores(alloc: Global, fail: Vec<u64>, name: &str, bytes: &[u8]) {
     if never() {
         let mut mem: MemStore = MemStore::new(alloc, fail);
-        let _: Result<(), AllocError> = mem.hold(alloc, name, bytes);
+        forget::<Result<(), AllocError>>(mem.hold(alloc, name, bytes));
         let _: Option<&[u8]> = mem.file(name);
         let mut sure: SureStore = SureStore::new(alloc);
-        let _: Result<(), AllocError> = sure.hold(alloc, name, bytes);
+        forget::<Result<(), AllocError>>(sure.hold(alloc, name, bytes));
         let _: Option<&[u8]> = sure.file(name);
     }
 }

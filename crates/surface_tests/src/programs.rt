@@ -11,21 +11,22 @@ use p4_tree::{
 };
 use p4_types::{ProgramRule, ProgramTypeFault, TypedProgram, check_program};
 use std::alloc::{AllocError, Global};
+use std::mem::forget;
 
 /// Reading and printing.
 pub fn read(alloc: Global, text: &[u8], list: &[Token], start: usize, p: &Program) {
     if never() {
-        let _: Result<(Vec<Stmt>, usize), ReadStop> = read_stmts(alloc, text, list, start);
-        let _: Result<(Expr, usize), ReadStop> = read_expr(alloc, text, list, start);
-        let _: Result<Program, ProgramFault> = read_program(alloc, text);
-        let _: Result<String, AllocError> = print_program(alloc, p);
+        forget::<Result<(Vec<Stmt>, usize), ReadStop>>(read_stmts(alloc, text, list, start));
+        forget::<Result<(Expr, usize), ReadStop>>(read_expr(alloc, text, list, start));
+        forget::<Result<Program, ProgramFault>>(read_program(alloc, text));
+        forget::<Result<String, AllocError>>(print_program(alloc, p));
     }
 }
 
 /// Rules, and what a well-typed program answers.
 pub fn typed(alloc: Global, p: Program, typed: &TypedProgram, name: &str) {
     if never() {
-        let _: Result<TypedProgram, ProgramTypeFault> = check_program(alloc, p);
+        forget::<Result<TypedProgram, ProgramTypeFault>>(check_program(alloc, p));
         let _: &Program = typed.program();
         let _: Option<u32> = typed.table_number(name);
         let _: Option<u32> = typed.register_number(name);
@@ -33,7 +34,7 @@ pub fn typed(alloc: Global, p: Program, typed: &TypedProgram, name: &str) {
         let _: u32 = typed.header_bytes();
         let _: u32 = typed.digest_bound();
         let _: u64 = typed.cells();
-        let _: Result<TypedProgram, AllocError> = typed.copy(alloc);
+        forget::<Result<TypedProgram, AllocError>>(typed.copy(alloc));
     }
 }
 
@@ -43,8 +44,8 @@ pub fn program(alloc: Global, p: &Program, top: &Top) {
     let _: &Vec<Top> = &p.tops;
     let _: &Vec<Name> = &p.main;
     if never() {
-        let _: Result<Program, AllocError> = p.copy(alloc);
-        let _: Result<Top, AllocError> = top.copy(alloc);
+        forget::<Result<Program, AllocError>>(p.copy(alloc));
+        forget::<Result<Top, AllocError>>(top.copy(alloc));
     }
 }
 
@@ -121,8 +122,8 @@ pub fn controls(alloc: Global, c: &Control, local: &Local) {
         }
     }
     if never() {
-        let _: Result<Control, AllocError> = c.copy(alloc);
-        let _: Result<Local, AllocError> = local.copy(alloc);
+        forget::<Result<Control, AllocError>>(c.copy(alloc));
+        forget::<Result<Local, AllocError>>(local.copy(alloc));
     }
 }
 
@@ -148,10 +149,10 @@ pub fn declarations(alloc: Global, a: &Action, t: &Table, r: &Register, param: &
     let _: &PTy = &param.ty;
     let _: &Name = &param.name;
     if never() {
-        let _: Result<Action, AllocError> = a.copy(alloc);
-        let _: Result<Table, AllocError> = t.copy(alloc);
-        let _: Result<Register, AllocError> = r.copy(alloc);
-        let _: Result<Param, AllocError> = param.copy(alloc);
+        forget::<Result<Action, AllocError>>(a.copy(alloc));
+        forget::<Result<Table, AllocError>>(t.copy(alloc));
+        forget::<Result<Register, AllocError>>(r.copy(alloc));
+        forget::<Result<Param, AllocError>>(param.copy(alloc));
     }
 }
 
@@ -169,8 +170,8 @@ pub fn parsers(alloc: Global, p: &Parser, s: &ParserState, way: Way) {
         Way::Plain | Way::Into | Way::Out | Way::Both => {}
     }
     if never() {
-        let _: Result<Parser, AllocError> = p.copy(alloc);
-        let _: Result<ParserState, AllocError> = s.copy(alloc);
+        forget::<Result<Parser, AllocError>>(p.copy(alloc));
+        forget::<Result<ParserState, AllocError>>(s.copy(alloc));
     }
 }
 
@@ -205,8 +206,8 @@ pub fn transitions(alloc: Global, next: &Transition, keys: &Keyset) {
         }
     }
     if never() {
-        let _: Result<Transition, AllocError> = next.copy(alloc);
-        let _: Result<Keyset, AllocError> = keys.copy(alloc);
+        forget::<Result<Transition, AllocError>>(next.copy(alloc));
+        forget::<Result<Keyset, AllocError>>(keys.copy(alloc));
     }
 }
 
@@ -236,7 +237,7 @@ pub fn statements(alloc: Global, s: &Stmt) {
         }
     }
     if never() {
-        let _: Result<Stmt, AllocError> = s.copy(alloc);
+        forget::<Result<Stmt, AllocError>>(s.copy(alloc));
     }
 }
 
@@ -275,7 +276,7 @@ pub fn arguments(alloc: Global, arg: &Arg) {
         }
     }
     if never() {
-        let _: Result<Arg, AllocError> = arg.copy(alloc);
+        forget::<Result<Arg, AllocError>>(arg.copy(alloc));
     }
 }
 
@@ -311,7 +312,7 @@ pub fn expressions(alloc: Global, e: &Expr) {
         Expr::Choice(..) | Expr::Slice(..) | Expr::Cast(..) => {}
     }
     if never() {
-        let _: Result<Expr, AllocError> = e.copy(alloc);
+        forget::<Result<Expr, AllocError>>(e.copy(alloc));
     }
 }
 
@@ -379,7 +380,7 @@ pub fn types(alloc: Global, ty: &PTy) {
         }
     }
     if never() {
-        let _: Result<PTy, AllocError> = ty.copy(alloc);
+        forget::<Result<PTy, AllocError>>(ty.copy(alloc));
     }
 }
 
@@ -440,7 +441,7 @@ pub fn faults(stop: ReadStop, fault: &ProgramFault, wrong: ProgramTypeFault) {
         ProgramTypeFault::NoMemory => {}
         ProgramTypeFault::Type_ { at, rule } => {
             let _: u32 = at;
-            let _: ProgramRule = rule;
+            forget::<ProgramRule>(rule);
         }
     }
 }

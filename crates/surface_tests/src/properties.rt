@@ -10,19 +10,20 @@ use indus_types::{Rule, TypeFault, TypedProperty, check_property};
 use indus_values::{ControlValue, HopResult, HopView, Report, SensorState, TeleState, eval_expr};
 use lex_text::{LexFault, Literal, Name};
 use std::alloc::{AllocError, Global};
+use std::mem::forget;
 
 /// Reading and rules.
 pub fn typed(alloc: Global, text: &[u8], typed: &TypedProperty, variable: u32) {
     if never() {
         let read: Result<Property, PropertyFault> = read_property(alloc, text);
         if let Ok(property) = read {
-            let _: Result<TypedProperty, TypeFault> = check_property(alloc, property);
+            forget::<Result<TypedProperty, TypeFault>>(check_property(alloc, property));
         }
         let _: &Property = typed.property();
         let _: u64 = typed.tele_bits();
         let _: u32 = typed.weight();
         let _: u32 = typed.lookups(variable);
-        let _: Result<TypedProperty, AllocError> = typed.copy(alloc);
+        forget::<Result<TypedProperty, AllocError>>(typed.copy(alloc));
     }
 }
 
@@ -40,13 +41,13 @@ pub fn evaluated(
     out: &mut HopResult,
 ) {
     if never() {
-        let _: Result<Bits, AllocError> = eval_expr(
+        forget::<Result<Bits, AllocError>>(eval_expr(
             alloc, p, e, width, view, values, tele, sensors, items,
-        );
-        let _: Result<(), AllocError> = run_block(
+        ));
+        forget::<Result<(), AllocError>>(run_block(
             alloc, p, &p.init, view, values, tele, sensors, out,
-        );
-        let _: Result<HopResult, AllocError> = hop_step(alloc, p, view, tele, sensors);
+        ));
+        forget::<Result<HopResult, AllocError>>(hop_step(alloc, p, view, tele, sensors));
     }
 }
 
@@ -80,7 +81,7 @@ pub fn contents(alloc: Global, report: &Report, value: &ControlValue) {
         }
     }
     if never() {
-        let _: Result<ControlValue, AllocError> = value.copy(alloc);
+        forget::<Result<ControlValue, AllocError>>(value.copy(alloc));
     }
 }
 
@@ -100,8 +101,8 @@ pub fn declarations(alloc: Global, p: &Property, d: &Decl) {
     let _: &Vec<Name> = &d.path;
     let _: bool = d.valid;
     if never() {
-        let _: Result<Property, AllocError> = p.copy(alloc);
-        let _: Result<Decl, AllocError> = d.copy(alloc);
+        forget::<Result<Property, AllocError>>(p.copy(alloc));
+        forget::<Result<Decl, AllocError>>(d.copy(alloc));
     }
 }
 
@@ -133,7 +134,7 @@ pub fn shapes(alloc: Global, kind: DeclKind, shape: &Shape, ty: Ty) {
         Ty::Bool => {}
     }
     if never() {
-        let _: Result<Shape, AllocError> = shape.copy(alloc);
+        forget::<Result<Shape, AllocError>>(shape.copy(alloc));
     }
 }
 
@@ -169,7 +170,7 @@ pub fn expressions(alloc: Global, e: &Expr) {
         Expr::Not(..) | Expr::Invert(..) | Expr::Bin(..) | Expr::Cast(..) => {}
     }
     if never() {
-        let _: Result<Expr, AllocError> = e.copy(alloc);
+        forget::<Result<Expr, AllocError>>(e.copy(alloc));
     }
 }
 
@@ -222,7 +223,7 @@ pub fn writes(alloc: Global, s: &Stmt) {
         Stmt::If(..) | Stmt::For(..) | Stmt::Reject(..) | Stmt::Report(..) => {}
     }
     if never() {
-        let _: Result<Stmt, AllocError> = s.copy(alloc);
+        forget::<Result<Stmt, AllocError>>(s.copy(alloc));
     }
 }
 

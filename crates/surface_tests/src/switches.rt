@@ -11,6 +11,7 @@ use p4_tree::Expr;
 use p4_types::TypedProgram;
 use packet_parse::{Fields, ParserError, StdMeta, csum16, eval, run_deparser, run_parser};
 use std::alloc::{AllocError, Global};
+use std::mem::forget;
 
 /// Entries, and what a table chooses.
 pub fn entries(alloc: Global, entry: &Entry, key: &Match, chosen: &Chosen<'_>) {
@@ -35,7 +36,7 @@ pub fn entries(alloc: Global, entry: &Entry, key: &Match, chosen: &Chosen<'_>) {
         }
     }
     if never() {
-        let _: Result<Entry, AllocError> = entry.copy(alloc);
+        forget::<Result<Entry, AllocError>>(entry.copy(alloc));
     }
 }
 
@@ -50,12 +51,12 @@ pub fn tables(
     keys: &[Bits],
 ) {
     if never() {
-        let _: Result<TableState, AllocError> = TableState::new(alloc, p);
-        let _: Result<(), EntryFault> = state.insert(alloc, table, entry);
-        let _: Result<(), EntryFault> = state.set_default(alloc, table, 0, args);
+        forget::<Result<TableState, AllocError>>(TableState::new(alloc, p));
+        forget::<Result<(), EntryFault>>(state.insert(alloc, table, entry));
+        forget::<Result<(), EntryFault>>(state.set_default(alloc, table, 0, args));
         let _: Chosen<'_> = state.choose(table, keys);
         let _: u32 = state.entries();
-        let _: Result<TableState, AllocError> = state.carried(alloc, p, p);
+        forget::<Result<TableState, AllocError>>(state.carried(alloc, p, p));
     }
 }
 
@@ -68,7 +69,7 @@ pub fn replaced(
     default: Option<(u32, Vec<Bits>)>,
 ) {
     if never() {
-        let _: Result<(), AllocError> = state.replace(alloc, table, list, default);
+        forget::<Result<(), AllocError>>(state.replace(alloc, table, list, default));
     }
 }
 
@@ -84,7 +85,7 @@ pub fn faults(fault: EntryFault) {
 /// Registers.
 pub fn registers(alloc: Global, cells: &mut Cells, width: u8, count: u32, index: u128, v: Bits) {
     if never() {
-        let _: Result<Cells, AllocError> = Cells::new(alloc, width, count);
+        forget::<Result<Cells, AllocError>>(Cells::new(alloc, width, count));
         let _: Bits = cells.read(index);
         cells.write(index, v);
     }
@@ -94,8 +95,8 @@ pub fn registers(alloc: Global, cells: &mut Cells, width: u8, count: u32, index:
 pub fn packets(alloc: Global, p: &TypedProgram, e: &Expr, s: &mut Fields, bytes: &[u8], width: u8) {
     if never() {
         let _: Bits = eval(p, e, width, s);
-        let _: Result<u32, AllocError> = run_parser(alloc, p, s, bytes);
-        let _: Result<Vec<u8>, AllocError> = run_deparser(alloc, p, s, bytes);
+        forget::<Result<u32, AllocError>>(run_parser(alloc, p, s, bytes));
+        forget::<Result<Vec<u8>, AllocError>>(run_deparser(alloc, p, s, bytes));
         let _: u16 = csum16(bytes);
     }
 }
@@ -124,7 +125,7 @@ pub fn made(alloc: Global, p: &TypedProgram, program: TypedProgram, tables: Tabl
             let _: &[u8] = buf.frame();
             let _: &[Digest] = buf.digests();
         }
-        let _: Result<Switch, AllocError> = Switch::new(alloc, program, tables);
+        forget::<Result<Switch, AllocError>>(Switch::new(alloc, program, tables));
     }
 }
 
@@ -138,11 +139,11 @@ pub fn passes<P: Pass>(
     place: &mut Queued,
 ) {
     if never() {
-        let _: Result<Passed, AllocError> = switch.pass(alloc, port, frame, buf);
-        let _: Result<Queued, AllocError> = switch.room(alloc, 1);
-        let _: Result<Entered, AllocError> = switch.enter(alloc, port, frame, buf, place);
+        forget::<Result<Passed, AllocError>>(switch.pass(alloc, port, frame, buf));
+        forget::<Result<Queued, AllocError>>(switch.room(alloc, 1));
+        forget::<Result<Entered, AllocError>>(switch.enter(alloc, port, frame, buf, place));
         let _: bool = place.full();
-        let _: Result<Passed, AllocError> = switch.leave(alloc, place, buf);
+        forget::<Result<Passed, AllocError>>(switch.leave(alloc, place, buf));
         let _: Bits = switch.cell(0, 0);
     }
 }
@@ -156,7 +157,7 @@ pub fn set<P: Pass>(
     default: Option<(u32, Vec<Bits>)>,
 ) {
     if never() {
-        let _: Result<(), AllocError> = switch.set_table(alloc, table, list, default);
+        forget::<Result<(), AllocError>>(switch.set_table(alloc, table, list, default));
     }
 }
 

@@ -3,13 +3,14 @@
 use crate::never::never;
 use lex_text::{LexFault, Literal, Name, Token, TokenKind, Words, tokens};
 use std::alloc::{AllocError, Global};
+use std::mem::forget;
 
 /// Tokens of a text.
 pub fn lexed(alloc: Global, text: &[u8], name: &Name, width: u8, value: u128) {
     if never() {
-        let _: Result<Vec<Token>, LexFault> = tokens(alloc, text, Words::Indus);
-        let _: Result<Vec<Token>, LexFault> = tokens(alloc, text, Words::P4);
-        let _: Result<Name, AllocError> = name.copy(alloc);
+        forget::<Result<Vec<Token>, LexFault>>(tokens(alloc, text, Words::Indus));
+        forget::<Result<Vec<Token>, LexFault>>(tokens(alloc, text, Words::P4));
+        forget::<Result<Name, AllocError>>(name.copy(alloc));
         let _: &str = name.as_str();
         let literal: Literal = Literal { width, value };
         let start: u32 = 0;
