@@ -1,90 +1,99 @@
 //! What the tables of control variables hold.
 
+use crate::texts::{put, put_number, put_word, put_words, same};
 use bit_values::Bits;
 use control_tables::contents_for;
 use indus_values::ControlValue;
 use p4_tables::{Entry, Match};
-use std::alloc::{AllocError, Global};
+use std::alloc::Global;
+use std::mem::forget;
 use std::process::Abort;
-use std::test::Fail;
 
 /// `9w1 9w2 > 7 8w5`
-fn show_entry(alloc: Global, entry: &Entry) -> Result<String, AllocError> {
-    let mut text = String::new(alloc);
+fn put_entry(rt: &impl Abort, alloc: Global, out: &mut String, entry: &Entry) {
     for key in &entry.keys {
         if let Match::Exact(word) = key {
-            let (width, value) = (word.width, word.value);
-            text.push_str(format!(in alloc; "{width}w{value} ")?.as_str())?;
+            put_word(rt, alloc, out, word.width, word.value);
+            put(rt, out, " ");
         }
     }
-    let action = entry.action;
-    text.push_str(format!(in alloc; "> {action}")?.as_str())?;
-    for word in &entry.args {
-        let (width, value) = (word.width, word.value);
-        text.push_str(format!(in alloc; " {width}w{value}")?.as_str())?;
+    put(rt, out, "> ");
+    put_number(rt, alloc, out, u128::from(entry.action));
+    put_words(rt, alloc, out, &entry.args);
+}
+
+/// `9w1 > 7 8w5; 9w2 > 7 8w6; `
+fn put_entries(rt: &impl Abort, alloc: Global, out: &mut String, entries: &[Entry]) {
+    for entry in entries {
+        put_entry(rt, alloc, out, entry);
+        put(rt, out, "; ");
     }
-    Ok(text)
+}
+
+/// `else 7 8w250`
+fn put_default(rt: &impl Abort, alloc: Global, out: &mut String, action: u32, args: &[Bits]) {
+    put(rt, out, "else ");
+    put_number(rt, alloc, out, u128::from(action));
+    put_words(rt, alloc, out, args);
 }
 
 /// The entries and the default of the table of these contents, whose first action is 7.
-fn shown(alloc: Global, value: &ControlValue) -> Result<String, AllocError> {
-    let (entries, default) = contents_for(alloc, value, 7)?;
-    let mut text = String::new(alloc);
-    for entry in &entries {
-        text.push_str(show_entry(alloc, entry)?.as_str())?;
-        text.push_str("; ")?;
+fn shown(rt: &impl Abort, alloc: Global, value: &ControlValue) -> String {
+    let mut out = String::new(alloc);
+    let (entries, default) = contents_for(alloc, value, 7).expect(rt, "memory");
+    put_entries(rt, alloc, &mut out, &entries);
+    if let Some((action, args)) = &default {
+        put_default(rt, alloc, &mut out, *action, args);
     }
-    if let Some((action, args)) = default {
-        text.push_str(format!(in alloc; "else {action}")?.as_str())?;
-        for word in &args {
-            let (width, value) = (word.width, word.value);
-            text.push_str(format!(in alloc; " {width}w{value}")?.as_str())?;
-        }
-    }
-    Ok(text)
+    forget(entries);
+    forget(default);
+    out
 }
 
-fn key(alloc: Global, parts: &[Bits]) -> Result<Vec<Bits>, AllocError> {
-    let mut key = Vec::new(alloc);
-    for part in parts {
-        key.push(*part)?;
-    }
-    Ok(key)
+/// The table of these contents holds this.
+fn holds(rt: &impl Abort, alloc: Global, value: ControlValue, wanted: &str) {
+    same(rt, &shown(rt, alloc, &value), wanted, "contents");
+    forget(value);
+}
+
+fn key(rt: &impl Abort, alloc: Global, parts: &[Bits]) -> Vec<Bits> {
+    Vec::from_slice(alloc, parts).expect(rt, "memory")
 }
 
 #[test]
-fn of_a_scalar(rt: HostRuntime) -> Result<(), Fail> {
-    let given = shown(rt.alloc(), &ControlValue::One(Bits::new(8, 250)))?;
-    assert_eq!(rt; given.as_str(), "else 7 8w250");
-    Ok(())
+fn of_a_scalar(rt: HostRuntime) {
+    let value = ControlValue::One(Bits::new(8, 250));
+    holds(&rt, rt.alloc(), value, "else 7 8w250");
 }
 
 #[test]
-fn of_a_set(rt: HostRuntime) -> Result<(), Fail> {
+fn of_a_set(rt: HostRuntime) {
     let alloc = rt.alloc();
     let mut keys = Vec::new(alloc);
-    keys.push(key(alloc, &[Bits::new(9, 1), Bits::new(1, 0)])?)?;
-    keys.push(key(alloc, &[Bits::new(9, 2), Bits::new(1, 1)])?)?;
-    let given = shown(alloc, &ControlValue::Members(keys))?;
-    assert_eq!(rt; given.as_str(), "9w1 1w0 > 7; 9w2 1w1 > 7; ");
-    Ok(())
+    keys.push(key(&rt, alloc, &[Bits::new(9, 1), Bits::new(1, 0)]))
+        .expect(&rt, "memory");
+    keys.push(key(&rt, alloc, &[Bits::new(9, 2), Bits::new(1, 1)]))
+        .expect(&rt, "memory");
+    let value = ControlValue::Members(keys);
+    holds(&rt, alloc, value, "9w1 1w0 > 7; 9w2 1w1 > 7; ");
 }
 
 #[test]
-fn of_a_dict(rt: HostRuntime) -> Result<(), Fail> {
+fn of_a_dict(rt: HostRuntime) {
     let alloc = rt.alloc();
     let mut pairs = Vec::new(alloc);
-    pairs.push((key(alloc, &[Bits::new(9, 1)])?, Bits::new(8, 5)))?;
-    pairs.push((key(alloc, &[Bits::new(9, 2)])?, Bits::new(8, 6)))?;
-    let given = shown(alloc, &ControlValue::Pairs(pairs))?;
-    assert_eq!(rt; given.as_str(), "9w1 > 7 8w5; 9w2 > 7 8w6; ");
-    Ok(())
+    pairs
+        .push((key(&rt, alloc, &[Bits::new(9, 1)]), Bits::new(8, 5)))
+        .expect(&rt, "memory");
+    pairs
+        .push((key(&rt, alloc, &[Bits::new(9, 2)]), Bits::new(8, 6)))
+        .expect(&rt, "memory");
+    let value = ControlValue::Pairs(pairs);
+    holds(&rt, alloc, value, "9w1 > 7 8w5; 9w2 > 7 8w6; ");
 }
 
 #[test]
-fn of_nothing(rt: HostRuntime) -> Result<(), Fail> {
+fn of_nothing(rt: HostRuntime) {
     let alloc = rt.alloc();
-    let given = shown(alloc, &ControlValue::Pairs(Vec::new(alloc)))?;
-    assert_eq!(rt; given.as_str(), "");
-    Ok(())
+    holds(&rt, alloc, ControlValue::Pairs(Vec::new(alloc)), "");
 }

@@ -5,3 +5,5 @@
 mod contents;
 #[cfg(test)]
 mod tables;
+#[cfg(test)]
+mod texts;

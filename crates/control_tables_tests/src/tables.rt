@@ -1,91 +1,120 @@
 //! The table of a control variable and its first action, from the text of the declaration.
 
+use crate::texts::{put, put_number, put_word, same};
 use control_tables::table_for;
 use indus_reader::read_property;
+use indus_tree::Decl;
+use lex_text::Name;
 use p4_tree::{Action, Expr, PTy, Stmt, Table};
-use std::alloc::{AllocError, Global};
+use std::alloc::Global;
+use std::mem::forget;
 use std::process::Abort;
-use std::test::Fail;
 
-fn show_expr(alloc: Global, e: &Expr) -> Result<String, AllocError> {
+/// `hydra_f_3`
+fn put_path(rt: &impl Abort, out: &mut String, names: &[Name]) {
+    for name in names {
+        put(rt, out, name.as_str());
+    }
+}
+
+/// ` hydra_a_3 NoAction`
+fn put_names(rt: &impl Abort, out: &mut String, names: &[Name]) {
+    for name in names {
+        put(rt, out, " ");
+        put(rt, out, name.as_str());
+    }
+}
+
+fn put_expr(rt: &impl Abort, alloc: Global, out: &mut String, e: &Expr) {
     match e {
-        Expr::Num(_, n) => {
-            let (width, value) = (n.width, n.value);
-            format!(in alloc; "{width}w{value}")
-        }
-        Expr::Path(_, names) => {
-            let mut text = String::new(alloc);
-            for name in names {
-                text.push_str(name.as_str())?;
-            }
-            Ok(text)
-        }
-        _ => String::from_str(alloc, "?"),
+        Expr::Num(_, n) => put_word(rt, alloc, out, n.width, n.value),
+        Expr::Path(_, names) => put_path(rt, out, names),
+        _ => put(rt, out, "?"),
     }
 }
 
-/// `hydra_t_3(hydra_k_3_0:exact) hydra_a_3 NoAction else NoAction()`
-fn show_table(alloc: Global, table: &Table) -> Result<String, AllocError> {
-    let mut text = String::from_str(alloc, table.name.as_str())?;
-    for (value, kind) in &table.keys {
-        text.push(' ')?;
-        text.push_str(show_expr(alloc, value)?.as_str())?;
-        text.push(':')?;
-        text.push_str(kind.as_str())?;
+/// ` hydra_k_3_0:exact`
+fn put_keys(rt: &impl Abort, alloc: Global, out: &mut String, keys: &[(Expr, Name)]) {
+    for (value, kind) in keys {
+        put(rt, out, " ");
+        put_expr(rt, alloc, out, value);
+        put(rt, out, ":");
+        put(rt, out, kind.as_str());
     }
-    text.push_str(" {")?;
-    for name in &table.actions {
-        text.push(' ')?;
-        text.push_str(name.as_str())?;
+}
+
+/// ` hydra_a_3 8w0`
+fn put_default(rt: &impl Abort, alloc: Global, out: &mut String, name: &Name, args: &[Expr]) {
+    put(rt, out, " ");
+    put(rt, out, name.as_str());
+    for arg in args {
+        put(rt, out, " ");
+        put_expr(rt, alloc, out, arg);
     }
-    text.push_str(" }")?;
+}
+
+/// `hydra_t_3 hydra_k_3_0:exact { hydra_a_3 NoAction } NoAction`
+fn put_table(rt: &impl Abort, alloc: Global, out: &mut String, table: &Table) {
+    put(rt, out, table.name.as_str());
+    put_keys(rt, alloc, out, &table.keys);
+    put(rt, out, " {");
+    put_names(rt, out, &table.actions);
+    put(rt, out, " }");
     if let Some((name, args)) = &table.default {
-        text.push(' ')?;
-        text.push_str(name.as_str())?;
-        for arg in args {
-            text.push(' ')?;
-            text.push_str(show_expr(alloc, arg)?.as_str())?;
-        }
+        put_default(rt, alloc, out, name, args);
     }
-    Ok(text)
 }
 
-fn show_action(alloc: Global, action: &Action) -> Result<String, AllocError> {
-    let mut text = String::from_str(alloc, action.name.as_str())?;
-    for (ty, name) in &action.params {
-        let name = name.as_str();
+/// ` 8:hydra_value`
+fn put_params(rt: &impl Abort, alloc: Global, out: &mut String, params: &[(PTy, Name)]) {
+    for (ty, name) in params {
         let width = match ty {
             PTy::Bit(width) => *width,
             PTy::Bool | PTy::Named(_) => 0,
         };
-        text.push_str(format!(in alloc; " {width}:{name}")?.as_str())?;
+        put(rt, out, " ");
+        put_number(rt, alloc, out, u128::from(width));
+        put(rt, out, ":");
+        put(rt, out, name.as_str());
     }
-    for stmt in &action.body {
-        if let Stmt::Assign(_, target, value) = stmt {
-            for name in target {
-                text.push(' ')?;
-                text.push_str(name.as_str())?;
-            }
-            text.push_str(" = ")?;
-            text.push_str(show_expr(alloc, value)?.as_str())?;
-        }
-    }
-    Ok(text)
 }
 
-/// The table of the lookup of number 3 of the first variable that a text declares, and its action.
-fn shown(alloc: Global, declaration: &str) -> Result<String, Fail> {
-    let text = format!(in alloc; "{declaration} {{}} {{}} {{}}")?;
-    if text.len() > 65536 {
-        return Err(Fail::new("a property is too long"));
+/// `hydra_a_3 8:hydra_value hydra_f_3 = hydra_value`
+fn put_action(rt: &impl Abort, alloc: Global, out: &mut String, action: &Action) {
+    put(rt, out, action.name.as_str());
+    put_params(rt, alloc, out, &action.params);
+    for stmt in &action.body {
+        if let Stmt::Assign(_, target, value) = stmt {
+            put_names(rt, out, target);
+            put(rt, out, " = ");
+            put_expr(rt, alloc, out, value);
+        }
     }
-    let property = read_property(alloc, text.as_bytes())?;
-    let Some(variable) = property.decls.first() else {
-        return Err(Fail::new("a text declares nothing"));
-    };
-    let (table, action) = table_for(alloc, variable, 3)?;
-    let (table, action) = (show_table(alloc, &table)?, show_action(alloc, &action)?);
-    Ok(format!(in alloc; "{table}; {action}")?)
+}
+
+/// The table of the lookup of number 3 of a variable, and its action.
+fn shown(rt: &impl Abort, alloc: Global, variable: &Decl) -> String {
+    let mut out = String::new(alloc);
+    let (table, action) = table_for(alloc, variable, 3).expect(rt, "memory");
+    put_table(rt, alloc, &mut out, &table);
+    put(rt, &mut out, "; ");
+    put_action(rt, alloc, &mut out, &action);
+    forget(table);
+    forget(action);
+    out
+}
+
+/// A row is a declaration, and what is made of it.
+fn row_agrees(rt: &impl Abort, alloc: Global, row: &str) {
+    let (declaration, wanted) = row.split_once(" => ").expect(rt, "a row has one side");
+    let mut text = String::new(alloc);
+    put(rt, &mut text, declaration);
+    put(rt, &mut text, " {} {} {}");
+    assert!(rt; text.len() <= 65536);
+    let property = read_property(alloc, text.as_bytes()).expect(rt, "a property");
+    let variable = property.decls.first().expect(rt, "a variable");
+    same(rt, &shown(rt, alloc, variable), wanted, row);
+    forget(property);
 }
 
 const TABLES: &str = "\
@@ -98,13 +127,8 @@ control dict<(bit<8>, bit<8>), bool> allowed; => hydra_t_3 hydra_k_3_0:exact hyd
 ";
 
 #[test]
-fn tables(rt: HostRuntime) -> Result<(), Fail> {
+fn tables(rt: HostRuntime) {
     for row in TABLES.lines() {
-        let Some((declaration, wanted)) = row.split_once(" => ") else {
-            return Err(Fail::new("a row has one side"));
-        };
-        let given = shown(rt.alloc(), declaration)?;
-        assert_eq!(rt; given.as_str(), wanted, "{row}");
+        row_agrees(&rt, rt.alloc(), row);
     }
-    Ok(())
 }
