@@ -13,7 +13,22 @@ use p4_types::{TypedProgram, check_program};
 use std::alloc::Global;
 use std::process::Abort;
 
-/// The program of a text.
+/// The answer of a row is the one that is wanted.
+pub fn same(rt: &impl Abort, found: &str, wanted: &str, row: &str) {
+    assert_eq!(rt; found, wanted, "{row}");
+}
+
+/// A row is as it says.
+pub fn holds(rt: &impl Abort, found: bool, row: &str) {
+    assert!(rt; found, "{row}");
+}
+
+/// Puts a text.
+pub fn put(rt: &impl Abort, out: &mut String, text: &str) {
+    out.push_str(text).expect(rt, "memory");
+}
+
+/// The program of a text. It is let go of, since to drop a tree costs the proof more than all else.
 pub fn program(rt: &impl Abort, alloc: Global, text: &str) -> TypedProgram {
     assert!(rt; text.len() <= 65_536);
     let program = read_program(alloc, text.as_bytes()).expect(rt, "a program");

@@ -1,9 +1,10 @@
 //! Whether a program has a place for all that the tables of another one hold. Linked programs have, so no command asks.
 
-use crate::entries::program;
+use crate::entries::{holds, program, put};
 use p4_tables::stands_in;
 use p4_types::TypedProgram;
 use std::alloc::Global;
+use std::mem::forget;
 use std::process::Abort;
 
 const BEFORE: &str = "header e_t { bit<8> x; bit<16> y; } struct headers_t { e_t e; } \
@@ -40,30 +41,33 @@ action a(bit<8> v) { } action b() { } table t { key = { h.e.x: exact; } actions 
 
 /// The program of these declarations.
 fn program_with(rt: &impl Abort, alloc: Global, locals: &str) -> TypedProgram {
-    let text = format!(in alloc; "{BEFORE}{locals}{BEHIND}").expect(rt, "memory");
+    let mut text = String::new(alloc);
+    put(rt, &mut text, BEFORE);
+    put(rt, &mut text, locals);
+    put(rt, &mut text, BEHIND);
     program(rt, alloc, &text)
 }
 
 /// Whether the program of these declarations has a place for another one's tables.
 fn has_place(rt: &impl Abort, alloc: Global, first: &TypedProgram, locals: &str) -> bool {
     let other = program_with(rt, alloc, locals);
-    stands_in(alloc, first, &other).expect(rt, "memory")
+    let found = stands_in(alloc, first, &other).expect(rt, "memory");
+    forget(other);
+    found
 }
 
-/// Each line is as it says.
-fn all_right(rt: &impl Abort, alloc: Global, first: &TypedProgram) {
-    for line in OTHERS.lines() {
-        let (locals, wanted) = line.split_once(" => ").expect(rt, "an answer");
-        assert_eq!(rt;
-            has_place(rt, alloc, first, locals),
-            wanted == "true",
-            "{line}"
-        );
-    }
+/// A line is as it says.
+fn line_holds(rt: &impl Abort, alloc: Global, first: &TypedProgram, line: &str) {
+    let (locals, wanted) = line.split_once(" => ").expect(rt, "an answer");
+    let found = has_place(rt, alloc, first, locals);
+    holds(rt, found == (wanted == "true"), line);
 }
 
 #[test]
 fn places(rt: HostRuntime) {
     let first = program_with(&rt, rt.alloc(), TABLE);
-    all_right(&rt, rt.alloc(), &first);
+    for line in OTHERS.lines() {
+        line_holds(&rt, rt.alloc(), &first, line);
+    }
+    forget(first);
 }
