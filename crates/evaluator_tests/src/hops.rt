@@ -2,15 +2,16 @@
 //! 3 to port 0, what comes to port 4 to port 1, and all else to port 2, but drop what comes to port 5; the first byte, the
 //! header `h`, is raised by 1, and the header `tcp` is the four bytes behind it.
 
-use crate::shown::{Counts, Shown, on_link, put_registers, put_report};
+use crate::shown::{Counts, Shown, capture_name, on_link, put_registers, put_report};
 use bit_values::Bits;
 use indus_run::{has_short_reports, hop_step, is_shaped};
 use indus_tree::{Decl, DeclKind, Property};
 use indus_values::{ControlValue, HopResult, HopView, SensorState, TeleState};
 use linked_jobs::LinkedJob;
 use path_runner::Packet;
-use std::alloc::{AllocError, Global};
-use std::test::Fail;
+use std::alloc::Global;
+use std::mem::forget;
+use std::process::Abort;
 
 /// The greatest number of switches that a packet passes.
 const HOPS: u32 = 64;
@@ -68,33 +69,38 @@ fn read_header(decl: &Decl, frame: &[u8], ingress: u16, egress: u16) -> Bits {
 }
 
 fn read_headers(
+    rt: &impl Abort,
     alloc: Global,
     p: &Property,
     frame: &[u8],
     ingress: u16,
     egress: u16,
-) -> Result<Vec<Bits>, AllocError> {
+) -> Vec<Bits> {
     let mut words = Vec::new(alloc);
     for decl in &p.decls {
         if decl.kind == DeclKind::Header {
-            words.push(read_header(decl, frame, ingress, egress))?;
+            words
+                .push(read_header(decl, frame, ingress, egress))
+                .expect(rt, "memory");
         }
     }
-    Ok(words)
+    words
 }
 
 fn contents_at(
+    rt: &impl Abort,
     alloc: Global,
     contents: &[Vec<ControlValue>],
     switch: u16,
-) -> Result<Vec<ControlValue>, AllocError> {
+) -> Vec<ControlValue> {
     let mut control = Vec::new(alloc);
     if let Some(values) = contents.get(switch as usize) {
         for value in values {
-            control.push(value.copy(alloc)?)?;
+            let copy = value.copy(alloc).expect(rt, "memory");
+            control.push(copy).expect(rt, "memory");
         }
     }
-    Ok(control)
+    control
 }
 
 /// The first byte is raised.
@@ -104,186 +110,218 @@ fn raise(frame: &mut [u8]) {
     }
 }
 
-/// What a packet reads as it comes, and, where it is sent on, as it goes.
-fn views(
+/// What a packet reads as it goes, where it is sent on.
+fn read_exit(
+    rt: &impl Abort,
     alloc: Global,
     p: &Property,
-    frame: &mut [u8],
-    port: u16,
+    frame: &[u8],
+    ingress: u16,
     out: Option<u16>,
-) -> Result<(Vec<Bits>, Option<Vec<Bits>>), AllocError> {
-    let entry = read_headers(alloc, p, frame, port, 0)?;
-    raise(frame);
-    let exit = match out {
-        Some(out) => Some(read_headers(alloc, p, frame, port, out)?),
+) -> Option<Vec<Bits>> {
+    match out {
+        Some(out) => Some(read_headers(rt, alloc, p, frame, ingress, out)),
         None => None,
-    };
-    Ok((entry, exit))
+    }
 }
 
+/// What a hop shows. The frame is raised between what the packet reads as it comes and as it goes.
 fn hop_at(
+    rt: &impl Abort,
     alloc: Global,
     job: &LinkedJob,
     place: Place,
     frame: &mut [u8],
     out: Option<u16>,
     last: bool,
-) -> Result<HopView, AllocError> {
-    let control = contents_at(alloc, &job.contents, place.switch)?;
-    let (entry, exit) = views(alloc, job.property.property(), frame, place.port, out)?;
-    Ok(HopView {
+) -> HopView {
+    let p = job.property.property();
+    let control = contents_at(rt, alloc, &job.contents, place.switch);
+    let entry = read_headers(rt, alloc, p, frame, place.port, 0);
+    raise(frame);
+    HopView {
         switch: place.switch,
         first: place.first,
         last,
         entry_: entry,
-        exit_: exit,
+        exit_: read_exit(rt, alloc, p, frame, place.port, out),
         control,
-    })
+    }
 }
 
 /// A hop, in states that the property has shaped.
 fn step(
+    rt: &impl Abort,
     alloc: Global,
     p: &Property,
     view: &HopView,
     tele: &mut TeleState,
     sensors: &mut SensorState,
-) -> Result<HopResult, Fail> {
-    if !has_short_reports(p) || !is_shaped(p, tele, sensors) {
-        return Err(Fail::new("the property or its states are not as they should be"));
-    }
-    Ok(hop_step(alloc, p, view, tele, sensors)?)
+) -> HopResult {
+    assert!(rt; has_short_reports(p) && is_shaped(p, tele, sensors));
+    hop_step(alloc, p, view, tele, sensors).expect(rt, "memory")
 }
 
 impl Shown {
     /// The reports of a hop.
-    fn tell(&mut self, alloc: Global, place: Place, hop: &HopResult) -> Result<(), AllocError> {
+    fn tell(&mut self, rt: &impl Abort, alloc: Global, place: Place, hop: &HopResult) {
         for report in &hop.reports {
             let switch = place.switch as usize;
-            put_report(alloc, &mut self.reports, place.packet, switch, report)?;
+            put_report(rt, alloc, &mut self.reports, place.packet, switch, report);
             self.counts.reports = self.counts.reports.wrapping_add(1);
         }
-        Ok(())
     }
 
-    /// The packet leaves the network, or its last switch rejects it.
-    fn leave(
-        &mut self,
-        alloc: Global,
-        place: Place,
-        out: u16,
-        rejected: bool,
-        frame: &[u8],
-    ) -> Result<(), AllocError> {
-        if rejected {
-            self.counts.rejected = self.counts.rejected.wrapping_add(1);
-            if let Some(count) = self.rejects.get_mut(place.switch as usize) {
-                *count = count.wrapping_add(1);
-            }
-            return Ok(());
+    /// The last switch of a packet rejects it.
+    fn reject(&mut self, place: Place) {
+        self.counts.rejected = self.counts.rejected.wrapping_add(1);
+        if let Some(count) = self.rejects.get_mut(place.switch as usize) {
+            *count = count.wrapping_add(1);
         }
+    }
+
+    /// The packet leaves the network.
+    fn leave(&mut self, rt: &impl Abort, alloc: Global, place: Place, out: u16, frame: &[u8]) {
         self.counts.sent = self.counts.sent.wrapping_add(1);
-        let switch = place.switch.wrapping_add(1);
-        let name = format!(in alloc; "o.out.s{switch}.{out}.pcap")?;
-        self.put_frame(alloc, name, place.packet, frame)
+        let name = capture_name(rt, alloc, "o.out.", place.switch, out);
+        self.put_frame(rt, alloc, name, place.packet, frame);
     }
 
     /// The packet goes onto a link, behind its telemetry.
     fn go_on(
         &mut self,
+        rt: &impl Abort,
         alloc: Global,
         p: &Property,
         place: Place,
         tele: &TeleState,
         frame: &[u8],
-    ) -> Result<(), AllocError> {
-        let switch = place.switch.wrapping_add(1);
+    ) {
         let out = port_out(place.port).unwrap_or(0);
-        let bytes = on_link(alloc, p, tele, frame)?;
-        let name = format!(in alloc; "o.wire.s{switch}.{out}.pcap")?;
-        self.put_frame(alloc, name, place.packet, &bytes)
+        let bytes = on_link(rt, alloc, p, tele, frame);
+        let name = capture_name(rt, alloc, "o.wire.", place.switch, out);
+        self.put_frame(rt, alloc, name, place.packet, &bytes);
     }
+}
+
+/// What the property does in a hop of a packet. The answer is whether it rejects the packet.
+fn run(
+    rt: &impl Abort,
+    alloc: Global,
+    p: &Property,
+    place: Place,
+    view: HopView,
+    (tele, sensors): (&mut TeleState, &mut SensorState),
+    shown: &mut Shown,
+) -> bool {
+    let hop = step(rt, alloc, p, &view, tele, sensors);
+    shown.tell(rt, alloc, place, &hop);
+    let rejected = hop.rejected;
+    forget(hop);
+    forget(view);
+    rejected
 }
 
 /// A hop of a packet. The answer is where it goes on.
 fn hop(
+    rt: &impl Abort,
     alloc: Global,
     job: &LinkedJob,
     place: Place,
     frame: &mut [u8],
     (tele, sensors): (&mut TeleState, &mut SensorState),
     shown: &mut Shown,
-) -> Result<Option<(u16, u16)>, Fail> {
+) -> Option<(u16, u16)> {
     let p = job.property.property();
     let out = port_out(place.port);
     let next = match out {
         Some(out) => job.network.next(place.switch, out),
         None => None,
     };
-    let view = hop_at(alloc, job, place, frame, out, next.is_none())?;
-    let hop = step(alloc, p, &view, tele, sensors)?;
-    shown.tell(alloc, place, &hop)?;
+    let view = hop_at(rt, alloc, job, place, frame, out, next.is_none());
+    let rejected = run(rt, alloc, p, place, view, (tele, sensors), shown);
     match out {
         None => shown.counts.dropped = shown.counts.dropped.wrapping_add(1),
-        Some(_) if next.is_some() => shown.go_on(alloc, p, place, tele, frame)?,
-        Some(out) => shown.leave(alloc, place, out, hop.rejected, frame)?,
+        Some(_) if next.is_some() => shown.go_on(rt, alloc, p, place, tele, frame),
+        Some(_) if rejected => shown.reject(place),
+        Some(out) => shown.leave(rt, alloc, place, out, frame),
     }
-    Ok(next)
+    next
 }
 
 /// The hops of a packet.
 fn pass(
+    rt: &impl Abort,
+    alloc: Global,
+    job: &LinkedJob,
+    mut place: Place,
+    frame: &mut [u8],
+    tele: &mut TeleState,
+    sensors: &mut [SensorState],
+    shown: &mut Shown,
+) {
+    for _ in 0..HOPS {
+        let cells = sensors
+            .get_mut(place.switch as usize)
+            .expect(rt, "a switch");
+        let Some((switch, port)) = hop(rt, alloc, job, place, frame, (tele, cells), shown) else {
+            return;
+        };
+        place.switch = switch;
+        place.port = port;
+        place.first = false;
+    }
+    panic!(rt; "a packet passes too many switches");
+}
+
+/// A packet comes into the network.
+fn enter(
+    rt: &impl Abort,
     alloc: Global,
     job: &LinkedJob,
     number: u32,
     packet: &Packet,
     sensors: &mut [SensorState],
     shown: &mut Shown,
-) -> Result<(), Fail> {
-    let mut tele = TeleState::start(alloc, job.property.property())?;
-    let mut frame = packet.bytes.as_slice().to_vec(alloc)?;
-    let mut place = Place {
+) {
+    let place = Place {
         packet: number,
         switch: packet.switch,
         port: packet.port,
         first: true,
     };
-    for _ in 0..HOPS {
-        let Some(cells) = sensors.get_mut(place.switch as usize) else {
-            return Err(Fail::new("there is no such switch"));
-        };
-        let states = (&mut tele, cells);
-        match hop(alloc, job, place, &mut frame, states, shown)? {
-            None => return Ok(()),
-            Some((switch, port)) => {
-                place.switch = switch;
-                place.port = port;
-                place.first = false;
-            }
-        }
-    }
-    Err(Fail::new("a packet passes too many switches"))
+    let mut tele = TeleState::start(alloc, job.property.property()).expect(rt, "memory");
+    let mut frame = packet.bytes.to_vec(alloc).expect(rt, "memory");
+    pass(rt, alloc, job, place, &mut frame, &mut tele, sensors, shown);
+    forget(frame);
+    forget(tele);
 }
 
-/// What switches keep before any packet, and behind it what they keep once more.
-fn sensors_of(alloc: Global, p: &Property, count: u16) -> Result<Vec<SensorState>, AllocError> {
+/// What switches keep before any packet.
+fn sensors_of(rt: &impl Abort, alloc: Global, p: &Property, count: u16) -> Vec<SensorState> {
     let mut sensors = Vec::new(alloc);
     for _ in 0..count {
-        sensors.push(SensorState::start(alloc, p)?)?;
+        let state = SensorState::start(alloc, p).expect(rt, "memory");
+        sensors.push(state).expect(rt, "memory");
     }
-    Ok(sensors)
+    sensors
+}
+
+/// No rejected packet yet, in a network of so many switches.
+fn no_rejects(rt: &impl Abort, alloc: Global, switches: u16) -> Vec<u32> {
+    let mut rejects = Vec::new(alloc);
+    for _ in 0..switches {
+        rejects.push(0).expect(rt, "memory");
+    }
+    rejects
 }
 
 /// Nothing yet, in a network of so many switches.
-fn nothing(alloc: Global, packets: usize, switches: u16) -> Result<Shown, AllocError> {
-    let mut rejects = Vec::new(alloc);
-    for _ in 0..switches {
-        rejects.push(0)?;
-    }
-    Ok(Shown {
+fn nothing(rt: &impl Abort, alloc: Global, packets: usize, switches: u16) -> Shown {
+    Shown {
         captures: Vec::new(alloc),
         reports: String::new(alloc),
-        rejects,
+        rejects: no_rejects(rt, alloc, switches),
         registers: String::new(alloc),
         counts: Counts {
             packets: u32::try_from(packets).unwrap_or(0),
@@ -292,38 +330,34 @@ fn nothing(alloc: Global, packets: usize, switches: u16) -> Result<Shown, AllocE
             rejected: 0,
             reports: 0,
         },
-    })
+    }
 }
 
 impl Shown {
     /// What the switches keep at the end.
-    fn keep(
-        &mut self,
-        alloc: Global,
-        p: &Property,
-        sensors: &[SensorState],
-    ) -> Result<(), AllocError> {
-        let first = SensorState::start(alloc, p)?;
+    fn keep(&mut self, rt: &impl Abort, alloc: Global, p: &Property, sensors: &[SensorState]) {
+        let first = SensorState::start(alloc, p).expect(rt, "memory");
         for (switch, state) in sensors.iter().enumerate() {
             let rejects = self.rejects.get(switch).copied().unwrap_or(0);
-            let states = (&first, state);
-            put_registers(alloc, &mut self.registers, p, (switch, rejects), states)?;
+            let lines = &mut self.registers;
+            put_registers(rt, alloc, lines, p, (switch, rejects), (&first, state));
         }
-        Ok(())
+        forget(first);
     }
 }
 
 /// What the evaluator says of a job: each packet in turn to its end.
-pub fn evaluated(alloc: Global, job: &LinkedJob) -> Result<Shown, Fail> {
+pub fn evaluated(rt: &impl Abort, alloc: Global, job: &LinkedJob) -> Shown {
     let p = job.property.property();
     let count = job.network.count();
-    let mut sensors = sensors_of(alloc, p, count)?;
-    let mut shown = nothing(alloc, job.packets.len(), count)?;
-    let mut number = 0;
+    let mut sensors = sensors_of(rt, alloc, p, count);
+    let mut shown = nothing(rt, alloc, job.packets.len(), count);
+    let mut number: u32 = 0;
     for packet in &job.packets {
-        pass(alloc, job, number, packet, &mut sensors, &mut shown)?;
+        enter(rt, alloc, job, number, packet, &mut sensors, &mut shown);
         number = number.wrapping_add(1);
     }
-    shown.keep(alloc, p, &sensors)?;
-    Ok(shown)
+    shown.keep(rt, alloc, p, &sensors);
+    forget(sensors);
+    shown
 }

@@ -1,14 +1,13 @@
 //! Properties, and what `run` writes of them beside what the evaluator says.
 
 use crate::hops::evaluated;
-use crate::shown::{no_frames, put_record};
-use job_course::Stop;
+use crate::shown::{no_frames, put, put_number, put_record};
 use linked_run::run_linked;
 use outside::SureStore;
 use run_job::load_run;
 use std::alloc::Global;
+use std::mem::forget;
 use std::process::Abort;
-use std::test::Fail;
 
 /// A program, up to its ingress. Its frames begin with the header `h`, or with `h` and `tcp`.
 const FRONT: &str = "\
@@ -178,134 +177,156 @@ fn named<'a>(table: &'a str, name: &str) -> &'a str {
     ""
 }
 
-/// A state of a row.
-#[derive(Clone, Copy)]
-struct State<'a> {
-    ingress: &'a str,
-    network: &'a str,
-    contents: &'a str,
-    packets: &'a str,
+/// The two sides of a mark.
+fn sides<'a>(rt: &impl Abort, text: &'a str, mark: &str) -> (&'a str, &'a str) {
+    text.split_once(mark).expect(rt, "two sides")
 }
 
-fn state_of<'a>(text: &'a str) -> Option<State<'a>> {
-    let mut parts = text.split(" @ ");
-    Some(State {
-        ingress: parts.next()?,
-        network: parts.next()?,
-        contents: parts.next()?,
-        packets: parts.next()?,
-    })
+fn hold(rt: &impl Abort, alloc: Global, store: &mut SureStore, name: &str, bytes: &[u8]) {
+    store.hold(alloc, name, bytes).expect(rt, "memory");
 }
 
-/// A packet: its switch, its port, and its frame.
-fn packet_of<'a>(text: &'a str) -> Option<(&'a str, &'a str, &'a str)> {
-    let mut parts = text.split(':');
-    Some((parts.next()?, parts.next()?, parts.next()?))
+/// Where a packet enters, as the case says it.
+fn put_place(rt: &impl Abort, places: &mut String, name: &str, switch: &str, port: &str) {
+    if !places.is_empty() {
+        put(rt, places, ", ");
+    }
+    put(rt, places, "{\"switch\": \"s");
+    put(rt, places, switch);
+    put(rt, places, "\", \"port\": ");
+    put(rt, places, port);
+    put(rt, places, ", \"file\": \"");
+    put(rt, places, name);
+    put(rt, places, "\"}");
 }
 
-/// Each packet has a capture of its own. The answer is where they enter, as the case says it.
-fn hold_packets(alloc: Global, store: &mut SureStore, packets: &str) -> Result<String, Fail> {
+/// Holds the capture of a frame.
+fn hold_frame(
+    rt: &impl Abort,
+    alloc: Global,
+    store: &mut SureStore,
+    name: &str,
+    number: u32,
+    frame: &str,
+) {
+    let frame = hex::decode(alloc, frame).expect(rt, "hexadecimal digits");
+    let mut capture = no_frames(rt, alloc);
+    put_record(rt, &mut capture, number, &frame);
+    hold(rt, alloc, store, name, &capture);
+}
+
+/// A packet has a capture of its own. Its text is its switch, its port, and its frame.
+fn hold_packet(
+    rt: &impl Abort,
+    alloc: Global,
+    store: &mut SureStore,
+    places: &mut String,
+    number: u32,
+    text: &str,
+) {
+    let (switch, rest) = sides(rt, text, ":");
+    let (port, frame) = sides(rt, rest, ":");
+    let mut name = String::new(alloc);
+    put_number(rt, alloc, &mut name, "h", number as u128);
+    hold_frame(rt, alloc, store, &name, number, frame);
+    put_place(rt, places, &name, switch, port);
+}
+
+/// Holds the case of these packets, with a capture of each.
+fn hold_case(rt: &impl Abort, alloc: Global, store: &mut SureStore, packets: &str) {
     let mut places = String::new(alloc);
     let mut number: u32 = 0;
     for text in packets.split(',') {
-        let Some((switch, port, frame)) = packet_of(text) else {
-            return Err(Fail::new("a packet has too few parts"));
-        };
-        let Ok(frame) = hex::decode(alloc, frame) else {
-            return Err(Fail::new("no hexadecimal digits"));
-        };
-        let mut capture = no_frames(alloc)?;
-        put_record(&mut capture, number, &frame)?;
-        let name = format!(in alloc; "h{number}")?;
-        store.hold(alloc, name.as_str(), &capture)?;
-        let comma = if number == 0 { "" } else { ", " };
-        places.push_str(&format!(in alloc;
-            "{comma}{{\"switch\": \"s{switch}\", \"port\": {port}, \"file\": \"{name}\"}}"
-        )?)?;
+        hold_packet(rt, alloc, store, &mut places, number, text);
         number = number.wrapping_add(1);
     }
-    Ok(places)
+    let mut case = String::new(alloc);
+    put(
+        rt,
+        &mut case,
+        "{\"program\": \"f\", \"property\": \"p\", \"network\": \"n\", \"control\": \"k\", \"captures\": [",
+    );
+    put(rt, &mut case, &places);
+    put(rt, &mut case, "]}");
+    hold(rt, alloc, store, "c", case.as_bytes());
 }
 
-/// The case of a state.
-fn held(alloc: Global, property: &str, state: State<'_>) -> Result<SureStore, Fail> {
-    let mut store = SureStore::new(alloc);
-    let places = hold_packets(alloc, &mut store, state.packets)?;
-    let case = format!(in alloc;
-        "{{\"program\": \"f\", \"property\": \"p\", \"network\": \"n\", \"control\": \"k\", \"captures\": [{places}]}}"
-    )?;
-    let ingress = named(INGRESSES, state.ingress);
-    let program = format!(in alloc; "{FRONT}{ingress}{BACK}")?;
-    store.hold(alloc, "c", case.as_bytes())?;
-    store.hold(alloc, "f", program.as_bytes())?;
-    store.hold(alloc, "n", named(NETWORKS, state.network).as_bytes())?;
-    store.hold(alloc, "k", state.contents.as_bytes())?;
-    store.hold(alloc, "p", property.as_bytes())?;
-    Ok(store)
+/// Holds the program with an ingress.
+fn hold_program(rt: &impl Abort, alloc: Global, store: &mut SureStore, ingress: &str) {
+    let mut program = String::new(alloc);
+    put(rt, &mut program, FRONT);
+    put(rt, &mut program, named(INGRESSES, ingress));
+    put(rt, &mut program, BACK);
+    hold(rt, alloc, store, "f", program.as_bytes());
 }
 
-/// Why a case was not read.
-fn refused(stop: &Stop) -> Fail {
-    match stop {
-        Stop::Refused(_) => Fail::new("a case is refused"),
-        Stop::Starved => Fail::new("memory is wanting"),
-    }
+/// Holds the files of a state: an ingress, a network, contents, and packets.
+fn hold_state(rt: &impl Abort, alloc: Global, store: &mut SureStore, state: &str) {
+    let (ingress, rest) = sides(rt, state, " @ ");
+    let (network, rest) = sides(rt, rest, " @ ");
+    let (contents, packets) = sides(rt, rest, " @ ");
+    hold_program(rt, alloc, store, ingress);
+    hold(rt, alloc, store, "n", named(NETWORKS, network).as_bytes());
+    hold(rt, alloc, store, "k", contents.as_bytes());
+    hold_case(rt, alloc, store, packets);
 }
 
-/// The file in which the run of a case and the evaluator differ, and nothing where they agree.
-fn difference(alloc: Global, store: &mut SureStore) -> Result<String, Fail> {
-    let job = match load_run(alloc, store, "c") {
-        Ok(job) => job,
-        Err(stop) => return Err(refused(&stop)),
-    };
-    let shown = evaluated(alloc, &job);
-    let ran = run_linked(alloc, job, "o");
-    let (shown, ran) = (shown?, ran?);
-    Ok(String::from_str(alloc, shown.differs(alloc, &ran)?)?)
-}
-
-/// The file in which a state of a property differs.
-fn difference_in(alloc: Global, property: &str, state: &str) -> Result<String, Fail> {
-    let Some(state) = state_of(state) else {
-        return Err(Fail::new("a state has too few parts"));
-    };
-    let mut store = held(alloc, property, state)?;
-    difference(alloc, &mut store)
-}
-
-/// The states in which the run of a row's property and the evaluator differ, each with the file.
-fn differences(alloc: Global, row: &str) -> Result<String, Fail> {
-    let mut found = String::new(alloc);
-    let (title, rest) = row.split_once('\n').unwrap_or((row, ""));
-    let (property, states) = rest.split_once('\n').unwrap_or((rest, ""));
-    for state in states.lines() {
-        let file = difference_in(alloc, property, state)?;
-        if !file.is_empty() {
-            found.push_str(&format!(in alloc; "{title}: {state}: {file}\n")?)?;
+/// The run of a case and the evaluator agree.
+fn case_agrees(rt: &impl Abort, alloc: Global, store: &mut SureStore, row: &str) {
+    match load_run(alloc, store, "c") {
+        Ok(job) => {
+            let shown = evaluated(rt, alloc, &job);
+            let ran = run_linked(alloc, job, "o").expect(rt, "memory");
+            shown.agrees(rt, alloc, &ran, row);
+            forget(shown);
+            forget(ran);
+        }
+        Err(stop) => {
+            forget(stop);
+            panic!(rt; "a case is refused");
         }
     }
-    Ok(found)
 }
 
-fn agree(rt: &impl Abort, alloc: Global, rows: &str) -> Result<(), Fail> {
-    for row in rows.split("\n\n") {
-        let found = differences(alloc, row)?;
-        assert_eq!(rt; found.as_str(), "");
+/// A property in a state is as the evaluator says.
+fn state_agrees(rt: &impl Abort, alloc: Global, title: &str, property: &str, state: &str) {
+    let mut store = SureStore::new(alloc);
+    hold_state(rt, alloc, &mut store, state);
+    hold(rt, alloc, &mut store, "p", property.as_bytes());
+    let mut row = String::new(alloc);
+    put(rt, &mut row, title);
+    put(rt, &mut row, ": ");
+    put(rt, &mut row, state);
+    case_agrees(rt, alloc, &mut store, &row);
+    forget(store);
+}
+
+/// A row's property is as the evaluator says, in each of its states.
+fn row_agrees(rt: &impl Abort, alloc: Global, row: &str) {
+    let (title, rest) = sides(rt, row, "\n");
+    let (property, states) = sides(rt, rest, "\n");
+    for state in states.lines() {
+        state_agrees(rt, alloc, title, property, state);
     }
-    Ok(())
+}
+
+fn agree(rt: &impl Abort, alloc: Global, rows: &str) {
+    for row in rows.split("\n\n") {
+        row_agrees(rt, alloc, row);
+    }
 }
 
 #[test]
-fn lookups(rt: HostRuntime) -> Result<(), Fail> {
-    agree(&rt, rt.alloc(), LOOKUPS)
+fn lookups(rt: HostRuntime) {
+    agree(&rt, rt.alloc(), LOOKUPS);
 }
 
 #[test]
-fn lists_and_loops(rt: HostRuntime) -> Result<(), Fail> {
-    agree(&rt, rt.alloc(), LISTS)
+fn lists_and_loops(rt: HostRuntime) {
+    agree(&rt, rt.alloc(), LISTS);
 }
 
 #[test]
-fn sensors_headers_and_reports(rt: HostRuntime) -> Result<(), Fail> {
-    agree(&rt, rt.alloc(), OTHERS)
+fn sensors_headers_and_reports(rt: HostRuntime) {
+    agree(&rt, rt.alloc(), OTHERS);
 }

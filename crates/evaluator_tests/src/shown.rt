@@ -5,7 +5,8 @@ use bit_writer::BitWriter;
 use indus_tree::{Decl, DeclKind, Property, Shape, Ty};
 use indus_values::{Report, SensorState, TeleState};
 use job_course::Output;
-use std::alloc::{AllocError, Global};
+use std::alloc::Global;
+use std::process::Abort;
 
 /// The head of a capture.
 const HEAD: &[u8] = b"\xd4\xc3\xb2\xa1\x02\0\x04\0\0\0\0\0\0\0\0\0\0\0\x04\0\x01\0\0\0";
@@ -30,121 +31,174 @@ pub struct Shown {
     pub counts: Counts,
 }
 
+// ---- texts
+
+/// Puts a text.
+pub fn put(rt: &impl Abort, out: &mut String, text: &str) {
+    out.push_str(text).expect(rt, "memory");
+}
+
+/// Puts a text and a number.
+pub fn put_number(rt: &impl Abort, alloc: Global, out: &mut String, front: &str, number: u128) {
+    put(rt, out, front);
+    let digits = format!(in alloc; "{number}").expect(rt, "memory");
+    put(rt, out, &digits);
+}
+
+/// Puts a text and a switch. The names of switches count from 1.
+fn put_switch(rt: &impl Abort, alloc: Global, out: &mut String, front: &str, switch: usize) {
+    put(rt, out, front);
+    put_number(rt, alloc, out, "s", switch.wrapping_add(1) as u128);
+}
+
+/// The name of the capture of what leaves a switch by a port, behind a front.
+pub fn capture_name(rt: &impl Abort, alloc: Global, front: &str, switch: u16, port: u16) -> String {
+    let mut name = String::new(alloc);
+    put_switch(rt, alloc, &mut name, front, switch as usize);
+    put_number(rt, alloc, &mut name, ".", port as u128);
+    put(rt, &mut name, ".pcap");
+    name
+}
+
+/// A report as a line.
+pub fn put_report(
+    rt: &impl Abort,
+    alloc: Global,
+    lines: &mut String,
+    packet: u32,
+    switch: usize,
+    report: &Report,
+) {
+    put_number(rt, alloc, lines, "", packet as u128);
+    put_switch(rt, alloc, lines, " ", switch);
+    put_number(rt, alloc, lines, " ", report.number as u128);
+    for word in report.values.as_slice() {
+        put_number(rt, alloc, lines, " ", word.value);
+    }
+    put(rt, lines, "\n");
+}
+
+/// A cell as a line, of the register whose name is these two texts.
+fn put_cell(
+    rt: &impl Abort,
+    alloc: Global,
+    lines: &mut String,
+    switch: usize,
+    (front, name): (&str, &str),
+    at: usize,
+    held: u128,
+) {
+    put_switch(rt, alloc, lines, "", switch);
+    put(rt, lines, front);
+    put(rt, lines, name);
+    put_number(rt, alloc, lines, " ", at as u128);
+    put_number(rt, alloc, lines, " ", held);
+    put(rt, lines, "\n");
+}
+
+/// The cells of a sensor: those that are not as at first, each xor its first value.
+fn put_cells(
+    rt: &impl Abort,
+    alloc: Global,
+    lines: &mut String,
+    switch: usize,
+    name: &str,
+    (first, cells): (&[Bits], &[Bits]),
+) {
+    for (at, now) in cells.iter().enumerate() {
+        let before = first.get(at).copied().unwrap_or(*now);
+        let held = before.value ^ now.value;
+        if held != 0 {
+            put_cell(rt, alloc, lines, switch, (" hydra_s_", name), at, held);
+        }
+    }
+}
+
+/// The cells of a switch, and behind them how many packets it rejected.
+pub fn put_registers(
+    rt: &impl Abort,
+    alloc: Global,
+    lines: &mut String,
+    p: &Property,
+    (switch, rejects): (usize, u32),
+    (first, sensors): (&SensorState, &SensorState),
+) {
+    let mut lists = first.cells.iter().zip(&sensors.cells);
+    for decl in &p.decls {
+        if decl.kind == DeclKind::Sensor {
+            if let Some((before, now)) = lists.next() {
+                let name = decl.name.as_str();
+                put_cells(rt, alloc, lines, switch, name, (before, now));
+            }
+        }
+    }
+    if rejects != 0 {
+        let register = (" hydra_rejects", "");
+        put_cell(rt, alloc, lines, switch, register, 0, rejects as u128);
+    }
+}
+
+fn summary(rt: &impl Abort, alloc: Global, counts: Counts) -> String {
+    let mut text = String::new(alloc);
+    put_number(rt, alloc, &mut text, "packets ", counts.packets as u128);
+    put_number(rt, alloc, &mut text, "\nsent ", counts.sent as u128);
+    put_number(rt, alloc, &mut text, "\ndropped ", counts.dropped as u128);
+    put_number(rt, alloc, &mut text, "\nrejected ", counts.rejected as u128);
+    put_number(
+        rt,
+        alloc,
+        &mut text,
+        "\nlost 0\nreports ",
+        counts.reports as u128,
+    );
+    put(rt, &mut text, "\n");
+    text
+}
+
 // ---- captures
 
+/// Puts bytes.
+fn put_bytes(rt: &impl Abort, out: &mut Vec<u8>, bytes: &[u8]) {
+    out.extend_from_slice(bytes).expect(rt, "memory");
+}
+
 /// A capture of no frame.
-pub fn no_frames(alloc: Global) -> Result<Vec<u8>, AllocError> {
+pub fn no_frames(rt: &impl Abort, alloc: Global) -> Vec<u8> {
     let mut bytes = Vec::new(alloc);
-    bytes.extend_from_slice(HEAD)?;
-    Ok(bytes)
+    put_bytes(rt, &mut bytes, HEAD);
+    bytes
 }
 
 /// A frame goes behind the others, with a time by its number.
-pub fn put_record(capture: &mut Vec<u8>, number: u32, frame: &[u8]) -> Result<(), AllocError> {
+pub fn put_record(rt: &impl Abort, capture: &mut Vec<u8>, number: u32, frame: &[u8]) {
     let length = u32::try_from(frame.len()).unwrap_or(0).to_le_bytes();
-    capture.extend_from_slice(&number.to_le_bytes())?;
-    capture.extend_from_slice(&number.to_le_bytes())?;
-    capture.extend_from_slice(&length)?;
-    capture.extend_from_slice(&length)?;
-    capture.extend_from_slice(frame)?;
-    Ok(())
+    put_bytes(rt, capture, &number.to_le_bytes());
+    put_bytes(rt, capture, &number.to_le_bytes());
+    put_bytes(rt, capture, &length);
+    put_bytes(rt, capture, &length);
+    put_bytes(rt, capture, frame);
 }
 
 impl Shown {
     /// A frame left a switch by a port, onto a link or by an edge.
     pub fn put_frame(
         &mut self,
+        rt: &impl Abort,
         alloc: Global,
         name: String,
         number: u32,
         frame: &[u8],
-    ) -> Result<(), AllocError> {
+    ) {
         for (known, capture) in self.captures.iter_mut() {
             if known.as_str() == name.as_str() {
-                return put_record(capture, number, frame);
+                put_record(rt, capture, number, frame);
+                return;
             }
         }
-        let mut capture = no_frames(alloc)?;
-        put_record(&mut capture, number, frame)?;
-        self.captures.push((name, capture))?;
-        Ok(())
+        let mut capture = no_frames(rt, alloc);
+        put_record(rt, &mut capture, number, frame);
+        self.captures.push((name, capture)).expect(rt, "memory");
     }
-}
-
-// ---- texts
-
-/// A report as a line.
-pub fn put_report(
-    alloc: Global,
-    lines: &mut String,
-    packet: u32,
-    switch: usize,
-    report: &Report,
-) -> Result<(), AllocError> {
-    let place = switch.wrapping_add(1);
-    let number = report.number;
-    lines.push_str(&format!(in alloc; "{packet} s{place} {number}")?)?;
-    for word in &report.values {
-        let value = word.value;
-        lines.push_str(&format!(in alloc; " {value}")?)?;
-    }
-    lines.push_str("\n")
-}
-
-/// The cells of a sensor: those that are not as at first, each xor its first value.
-fn put_cells(
-    alloc: Global,
-    lines: &mut String,
-    front: &str,
-    first: &[Bits],
-    cells: &[Bits],
-) -> Result<(), AllocError> {
-    for (at, now) in cells.iter().enumerate() {
-        let before = first.get(at).copied().unwrap_or(*now);
-        let held = before.value ^ now.value;
-        if held != 0 {
-            lines.push_str(&format!(in alloc; "{front} {at} {held}\n")?)?;
-        }
-    }
-    Ok(())
-}
-
-/// The cells of a switch, and behind them how many packets it rejected.
-pub fn put_registers(
-    alloc: Global,
-    lines: &mut String,
-    p: &Property,
-    (switch, rejects): (usize, u32),
-    (first, sensors): (&SensorState, &SensorState),
-) -> Result<(), AllocError> {
-    let place = switch.wrapping_add(1);
-    let mut lists = first.cells.iter().zip(&sensors.cells);
-    for decl in &p.decls {
-        if decl.kind == DeclKind::Sensor {
-            if let Some((before, now)) = lists.next() {
-                let name = decl.name.as_str();
-                let front = format!(in alloc; "s{place} hydra_s_{name}")?;
-                put_cells(alloc, lines, front.as_str(), before, now)?;
-            }
-        }
-    }
-    if rejects != 0 {
-        lines.push_str(&format!(in alloc; "s{place} hydra_rejects 0 {rejects}\n")?)?;
-    }
-    Ok(())
-}
-
-fn summary(alloc: Global, counts: Counts) -> Result<String, AllocError> {
-    let Counts {
-        packets,
-        sent,
-        dropped,
-        rejected,
-        reports,
-    } = counts;
-    format!(in alloc;
-        "packets {packets}\nsent {sent}\ndropped {dropped}\nrejected {rejected}\nlost 0\nreports {reports}\n"
-    )
 }
 
 // ---- telemetry
@@ -156,63 +210,61 @@ fn width_of(ty: Ty) -> u8 {
     }
 }
 
+/// Puts a word.
+fn put_word(rt: &impl Abort, out: &mut BitWriter, width: u8, value: u128) {
+    out.put(width.min(128), value).expect(rt, "memory");
+}
+
 /// Words of a width, and behind them zeros for so many words more.
-fn put_words(
-    out: &mut BitWriter,
-    width: u8,
-    words: &[Bits],
-    unused: usize,
-) -> Result<(), AllocError> {
-    let width = width.min(128);
+fn put_words(rt: &impl Abort, out: &mut BitWriter, width: u8, words: &[Bits], unused: usize) {
     for word in words {
-        out.put(width, word.value)?;
+        put_word(rt, out, width, word.value);
     }
     for _ in 0..unused {
-        out.put(width, 0)?;
+        put_word(rt, out, width, 0);
     }
-    Ok(())
 }
 
 /// A variable: a list behind its count, with all its places.
-fn put_variable(out: &mut BitWriter, shape: &Shape, words: &[Bits]) -> Result<(), AllocError> {
+fn put_variable(rt: &impl Abort, out: &mut BitWriter, shape: &Shape, words: &[Bits]) {
     match shape {
-        Shape::One(ty) => put_words(out, width_of(*ty), words, 0),
+        Shape::One(ty) => put_words(rt, out, width_of(*ty), words, 0),
         Shape::List(ty, size) => {
             let count = words.len();
-            out.put(8, count as u128)?;
+            put_word(rt, out, 8, count as u128);
             let unused = (*size as usize).saturating_sub(count);
-            put_words(out, width_of(*ty), words, unused)
+            put_words(rt, out, width_of(*ty), words, unused);
         }
-        Shape::SetOf(_) | Shape::DictOf(_, _) => Ok(()),
+        Shape::SetOf(_) | Shape::DictOf(_, _) => {}
     }
 }
 
-fn put_variables(out: &mut BitWriter, decls: &[Decl], tele: &TeleState) -> Result<(), AllocError> {
+fn put_variables(rt: &impl Abort, out: &mut BitWriter, decls: &[Decl], tele: &TeleState) {
     let mut lists = tele.items.iter();
     for decl in decls {
         if decl.kind == DeclKind::Tele {
             if let Some(words) = lists.next() {
-                put_variable(out, &decl.shape, words)?;
+                put_variable(rt, out, &decl.shape, words);
             }
         }
     }
-    Ok(())
 }
 
 /// The frame behind what travels with it: the mark of the edition, the variables, and bits that fill the last byte.
 pub fn on_link(
+    rt: &impl Abort,
     alloc: Global,
     p: &Property,
     tele: &TeleState,
     frame: &[u8],
-) -> Result<Vec<u8>, AllocError> {
+) -> Vec<u8> {
     let mut out = BitWriter::new(alloc);
-    out.put(8, if p.edition == 2 { 0x49 } else { 0x48 })?;
-    put_variables(&mut out, &p.decls, tele)?;
-    out.put(7, 0)?;
+    put_word(rt, &mut out, 8, if p.edition == 2 { 0x49 } else { 0x48 });
+    put_variables(rt, &mut out, &p.decls, tele);
+    put_word(rt, &mut out, 7, 0);
     let mut bytes = out.finish();
-    bytes.extend_from_slice(frame)?;
-    Ok(bytes)
+    put_bytes(rt, &mut bytes, frame);
+    bytes
 }
 
 // ---- what was written
@@ -234,28 +286,25 @@ fn captures_in(files: &[(String, Vec<u8>)]) -> usize {
         .count()
 }
 
+/// A file of a run holds these bytes.
+fn holds(rt: &impl Abort, ran: &Output, name: &str, wanted: &[u8], row: &str) {
+    assert!(rt; file(&ran.files, name) == wanted, "{row}: {name}");
+}
+
 impl Shown {
-    /// The file of a run that is otherwise, and none where all are the same.
-    pub fn differs(&self, alloc: Global, ran: &Output) -> Result<&str, AllocError> {
-        let files = ran.files.as_slice();
+    /// All files of a run are these.
+    pub fn agrees(&self, rt: &impl Abort, alloc: Global, ran: &Output, row: &str) {
         for (name, capture) in &self.captures {
-            if file(files, name) != capture.as_slice() {
-                return Ok(name.as_str());
-            }
+            holds(rt, ran, name, capture, row);
         }
-        let summary = summary(alloc, self.counts)?;
-        Ok(if captures_in(files) != self.captures.len() {
-            "captures"
-        } else if file(files, "o.reports.txt") != self.reports.as_bytes() {
-            "reports"
-        } else if !file(files, "o.digests.txt").is_empty() {
-            "digests"
-        } else if file(files, "o.registers.txt") != self.registers.as_bytes() {
-            "registers"
-        } else if file(files, "o.summary.txt") != summary.as_bytes() {
-            "summary"
-        } else {
-            ""
-        })
+        assert!(rt;
+            captures_in(&ran.files) == self.captures.len(),
+            "{row}: captures"
+        );
+        holds(rt, ran, "o.reports.txt", self.reports.as_bytes(), row);
+        holds(rt, ran, "o.digests.txt", b"", row);
+        holds(rt, ran, "o.registers.txt", self.registers.as_bytes(), row);
+        let summary = summary(rt, alloc, self.counts);
+        holds(rt, ran, "o.summary.txt", summary.as_bytes(), row);
     }
 }
