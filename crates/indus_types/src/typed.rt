@@ -16,12 +16,17 @@ use indus_tree::Property;
 use std::alloc::{AllocError, Global};
 use std::marker::Model;
 
+/// A property with the declared names, in their order.
+#[derive(Drop)]
+struct Tabled {
+    property: Property,
+    names: IndexSet<String>,
+}
+
 /// A property that breaks no rule. Contracts see it as the property.
 #[derive(Drop)]
 pub struct TypedProperty {
-    property: Property,
-    /// The declared names, in their order.
-    names: IndexSet<String>,
+    tabled: Box<Tabled>,
 }
 
 impl Model for TypedProperty {
@@ -36,9 +41,9 @@ impl Model for TypedProperty {
 
     ghost coded = { Prim.hlevel (codes, expr.the_row.coded, stmt.the_row.coded) };
 
-    ghost view = { λ t. t.property };
+    ghost view = { λ t. t.tabled.value.property };
 
-    ghost invariant = { λ t. IsTabled (property_of t.property) t.names.keys };
+    ghost invariant = { λ t. IsTabled (property_of t.tabled.value.property) t.tabled.value.names.keys };
 }
 
 /// The property itself, exactly where it breaks no rule.
@@ -59,7 +64,9 @@ fn with_names(alloc: Global, property: Property) -> Result<TypedProperty, AllocE
     ensures { IfOk result (λ t. property_of t ≡ property_of property) }
 {
     let names = name_table(alloc, &property.decls)?;
-    Ok(TypedProperty { property, names })
+    Ok(TypedProperty {
+        tabled: Box::new(alloc, Tabled { property, names })?,
+    })
 }
 
 impl TypedProperty {
@@ -68,14 +75,14 @@ impl TypedProperty {
         ensures same { result.now ≡ self.now }
         ensures typed { IsWellTyped (property_of self.now) }
     {
-        &self.property
+        &self.tabled.property
     }
 
     /// An equal property with the same places.
     pub fn copy(&self, alloc: Global) -> Result<TypedProperty, AllocError>
         ensures { IfOk result (λ t. property_of t ≡ property_of self.now) }
     {
-        let property = self.property.copy(alloc)?;
+        let property = self.tabled.property.copy(alloc)?;
         with_names(alloc, property)
     }
 
@@ -83,21 +90,21 @@ impl TypedProperty {
     pub fn number(&self, name: &str) -> Option<usize>
         ensures { result ≡ variable_number (property_of self.now).decls name.now }
     {
-        self.names.get_index_of(name)
+        self.tabled.names.get_index_of(name)
     }
 
     /// The bits of the telemetry, cut at the greatest number.
     pub fn tele_bits(&self) -> u64
         ensures { result ≡ cut_wide (property_bits (property_of self.now)) }
     {
-        bits::property_bits(&self.property)
+        bits::property_bits(&self.tabled.property)
     }
 
     /// The weight, cut at the greatest number.
     pub fn weight(&self) -> u32
         ensures { result ≡ cut (property_weight (property_of self.now)) }
     {
-        weight::property_weight(&self.property, &self.names)
+        weight::property_weight(&self.tabled.property, &self.tabled.names)
     }
 
     /// How often the control variable at this place among the declarations is read, cut at the
@@ -106,6 +113,6 @@ impl TypedProperty {
         requires { IsControl (property_of self.now) variable }
         ensures { result ≡ cut (nth_lookups (property_of self.now) variable) }
     {
-        reads::lookups(&self.property, &self.names, variable)
+        reads::lookups(&self.tabled.property, &self.tabled.names, variable)
     }
 }

@@ -4,3 +4,4 @@ pub mod LinkLemmas
 pub mod NextLemmas
 pub mod Sound
 pub mod PortLemmas
+pub mod Lent

@@ -16,12 +16,18 @@ use serde_json::Value;
 use std::alloc::{AllocError, Global};
 use std::marker::Model;
 
+/// The names of switches, in their order, and the ends of the links between them.
+#[derive(Drop)]
+struct Tables {
+    names: IndexSet<String>,
+    ends: Ends,
+}
+
 /// The switches of a network and the links between them. Contracts see it as the names of the
 /// switches, in their order, and the links.
 #[derive(Drop)]
 pub struct Network {
-    names: IndexSet<String>,
-    ends: Ends,
+    tables: Box<Tables>,
 }
 
 impl Model for Network {
@@ -31,9 +37,9 @@ impl Model for Network {
 
     ghost Value = { network.Network };
 
-    ghost view = { λ n. record { names = owned n.names.keys; links = links_in n.ends.entries } };
+    ghost view = { λ n. record { names = owned n.tables.value.names.keys; links = links_in n.tables.value.ends.entries } };
 
-    ghost invariant = { λ n. IsNetwork (owned n.names.keys) n.ends.entries };
+    ghost invariant = { λ n. IsNetwork (owned n.tables.value.names.keys) n.tables.value.ends.entries };
 }
 
 /// The network that a value says.
@@ -51,7 +57,9 @@ pub fn read_network(alloc: Global, value: &Value) -> Result<Network, NetworkFaul
     let ends = ends(alloc, &links)?;
     ports_in_range(alloc, &links)?;
     sized(&names)?;
-    Ok(Network { names, ends })
+    Ok(Network {
+        tables: Box::new(alloc, Tables { names, ends })?,
+    })
 }
 
 impl Network {
@@ -64,7 +72,7 @@ impl Network {
         // The links join ports of these switches.
         ensures wiring { IsWiring (wiring_of self.now) }
     {
-        self.names.len() as u16
+        self.tables.names.len() as u16
     }
 
     /// The name of a switch.
@@ -72,7 +80,7 @@ impl Network {
         requires { switch < length self.now.names }
         ensures { slice_get self.now.names switch ≡ Some result.now }
     {
-        self.names[switch as usize].as_str()
+        self.tables.names[switch as usize].as_str()
     }
 
     /// The number of the switch with this name.
@@ -80,7 +88,7 @@ impl Network {
         ensures number { result ≡ network.number_of self.now.names name.now }
         ensures none { IsNone result ↔ All (λ known. known ≢ name.now) self.now.names }
     {
-        match self.names.get_index_of(name) {
+        match self.tables.names.get_index_of(name) {
             Some(number) => Some(number as u16),
             None => None,
         }
@@ -91,7 +99,7 @@ impl Network {
         ensures next { result ≡ far_end (wiring_of self.now) switch port }
         ensures edge { IsNone result ↔ IsUnlinked self.now switch port }
     {
-        match self.ends.get(&(switch as usize, port as u64)) {
+        match self.tables.ends.get(&(switch as usize, port as u64)) {
             Some(&(far, far_port)) => Some((far as u16, far_port as u16)),
             None => None,
         }
@@ -102,7 +110,7 @@ impl Network {
         ensures { IfOk result (λ v. v.items ≡ linked_ports self.now.links switch) }
     {
         let mut ports = Vec::new(alloc);
-        for (end, _far) in self.ends.iter() {
+        for (end, _far) in self.tables.ends.iter() {
             if end.0 == switch as usize {
                 ports.push(end.1 as u16)?;
             }

@@ -18,17 +18,21 @@ use p4_tree::Program;
 use std::alloc::{AllocError, Global};
 use std::marker::Model;
 
-/// A program that breaks no rule. Contracts see it as the program.
+/// A program with tables of what it declares, and what is counted of it.
 #[derive(Drop)]
-pub struct TypedProgram {
+struct Tabled {
     program: Program,
     tables: Numbering,
     registers: Numbering,
     actions: Numbering,
     constants: Constants,
-    header_bytes: u32,
-    digest_bound: u32,
-    cells: u64,
+    counts: Counts,
+}
+
+/// A program that breaks no rule. Contracts see it as the program.
+#[derive(Drop)]
+pub struct TypedProgram {
+    tabled: Box<Tabled>,
 }
 
 impl Model for TypedProgram {
@@ -42,9 +46,9 @@ impl Model for TypedProgram {
 
     ghost coded = { Prim.hlevel (codes, expr.the_row.coded, stmt.the_row.coded) };
 
-    ghost view = { λ t. t.program };
+    ghost view = { λ t. t.tabled.value.program };
 
-    ghost invariant = { IsTyped };
+    ghost invariant = { λ t. IsTyped t.tabled.value };
 }
 
 /// What is counted of a program: the bytes of all headers in the struct of headers, the most digests
@@ -92,15 +96,16 @@ impl TypedProgram {
         let registers = numbering_of(alloc, Sort::Registers, &program)?;
         let actions = numbering_of(alloc, Sort::Actions, &program)?;
         let constants = constants_of(alloc, &program)?;
-        Ok(TypedProgram {
+        let tabled = Tabled {
             program,
             tables,
             registers,
             actions,
             constants,
-            header_bytes: counts.header_bytes,
-            digest_bound: counts.digest_bound,
-            cells: counts.cells,
+            counts,
+        };
+        Ok(TypedProgram {
+            tabled: Box::new(alloc, tabled)?,
         })
     }
 
@@ -109,35 +114,35 @@ impl TypedProgram {
         ensures same { result.now ≡ self.now }
         ensures typed { IsWellTyped (program_of self.now) }
     {
-        &self.program
+        &self.tabled.program
     }
 
     /// The number of the table of a name: `Control.name`.
     pub fn table_number(&self, name: &str) -> Option<u32>
         ensures { result ≡ number_in (names tables (program_of self.now)) name.now }
     {
-        self.tables.number(name)
+        self.tabled.tables.number(name)
     }
 
     /// The number of the register of a name: `Control.name`, or the plain name at top level.
     pub fn register_number(&self, name: &str) -> Option<u32>
         ensures { result ≡ number_in (names registers (program_of self.now)) name.now }
     {
-        self.registers.number(name)
+        self.tabled.registers.number(name)
     }
 
     /// The number of the action of a name: `Control.name`, and `NoAction` behind all others.
     pub fn action_number(&self, name: &str) -> Option<u32>
         ensures { result ≡ number_in (names actions (program_of self.now)) name.now }
     {
-        self.actions.number(name)
+        self.tabled.actions.number(name)
     }
 
     /// The word of the constant of a name at top level.
     pub fn constant(&self, name: &str) -> Option<Bits>
         ensures { result ≡ constant_of (program_of self.now) name.now }
     {
-        self.constants.word(name)
+        self.tabled.constants.word(name)
     }
 
     /// The bytes of all headers in the struct of headers.
@@ -145,39 +150,35 @@ impl TypedProgram {
         ensures { result
             ≡ header_bytes (program_scope (program_of self.now)) (program_of self.now) }
     {
-        self.header_bytes
+        self.tabled.counts.header_bytes
     }
 
     /// The most digests that a passage gives.
     pub fn digest_bound(&self) -> u32
         ensures { result ≡ most_of_program (program_of self.now) }
     {
-        self.digest_bound
+        self.tabled.counts.digest_bound
     }
 
     /// The cells of all registers.
     pub fn cells(&self) -> u64
         ensures { result ≡ cells (program_of self.now) }
     {
-        self.cells
+        self.tabled.counts.cells
     }
 
     /// What is counted of the program.
     pub fn counts(&self) -> Counts
         ensures { AreCounts (program_of self.now) result }
     {
-        Counts {
-            header_bytes: self.header_bytes,
-            digest_bound: self.digest_bound,
-            cells: self.cells,
-        }
+        self.tabled.counts
     }
 
     /// An equal program with the same places.
     pub fn copy(&self, alloc: Global) -> Result<TypedProgram, AllocError>
         ensures { IfOk result (λ t. program_of t ≡ program_of self.now) }
     {
-        let program = self.program.copy(alloc)?;
+        let program = self.tabled.program.copy(alloc)?;
         TypedProgram::known(alloc, program, self.counts())
     }
 }

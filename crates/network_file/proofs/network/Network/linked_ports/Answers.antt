@@ -5,6 +5,7 @@ use Rattle.json_parts.specs.Views.{owned}
 use Rattle.network_file.specs.Network.{Port, Network}
 use Rattle.network_file.specs.Wiring.{linked_ports}
 use Rattle.network_file.proofs.PortLemmas.{IsLow, near, all_low, near_network, next_here, next_other}
+use Rattle.network_file.proofs.Lent.{lent_says, lent_is_network}
 use Rattle.network_file.proofs.network.Network.linked_ports.Goals as goal
 
 pub overflow_cast-end : goal.overflow_cast-end
@@ -17,7 +18,7 @@ loop-end-init c = (
   tt,
   tt,
   ap (λ (ps : List ℕ). ps ++ near c.into_iter-end-iterator.result c.args.switch) c.new-ports.ensures.items,
-  subst (All IsLow) (sym (c.into_iter-end-iterator.ensures.into_iter_gives ∙ c.iter-end-items.ensures.rest)) (all_low (owned c.self.inside.names.keys) c.self.inside.ends.entries c.self.invariant),
+  subst (All IsLow) (sym (c.into_iter-end-iterator.ensures.into_iter_gives ∙ c.iter-end-items.ensures.rest)) (all_low (owned c.deref.result.now.names.keys) c.deref.result.now.ends.entries (lent_is_network _ _ c.deref.ensures c.self.invariant)),
 )
 
 pub loop-end-preserved-in-Continue-1 : goal.loop-end-preserved-in-Continue-1
@@ -47,5 +48,5 @@ returns c =
     ∙ ap (λ (es : List (Port × Port)). c.loop-end.ports.items ++ near es c.args.switch) (sym c.in-None.ensures.steps.0)
     ∙ c.loop-end.invariant.2
     ∙ ap (λ (es : List (Port × Port)). near es c.args.switch) (c.into_iter-end-iterator.ensures.into_iter_gives ∙ c.iter-end-items.ensures.rest)
-    ∙ near_network (owned c.self.inside.names.keys) c.self.inside.ends.entries c.args.switch c.self.invariant
-    ∙ ap (λ (n : Network). linked_ports n.links c.args.switch) c.self.view_is
+    ∙ near_network (owned c.deref.result.now.names.keys) c.deref.result.now.ends.entries c.args.switch (lent_is_network _ _ c.deref.ensures c.self.invariant)
+    ∙ ap (λ (n : Network). linked_ports n.links c.args.switch) (lent_says _ _ _ c.deref.ensures c.self.view_is)
