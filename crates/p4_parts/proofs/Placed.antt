@@ -121,3 +121,14 @@ named_past as' x n h past =
 
 pub named_nowhere : (as' : List Action) (x : List ℕ) → first_in (action_names as') x ≡ None → None ≡ action_named (map action_in as') x
 named_nowhere as' x h = place_of_named as' x None h
+
+-- ---- how many stand before the first
+
+abbrev pub place_or : ℕ → Option ℕ → ℕ
+place_or count None = count
+place_or count (Some n) = n
+
+pub place_step : (count place : ℕ) (b : Bool) (o : Option ℕ) → place_or count o ≡ place → place_or (suc count) (cond b (Some 0) (option_map suc o)) ≡ cond b 0 (suc place)
+place_step count place true o rest = refl
+place_step count place false None rest = ap suc rest
+place_step count place false (Some n) rest = ap suc rest

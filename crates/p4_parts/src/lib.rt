@@ -4,8 +4,8 @@
 //! found by the names that `main` and the parameters give. What names stand for is written in their
 //! place: paths begin with fixed roots, constants are their words, typedefs the types that they stand
 //! for, and what a control or an action declares has its full name. Besides: words for the parameters
-//! of an action (`args_of`), actions by a table of their names (`ActionTable`), which paths a program declares, and how many values a packet has between
-//! the halves (`slots_of`).
+//! of an action (`args_of`), actions by a table of their names (`ActionTable`), which paths a program
+//! declares, and how many values a packet has between the halves (`slots_of`).
 //!
 //! Follows: P4_16 Language Specification and v1model, this project's subset.
 //!

@@ -8,6 +8,7 @@ use Rattle.p4_meaning.specs.Statements.{put_cells, cell_set}
 use Rattle.std.specs.declared.alloc.Global.{Global}
 use Rattle.p4_resolved.specs.Rows.{at_name}
 use Rattle.p4_parts.specs.Places.{first_in, Tells}
+use Rattle.p4_parts.proofs.Placed.{place_or, place_step}
 use Rattle.p4_statements.specs.Cells.{Rows, names_in, cells_in, place_in}
 
 pub text_decides : (x y : List ℕ) → Decides (same_text x y) (x ≡ y)
@@ -83,18 +84,9 @@ cells_written es x d r n i v at lt key is =
 
 -- ---- places by a table
 
-abbrev pub place_or : ℕ → Option ℕ → ℕ
-place_or n None = n
-place_or n (Some i) = i
-
-pub placed : (es : Rows) (x : List ℕ) → place_in es x ≡ place_or (length es) (first_in (names_in es) x)
+pub placed : (es : Rows) (x : List ℕ) → place_or (length es) (first_in (names_in es) x) ≡ place_in es x
 placed [] x = refl
-placed (e ∷ es) x = by (same_text e.0 x) (first_in (names_in es) x) (placed es x)
-  where
-    by : (b : Bool) (o : Option ℕ) → place_in es x ≡ place_or (length es) o → cond b 0 (suc (place_in es x)) ≡ place_or (suc (length es)) (cond b (Some 0) (option_map suc o))
-    by true o rest = refl
-    by false None rest = ap suc rest
-    by false (Some n) rest = ap suc rest
+placed (e ∷ es) x = place_step (length es) (place_in es x) (same_text e.0 x) (first_in (names_in es) x) (placed es x)
 
 -- other cells leave the names as they are
 pub names_kept : (es : Rows) (n : ℕ) (d r : List ℕ × List Word) → n < length es → r.0 ≡ (get_or es n d).0 → names_in (slice_set es n r) ≡ names_in es
@@ -105,7 +97,7 @@ names_kept (e ∷ es) (suc n) d r lt key = ap (λ ys. e.0 ∷ ys) (names_kept es
 -- ---- what a table finds
 
 pub found_place : (es rows : Rows) (ps : List (String Global × ℕ)) (x : List ℕ) (o : Option ℕ) → Tells ps (names_in rows) → rows ≡ es → at_name ps x ≡ o → place_or (length rows) o ≡ place_in es x
-found_place es rows ps x o told same is = ap (place_or (length rows)) (sym is ∙ told x) ∙ sym (placed rows x) ∙ ap (λ l. place_in l x) same
+found_place es rows ps x o told same is = ap (place_or (length rows)) (sym is ∙ told x) ∙ placed rows x ∙ ap (λ l. place_in l x) same
 
 pub cells_there : (es rows : Rows) (x : List ℕ) (n : ℕ) (r : List ℕ × List Word) → rows ≡ es → n ≡ place_in es x → n < length rows → r ≡ get_or rows n r → r.1 ≡ cells_in es x
 cells_there es rows x n r same at lt is =

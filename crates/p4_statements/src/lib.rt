@@ -1,10 +1,10 @@
 //! What the statements of a control do, on maps by name.
 //!
-//! The layer above gets `Run`, the words in sight with the cells of registers and the digests so far;
-//! and `run_body`, which runs a control's variables and its body, over what calls do: `NoCalls`, or
-//! `Held`, the actions of a program over what its tables hold. That is a `Tables`, whatever answers
-//! what a table chooses; `Written` is one, where nothing is loaded. Contracts see these as the `Run`
-//! and the `Calls` of the trees' meaning, by the words of `specs/`.
+//! The layer above gets `Registers`, cells by the names of registers; `Run`, the words in sight with
+//! registers and the digests so far; and `run_body`, which runs a control's variables and its body, over
+//! what calls do: `NoCalls`, or `Held`, the actions of a program over what its tables hold. That is a
+//! `Tables`, whatever answers what a table chooses; `Written` is one, where nothing is loaded. Contracts
+//! see these as the `Run` and the `Calls` of the trees' meaning, by the words of `specs/`.
 //!
 //! Follows: P4_16 Language Specification and v1model, this project's subset; RFC 1071.
 //!

@@ -4,6 +4,7 @@ use Rattle.p4_parts.specs.PartsIn.{action_in}
 use Rattle.p4_parts.specs.declared.parts.Action as code_action
 use Rattle.lex_text.specs.Names.{same_text}
 use Rattle.p4_parts.specs.Places.{first_in, action_names}
+use Rattle.p4_parts.proofs.Placed.{place_or, place_step}
 use Rattle.p4_tables.specs.Programs.{action_place}
 use Rattle.p4_tables.specs.Named.{action_name}
 
@@ -19,15 +20,6 @@ none_numbered (b ∷ bs) (suc n) le = none_numbered bs n (omega arith)
 
 -- ---- places by a table
 
-abbrev pub place_or : ℕ → Option ℕ → ℕ
-place_or n None = n
-place_or n (Some i) = i
-
 pub placed : (as' : List code_action.Action) (x : List ℕ) → place_or (length as') (first_in (action_names as') x) ≡ action_place (map action_in as') x
 placed [] x = refl
-placed (a ∷ as') x = by (same_text a.name x) (first_in (action_names as') x) (placed as' x)
-  where
-    by : (b : Bool) (o : Option ℕ) → place_or (length as') o ≡ action_place (map action_in as') x → place_or (suc (length as')) (cond b (Some 0) (option_map suc o)) ≡ cond b 0 (suc (action_place (map action_in as') x))
-    by true o rest = refl
-    by false None rest = ap suc rest
-    by false (Some n) rest = ap suc rest
+placed (a ∷ as') x = place_step (length as') (action_place (map action_in as') x) (same_text a.name x) (first_in (action_names as') x) (placed as' x)

@@ -1,6 +1,7 @@
 use Rattle.std.proofs.Common.{ap, length, ◌∙◌}
 use Rattle.std.proofs.lemmas.Result.{IfOk-weaker}
-use Rattle.p4_tables.proofs.ActionNames.{place_or, placed}
+use Rattle.p4_parts.proofs.Placed.{place_or}
+use Rattle.p4_tables.proofs.ActionNames.{placed}
 use Rattle.p4_tables.proofs.start.action_place.Goals as goal
 
 pub returns-in-Some : goal.returns-in-Some
