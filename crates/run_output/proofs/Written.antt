@@ -13,16 +13,10 @@ use Rattle.switch_machines.specs.Programs.{Programs}
 use Rattle.run_texts.specs.Told.{reports_in}
 use Rattle.run_texts.specs.Registers.{rejected_from}
 use Rattle.run_texts.specs.Files.{Run, summary_text_of}
+use Rattle.run_texts.proofs.Behind.{Files, then_more}
 use Rattle.run_output.specs.Counted.{counts_in}
 use Rattle.run_output.specs.Ends.{IsShort}
 use Rattle.run_output.specs.Wire.{frame_files}
-
-abbrev pub Files : Type 0
-Files = List (List ℕ × List ℕ)
-
--- files behind others, and others behind these
-pub then_more : (some one two a b : Files) → one ≡ some ++ a → two ≡ one ++ b → two ≡ some ++ (a ++ b)
-then_more some one two a b e f = f ∙ ap (λ (fs : Files). fs ++ b) e ∙ append_assoc some a b
 
 -- those of the programs; of the frames on links and of those that left; of what was told; of the registers and the summary
 pub all_files : (linked wires edges told registers summary one two three four five : Files) → one ≡ linked → two ≡ one ++ (wires ++ edges) → three ≡ two ++ told → four ≡ three ++ registers → five ≡ four ++ summary → five ≡ linked ++ (wires ++ (edges ++ (told ++ (registers ++ summary))))

@@ -1,8 +1,5 @@
 -- What a state counts. Read `Files` of run_texts before it.
 use Rattle.std.specs.Prelude.{ℕ, ◌-◌, length}
-use Rattle.bit_values.specs.Bits.{cast}
-use Rattle.p4_tree.specs.Tree.{Program}
-use Rattle.p4_meaning.specs.Pass.{Kept}
 use Rattle.report_writer.specs.Texts.{Counts}
 use Rattle.path_runner.specs.Nets.{Traffic}
 use Rattle.run_texts.specs.Told.{reports_in}

@@ -29,9 +29,7 @@ use p4_types::TypedProgram;
 use path_runner::RunLog;
 use report_writer::{Counts, summary_text};
 use run_captures::{Front, Time, put_captures};
-use run_texts::{
-    digests_text, put_programs, registers_text, rejected, reports, reports_text, tables_text,
-};
+use run_texts::{digests_text, put_linked, registers_text, rejected, reports, reports_text};
 use std::alloc::{AllocError, Global};
 
 /// What was run: the programs of the switches, in the network's order; the rows of the map of their
@@ -61,7 +59,15 @@ pub fn output_of(
     ensures { IfOk result (λ o. IsOutput out.now (parts_view parts.now) (log_view log.now) (out_of o)) }
 {
     let mut files = Vec::new(alloc);
-    put_linked(alloc, &mut files, parts, out, &log.net)?;
+    put_linked(
+        alloc,
+        &mut files,
+        out,
+        &log.net,
+        parts.programs,
+        parts.rows,
+        parts.decls,
+    )?;
     put_sent(alloc, &mut files, parts, out, log)?;
     put_told(alloc, &mut files, out, log)?;
     let registers = registers_text(alloc, &log.net, parts.programs, &log.switches)?;
@@ -70,25 +76,6 @@ pub fn output_of(
     let copy = String::from_str(alloc, text.as_str())?;
     put_text(alloc, &mut files, out, ".summary.txt", copy)?;
     Ok(Output { files, text })
-}
-
-/// The files of the programs and of their generated tables go behind the others.
-fn put_linked(
-    alloc: Global,
-    files: &mut Vec<(String, Vec<u8>)>,
-    parts: &RunParts<'_>,
-    out: &str,
-    network: &Network,
-) -> Result<(), AllocError>
-    requires count { length parts.now.programs.now ≡ length network.now.names }
-    requires spelled { All (λ t. CanSpell (program_of t)) parts.now.programs.now }
-    ensures { OnOk result (files_of files.new.items ≡ files_of files.old.items ++ linked_files out.now
-        (parts_view parts.now).programs (parts_view parts.now).rows (parts_view parts.now).decls network.now.names) }
-{
-    put_programs(alloc, files, out, network, parts.programs)?;
-    let tables = tables_text(alloc, parts.rows, parts.decls)?;
-    put_text(alloc, files, out, ".tables.txt", tables)?;
-    Ok(())
 }
 
 /// The captures of the frames on links, and of those that left.

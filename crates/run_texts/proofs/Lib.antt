@@ -1,3 +1,4 @@
 -- Lemmas.
 pub mod Lines
 pub mod Switches
+pub mod Behind

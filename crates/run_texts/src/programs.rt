@@ -14,7 +14,7 @@ use std::alloc::{AllocError, Global};
 
 /// The file of the program of a switch goes behind the others.
 #[tactic(auto, unfolding(crate::specs::Programs::program_file))]
-pub fn put_program(
+fn put_program(
     alloc: Global,
     files: &mut Vec<(String, Vec<u8>)>,
     out: &str,

@@ -30,7 +30,11 @@ fn table_text(alloc: Global, decls: &[Decl], row: &(Name, Name, u32)) -> Result<
 }
 
 /// The tables of a map, a line each. `decls` are the property's declarations.
-pub fn tables_text(alloc: Global, rows: &ControlMap, decls: &[Decl]) -> Result<String, AllocError>
+pub(crate) fn tables_text(
+    alloc: Global,
+    rows: &ControlMap,
+    decls: &[Decl],
+) -> Result<String, AllocError>
     ensures { IfOk result (λ s. string_bytes s ≡ tables_lines (map decl_of decls.now) rows.now.tables.items) }
 {
     let mut text = String::new(alloc);

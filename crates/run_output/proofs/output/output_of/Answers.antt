@@ -2,15 +2,15 @@ use Rattle.std.proofs.Common.{◌≡◌, List, ℕ, ◌++◌, ◌∷◌, [], len
 use Rattle.std.proofs.lemmas.List.{length-map}
 use Rattle.p4_tree.specs.View.{program_of}
 use Rattle.job_course.specs.Output.{files_of}
-use Rattle.report_writer.specs.Texts.{summary_of}
 use Rattle.path_runner.specs.Packets.{sent_of}
 use Rattle.forward_texts.specs.Switches.{KeepAll, log_view, switch_view}
-use Rattle.run_texts.specs.Files.{linked_files, sent_files, summary_text_of}
+use Rattle.run_texts.specs.Files.{linked_files, sent_files}
 use Rattle.run_texts.specs.Registers.{programs_in}
 use Rattle.run_texts.specs.Told.{digests_lines, reports_lines}
+use Rattle.run_texts.proofs.Behind.{Files}
 use Rattle.run_texts.proofs.Switches.{as_many}
 use Rattle.run_output.specs.Views.{parts_view}
-use Rattle.run_output.proofs.Written.{Files, all_files, ended}
+use Rattle.run_output.proofs.Written.{all_files, ended}
 use Rattle.run_output.proofs.output.output_of.Goals as goal
 
 pub put_linked-requires-clause-count : goal.put_linked-requires-clause-count

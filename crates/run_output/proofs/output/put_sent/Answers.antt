@@ -3,7 +3,8 @@ use Rattle.job_course.specs.Output.{files_of}
 use Rattle.path_runner.specs.Packets.{sent_of}
 use Rattle.run_captures.specs.Views.{time_view}
 use Rattle.run_texts.specs.Files.{sent_files}
-use Rattle.run_output.proofs.Written.{short_items, then_more}
+use Rattle.run_texts.proofs.Behind.{then_more}
+use Rattle.run_output.proofs.Written.{short_items}
 use Rattle.run_output.proofs.output.put_sent.Goals as goal
 
 pub put_captures-requires : goal.put_captures-requires

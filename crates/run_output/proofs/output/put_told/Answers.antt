@@ -2,7 +2,7 @@ use Rattle.std.proofs.Common.{◌++◌, ◌∷◌, [], map, codes, ap, ◌∙◌
 use Rattle.job_course.specs.Output.{files_of}
 use Rattle.path_runner.specs.Packets.{told_of}
 use Rattle.run_texts.specs.Told.{digests_lines, reports_lines}
-use Rattle.run_output.proofs.Written.{then_more}
+use Rattle.run_texts.proofs.Behind.{then_more}
 use Rattle.run_output.proofs.output.put_told.Goals as goal
 
 pub returns : goal.returns

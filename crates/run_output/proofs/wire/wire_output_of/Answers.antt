@@ -1,4 +1,4 @@
-use Rattle.std.proofs.Common.{◌≡◌, List, ℕ, ◌++◌, length, map, sym, ap, ap₂, ◌∙◌, arith}
+use Rattle.std.proofs.Common.{◌≡◌, List, ℕ, ◌++◌, map, sym, ap, ap₂, ◌∙◌, arith}
 use Rattle.std.proofs.lemmas.List.{length-map}
 use Rattle.p4_tree.specs.View.{program_of}
 use Rattle.network_run.specs.Network.{Sent}
@@ -10,7 +10,8 @@ use Rattle.run_texts.specs.Programs.{programs_files}
 use Rattle.run_texts.proofs.Switches.{as_many}
 use Rattle.run_output.specs.Wire.{frame_files}
 use Rattle.run_output.specs.Views.{parts_view}
-use Rattle.run_output.proofs.Written.{Files, ended}
+use Rattle.run_texts.proofs.Behind.{Files}
+use Rattle.run_output.proofs.Written.{ended}
 use Rattle.run_output.proofs.wire.wire_output_of.Goals as goal
 
 pub put_programs-requires-clause-count : goal.put_programs-requires-clause-count

@@ -1,7 +1,7 @@
 use Rattle.std.proofs.Common.{List, ℕ, ◌++◌, ◌∷◌, [], map, codes, ap, ◌∙◌}
 use Rattle.job_course.specs.Output.{files_of}
-use Rattle.run_output.proofs.Written.{then_more}
-use Rattle.run_output.proofs.output.put_linked.Goals as goal
+use Rattle.run_texts.proofs.Behind.{then_more}
+use Rattle.run_texts.proofs.linked.put_linked.Goals as goal
 
 pub returns : goal.returns
 returns c =
