@@ -23,7 +23,7 @@ use Rattle.lookup_names.specs.Names.{found_name}
 use Rattle.lookup_names.specs.Keys.{key_types}
 use Rattle.lowered_code.specs.Names.{table_name, action_name}
 use Rattle.lowered_code.specs.Statements.{Var}
-use Rattle.lowered_code.specs.Lookups.{IsLookup, looked_up, AreKeys, Scratch, Applied}
+use Rattle.lowered_code.specs.Lookups.{IsLookup, IsReady, looked_up, AreKeys, Scratch, Applied}
 use Rattle.lowered_code.proofs.Widths.{nothing_has}
 use Rattle.lowered_code.proofs.Scratch.{scratch_same}
 use Rattle.lookup_tables.specs.Tables.{Lookup, keys_for, no_action, table_for, params_for, given_for, action_for, first_action, members_of, pairs_of, entries_in, entries_for}
@@ -63,6 +63,14 @@ found_is (single x) key w = refl
 found_is (members ks) key w = refl
 found_is (pairs es) key w = refl
 
+-- ---- what stands in the variable before
+
+ready_width : (s : Shape) (u : Word) → IsReady s u → u.width ≡ shape_width s
+ready_width (one t) u i = i
+ready_width (list t n) u i = i
+ready_width (set ts) u i = ap (λ (w : Word). w.width) i
+ready_width (dict ts t) u i = ap (λ (w : Word). w.width) i
+
 -- ---- keys
 
 no_ternary : (n i : ℕ) (ts : List Ty) → has_ternary (keys_for n i ts) ≡ false
@@ -82,7 +90,7 @@ keys_read n i (t ∷ ts) (w ∷ ws) s plain e k = ap₂ (λ (u : Word) (us : Lis
 module _
     (vars : List Var) (l : Lookup) (spare : IsSpare vars l) (acts : List Action) (action : action_named acts (action_name l.control l.number) ≡ Some (action_for l))
     (none : action_named acts (codes "NoAction") ≡ None) (k : Contents) (can : CanBeFound l.decl k) (key : List Word) (q : Run) (plain : q.store.headers [] ≡ None)
-    (old : q.store.values (found_name l.number ∷ []) ≡ word (shape_width l.decl.shape) 0) where
+    (ready : IsReady l.decl.shape (q.store.values (found_name l.number ∷ []))) where
   abbrev Leaves : Word → Tested → Type 0
   Leaves w t = Scratch vars l.number q t.run × (t.flow ≡ Go) × (t.run.store.values (found_name l.number ∷ []) ≡ w)
 
@@ -90,9 +98,9 @@ module _
   acted w e hit g = (g.scratch, g.goes, g.found)
 
   missed :
-      (hit : Bool) →
-      Leaves (word (shape_width l.decl.shape) 0) (test_behind (act_if (action_named acts (codes "NoAction")) [] q) hit)
-  missed hit = subst (λ o. Leaves (word (shape_width l.decl.shape) 0) (test_behind (act_if o [] q) hit)) (sym none) (scratch_same vars l.number q, refl, old)
+      (w : Word) → q.store.values (found_name l.number ∷ []) ≡ w → (hit : Bool) →
+      Leaves w (test_behind (act_if (action_named acts (codes "NoAction")) [] q) hit)
+  missed w old hit = subst (λ o. Leaves w (test_behind (act_if o [] q) hit)) (sym none) (scratch_same vars l.number q, refl, old)
 
   -- the action, by the shape of the variable
   abbrev action_in : Shape → Action
@@ -108,15 +116,18 @@ module _
       P (act (action_in s) e.args q) → P (act_if (action_named acts e.action) e.args q)
   chosen_acts s sh e is P p = subst (λ x. P (act_if (action_named acts x) e.args q)) (sym is) (first_acts s sh e.args P p)
 
+  ready_at : (s : Shape) → l.decl.shape ≡ s → IsReady s (q.store.values (found_name l.number ∷ []))
+  ready_at s sh = subst (λ s. IsReady s (q.store.values (found_name l.number ∷ []))) sh ready
+
   wide : (s : Shape) → l.decl.shape ≡ s → (q.store.values (found_name l.number ∷ [])).width ≡ shape_width s
-  wide s sh = ap (λ (w : Word). w.width) old ∙ ap shape_width sh
+  wide s sh = ready_width s (q.store.values (found_name l.number ∷ [])) (ready_at s sh)
 
   -- a set
   set_runs :
       (ts : List Ty) → l.decl.shape ≡ set ts → (o : Option Entry) →
       OfChosen (λ e. e.action ≡ action_name l.control l.number) o →
       Leaves (bit (is_some o)) (chosen_runs acts no_action o q)
-  set_runs ts sh None i = subst (λ m. Leaves (word m 0) (chosen_runs acts no_action None q)) (ap shape_width sh) (missed false)
+  set_runs ts sh None i = missed (word 1 0) (ready_at (set ts) sh) false
   set_runs ts sh (Some e) i = chosen_acts (set ts) sh e i (λ e. Leaves (bit true) (test_behind e true)) (acted (bit true) _ true (gives_member vars l.control l.number spare e.args q plain (wide (set ts) sh)))
 
   -- a dict
@@ -124,7 +135,7 @@ module _
       (ts : List Ty) (t : Ty) → l.decl.shape ≡ dict ts t → sound_width (width_of t) ≡ width_of t → (o : Option Entry) →
       OfChosen (λ e. e.action ≡ action_name l.control l.number) o → HasWidth (width_of t) (given_in (width_of t) o)
       → Leaves (given_in (width_of t) o) (chosen_runs acts no_action o q)
-  dict_runs ts t sh sound None i f = subst (λ m. Leaves (word m 0) (chosen_runs acts no_action None q)) (ap shape_width sh ∙ sym sound) (missed false)
+  dict_runs ts t sh sound None i f = subst (λ m. Leaves (word m 0) (chosen_runs acts no_action None q)) (sym sound) (missed (word (width_of t) 0) (ready_at (dict ts t) sh) false)
   dict_runs ts t sh sound (Some e) i f =
       chosen_acts (dict ts t) sh e i (λ r. Leaves (given_in (width_of t) (Some e)) (test_behind r true))
       (acted (first_or (nothing_of (width_of t)) e.args) _ true (gives_value vars l.control l.number spare (width_of t) e.args q plain (wide (dict ts t) sh) f))
@@ -177,9 +188,9 @@ module _ (all : List Lookup) (held : Tables) (vars : List Var) where
       AllByRecursion (λ l. action_named (map action_for all) (action_name l.control l.number) ≡ Some (action_for l)) ls → AllByRecursion (TableFinds all held vars) ls
   each_finds [] t a = tt
   each_finds (l ∷ ls) t a = (
-    λ spare k can holds q key plain old keys long.
+    λ spare k can holds q key plain ready keys long.
         subst (Applied vars l.number l.decl k key q) (sym (ap₂ (λ o e. apply_if (map action_for all) o e q) t.0 holds))
-        (applied vars l spare (map action_for all) a.0 (no_action_there all) k can key q plain old keys long),
+        (applied vars l spare (map action_for all) a.0 (no_action_there all) k can key q plain ready keys long),
     each_finds ls t.1 a.1,
   )
 

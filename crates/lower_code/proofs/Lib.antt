@@ -2,3 +2,4 @@ pub mod Blocks
 pub mod Bodies
 pub mod Turns
 pub mod Keys
+mod Made

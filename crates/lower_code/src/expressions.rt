@@ -2,6 +2,8 @@
 
 ghost use Rattle.std.specs.Prelude.{◌≡◌, map, IfOk};
 ghost use Rattle.indus_tree.specs.View.{decl_of, expr_of as indus_expr, exprs_of as indus_exprs};
+ghost use Rattle.p4_tree.specs.Tree as p4;
+ghost use Rattle.p4_tree.specs.declared.statement.PTy.TheVariants as type;
 ghost use Rattle.p4_tree.specs.View.{expr_of};
 ghost use Rattle.lowered_code.specs.Environment.{in_control, rooted_view, tele_path};
 ghost use Rattle.lowered_code.specs.Expressions as code;
@@ -10,7 +12,7 @@ ghost use Rattle.lower_code.specs.View.{environment_of, roots_of};
 ghost use Rattle.lower_reads.specs.View.{declared, lent};
 
 use crate::roots::{Roots, rooted_path};
-use crate::tree::{binary, cast, variable};
+use crate::tree::{binary, cast, number, variable};
 use crate::types::value_type;
 use indus_tree::{Decl, DeclKind, Expr, Op, Ty};
 use lex_text::Name;
@@ -54,13 +56,50 @@ fn of_bits(alloc: Global, ty: Ty, bits: P4Expr) -> Result<P4Expr, AllocError>
     }
 }
 
+/// What is cast to a truth value as one bit: what is read is that bit again.
+fn read_bit(alloc: Global, at: u32, made: P4Expr) -> Result<P4Expr, AllocError>
+    ensures { IfOk result (λ e. expr_of e ≡ code.as_bit (p4.cast at type.Bool (expr_of made))) }
+{
+    match made {
+        P4Expr::Path(place, names) => Ok(P4Expr::Path(place, names)),
+        other => {
+            let made = Box::new(alloc, other)?;
+            cast(alloc, PTy::Bit(1), P4Expr::Cast(at, PTy::Bool, made))
+        }
+    }
+}
+
+/// What is cast as one bit.
+fn cast_bit(alloc: Global, at: u32, ty: PTy, made: P4Expr) -> Result<P4Expr, AllocError>
+    ensures { IfOk result (λ e. expr_of e ≡ code.as_bit (p4.cast at ty (expr_of made))) }
+{
+    match ty {
+        PTy::Bool => read_bit(alloc, at, made),
+        other => {
+            let made = Box::new(alloc, made)?;
+            cast(alloc, PTy::Bit(1), P4Expr::Cast(at, other, made))
+        }
+    }
+}
+
+/// A truth value as one bit.
+fn as_bit(alloc: Global, value: P4Expr) -> Result<P4Expr, AllocError>
+    ensures { IfOk result (λ e. expr_of e ≡ code.as_bit (expr_of value)) }
+{
+    match value {
+        P4Expr::Flag(_, written) => Ok(number(1, u128::from(written))),
+        P4Expr::Cast(at, ty, made) => cast_bit(alloc, at, ty, Box::into_inner(made)),
+        other => cast(alloc, PTy::Bit(1), other),
+    }
+}
+
 /// A value of a type as bits.
 pub(crate) fn to_bits(alloc: Global, ty: Ty, value: P4Expr) -> Result<P4Expr, AllocError>
     ensures { IfOk result (λ e. expr_of e ≡ code.to_bits ty (expr_of value)) }
 {
     match ty {
         Ty::Bit(_) => Ok(value),
-        Ty::Bool => cast(alloc, PTy::Bit(1), value),
+        Ty::Bool => as_bit(alloc, value),
     }
 }
 

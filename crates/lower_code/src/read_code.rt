@@ -3,7 +3,7 @@
 ghost use Rattle.std.specs.Prelude.{◌≡◌, ◌∷◌, [], codes, Some, IfOk};
 ghost use Rattle.indus_tree.specs.Start.{start_word};
 ghost use Rattle.indus_tree.specs.State as state;
-ghost use Rattle.indus_tree.specs.View.{decl_of, expr_of as indus_expr, exprs_of as indus_exprs};
+ghost use Rattle.indus_tree.specs.View.{decl_of, expr_of as indus_expr, exprs_of as indus_exprs, shape_of};
 ghost use Rattle.p4_tree.specs.Tree as p4;
 ghost use Rattle.p4_tree.specs.declared.statement.Op.TheVariants as p4o;
 ghost use Rattle.p4_tree.specs.View.{expr_of, stmt_of, stmts_of};
@@ -176,6 +176,17 @@ fn apply(alloc: Global, read: u32) -> Result<Stmt, AllocError>
     Ok(Stmt::Call(0, callee, Vec::new(alloc)))
 }
 
+/// 0 stands in the variable of a read, before a lookup that may miss.
+fn cleared(alloc: Global, read: u32, shape: &Shape) -> Result<Vec<Stmt>, AllocError>
+    ensures { IfOk result (λ v. stmts_of v.items ≡ code.cleared read (shape_of shape.now)) }
+{
+    let mut out = Vec::new(alloc);
+    if let Shape::SetOf(_) | Shape::DictOf(_, _) = shape {
+        out.push(clear(alloc, read, value_width(shape))?)?;
+    }
+    Ok(out)
+}
+
 /// A control variable is looked up: the parts of its key stand in variables, and its table is applied.
 fn read_control(
     alloc: Global,
@@ -188,8 +199,7 @@ fn read_control(
         ≡ code.read_control (environment_of place.now.roots.now) (declared place.now.decls.now) place.now.base (lent place.now.reads.now) read (decl_of d.now) (indus_exprs key.now)) }
 {
     let types = key_types(&d.shape);
-    let mut out = Vec::new(alloc);
-    out.push(clear(alloc, read, value_width(&d.shape))?)?;
+    let mut out = cleared(alloc, read, &d.shape)?;
     for part in 0..types.len().min(key.len()) {
         out.push(key_stmt(alloc, place, read, part, types[part], &key[part])?)?;
     }

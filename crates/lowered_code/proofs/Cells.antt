@@ -29,10 +29,11 @@ use Rattle.indus_tree.specs.declared.tree.Ty.TheVariants as ty
 use Rattle.sensor_registers.specs.Registers.{cell_value}
 use Rattle.monitor_laws.specs.Trees.{number}
 use Rattle.lookup_names.specs.Keys.{variable}
-use Rattle.lowered_code.specs.Expressions.{bits_type, to_bits, is_bare, as_index}
+use Rattle.lowered_code.specs.Expressions.{bits_type, as_bit, to_bits, is_bare, as_index}
 use Rattle.lowered_code.specs.Reads.{turned}
 use Rattle.lowered_code.specs.Suiting.{IsSound, IsOfType, IsIndex}
 use Rattle.lowered_code.proofs.Widths.{cast_same, cast_kept, value_at_own, value_with_own, either_same}
+use Rattle.lowered_code.proofs.Bit.{bit_value}
 use Rattle.lowered_code.proofs.Values.{Same}
 
 -- ---- a value as bits of a type
@@ -56,9 +57,7 @@ module _ (s : Store) (v : Seen) (t : Ty) (f : p4.Expr) (e : Expr) (h : Same s v 
       by_type : (t : Ty) → IsOfType v t e → IsSound t → u ≡ sound_width (width_of t) → cast_word (sound_width u) (p4v.value_of (to_bits t f) u s) ≡ taken v t e
       by_type (ty.Bit w) i k is = ap (λ u. cast_word (sound_width u) (p4v.value_of f u s)) (is ∙ k) ∙ ap (cast_word (sound_width w)) (h.value w)
       by_type ty.Bool i k is =
-          ap (λ u. cast_word (sound_width u) (cast_word 1 (p4v.value_of f 0 s))) is
-          ∙ ap (λ u. cast_word 1 (cast_word 1 u)) (h.value 0 ∙ one_bit v e i)
-          ∙ ap (word 1) (cast_of_small 1 (cast_number 1 (value_of v e 1).value) (mod-lt (value_of v e 1).value (pow_pos 1)))
+          ap (λ u. cast_word (sound_width u) (p4v.value_of (as_bit f) u s)) is ∙ bit_value s f ∙ ap (cast_word 1) (h.value 0 ∙ one_bit v e i)
 
   -- a width of their own is the type's
   pub bits_own : either_width (p4v.own_width (to_bits t f) s) (width_of t) ≡ width_of t
@@ -66,7 +65,7 @@ module _ (s : Store) (v : Seen) (t : Ty) (f : p4.Expr) (e : Expr) (h : Same s v 
     where
       by_type : (t : Ty) → IsOfType v t e → either_width (p4v.own_width (to_bits t f) s) (width_of t) ≡ width_of t
       by_type (ty.Bit w) i = ap (λ n. either_width n w) h.own ∙ i
-      by_type ty.Bool i = refl
+      by_type ty.Bool i = ap (λ n. either_width n 1) h.narrow
 
 -- ---- an index
 

@@ -13,7 +13,7 @@ use Rattle.lookup_names.specs.Names.{found_name}
 use Rattle.lookup_names.specs.Keys.{key_types, variable}
 use Rattle.lowered_code.specs.Environment.{Environment, tele_path}
 use Rattle.lowered_code.specs.Expressions.{read_decl, lowered, lowered_all}
-use Rattle.lowered_code.specs.Reads.{start_of, turned, turn, keys_of, apply, keyed, read_array, read_sensor, read_kind, read_stmts, reads_stmts}
+use Rattle.lowered_code.specs.Reads.{cleared, start_of, turned, turn, keys_of, apply, keyed, read_array, read_sensor, read_kind, read_stmts, reads_stmts}
 use Rattle.lowered_code.specs.Statements.{set_kind, set_name, set_array, tell, maybe_else, stmt_reads, behind, stmt_end, block_end, with_reads, stmt_code, block_code}
 
 pub both_keep : (x y : Stmts) → KeepLength x → KeepLength y → KeepLength (and_then x y)
@@ -43,11 +43,19 @@ module _ (a : Environment) (ds : List Decl) (base : ℕ) where
   sensor_keeps l n d (set ts) ks = tt
   sensor_keeps l n d (dict ts t) ks = tt
 
+  cleared_keeps : (n : ℕ) (s : Shape) → KeepLength (cleared n s)
+  cleared_keeps n (one t) = tt
+  cleared_keeps n (list t k) = tt
+  cleared_keeps n (set ts) = (refl, tt)
+  cleared_keeps n (dict ts t) = (refl, tt)
+
   kind_keeps : (k : DeclKind) (l : List Expr) (n : ℕ) (d : Decl) (ks : Exprs) → KeepLength (read_kind a ds base k l n d ks)
   kind_keeps Tele l n d ks = tt
   kind_keeps Sensor l n d ks = sensor_keeps l n d d.shape ks
   kind_keeps Header l n d ks = tt
-  kind_keeps Control l n d ks = (refl, keyed_keeps l n 0 (key_types d.shape) ks (next (apply a ds base n) done) (tt, tt))
+  kind_keeps Control l n d ks =
+      let found = next (apply a ds base n) done in
+      both_keep (cleared n d.shape) (keyed a ds base l n 0 (key_types d.shape) ks found) (cleared_keeps n d.shape) (keyed_keeps l n 0 (key_types d.shape) ks found (tt, tt))
 
   read_keeps : (o : Option Decl) (l : List Expr) (n : ℕ) (ks : Exprs) → KeepLength (read_stmts a ds base o l n ks)
   read_keeps None l n ks = tt

@@ -6,6 +6,7 @@ pub mod Steps
 -- Expressions: what they see in a run that stands for a state.
 pub mod Scratch
 pub mod Seen
+pub mod Bit
 pub mod Values
 pub mod Sight
 pub mod Cells

@@ -7,7 +7,7 @@ use Rattle.indus_tree.specs.declared.tree.DeclKind.{DeclKind}
 use Rattle.indus_tree.specs.declared.tree.DeclKind.TheVariants as kind
 use Rattle.indus_tree.specs.declared.tree.Op.TheVariants as op
 use Rattle.indus_tree.specs.declared.tree.Ty.TheVariants as ty
-use Rattle.p4_tree.specs.Tree.{Expr, path, flag, binary, cast, one, Stmts, block, assign, choice, call, done, next, otherwise}
+use Rattle.p4_tree.specs.Tree.{Expr, path, binary, cast, one, Stmts, block, assign, choice, call, done, next, otherwise}
 use Rattle.p4_tree.specs.declared.statement.Op.TheVariants.{Add, BitXor, Less, Equal}
 use Rattle.p4_tree.specs.declared.statement.PTy.TheVariants as type
 use Rattle.monitor_laws.specs.Trees.{number, only_if}
@@ -84,10 +84,10 @@ its_code : block_code (on_switch 1 (codes "I")) decls some_block 0 ≡
     (block 0
     (read_n (codes "hydra_f_2") (codes "hydra_k_2_0")
     (next (call 0 (codes "hydra_s_n" ∷ codes "write" ∷ []) (one 0 hab ∷ one 0 (binary 0 BitXor (binary 0 Add (variable (codes "hydra_f_2")) (number 0 1)) (number 8 7)) ∷ []))
-    (next (call 0 (codes "hydra_s_m" ∷ codes "write" ∷ []) (one 0 (number 1 0) ∷ one 0 (cast 0 (type.Bit 1) (flag 0 true)) ∷ [])) done))))
+    (next (call 0 (codes "hydra_s_m" ∷ codes "write" ∷ []) (one 0 (number 1 0) ∷ one 0 (number 1 1) ∷ [])) done))))
     (otherwise (block 0
     (next (call 0 (codes "hydra_s_m" ∷ codes "read" ∷ []) (one 0 (variable (codes "hydra_f_3")) ∷ one 0 (number 1 0) ∷ []))
-    (next (assign 0 (codes "hdr" ∷ codes "hydra_tele" ∷ codes "hydra_v_x" ∷ []) (cast 0 (type.Bit 1) (cast 0 type.Bool (variable (codes "hydra_f_3"))))) done)))))
+    (next (assign 0 (codes "hdr" ∷ codes "hydra_tele" ∷ codes "hydra_v_x" ∷ []) (variable (codes "hydra_f_3"))) done)))))
     done))))
 unfolding digits
 its_code = refl

@@ -24,7 +24,7 @@ use Rattle.monitor_laws.specs.MonitorLaws.{IsView, Others}
 use Rattle.monitor_laws.proofs.Paths.{free_lowered}
 use Rattle.lookup_names.specs.Keys.{variable}
 use Rattle.lowered_code.specs.Environment.{view_of}
-use Rattle.lowered_code.specs.Expressions.{value_type, is_in, built_in, lowered}
+use Rattle.lowered_code.specs.Expressions.{value_type, as_bit, is_in, built_in, lowered}
 use Rattle.lowered_code.specs.Suiting.{IsBuiltIn, IsScalar, Suits}
 use Rattle.lowered_code.specs.Standing.{Setting, environment, Begins, Stands}
 use Rattle.lowered_code.proofs.Seen.{word_seen}
@@ -39,6 +39,12 @@ view_is a q o (p4.valid p header) i u e =
     let is : bit (p4v.is_valid (q.store.headers header)) ≡ u = ap (λ g. bit (p4v.is_valid (g header))) o.headers ∙ e in
     (λ w. is, ap (λ (u : Word). u.width) is)
 view_is a q o _ i u e = absurd i
+
+-- as one bit it is cast
+view_bit : (q : Run) (f : p4.Expr) → IsView f → p4v.own_width (as_bit f) q.store ≡ 1
+view_bit q (p4.path p names) i = refl
+view_bit q (p4.valid p header) i = refl
+view_bit q _ i = absurd i
 
 -- the word of a scalar
 pub scalar_has : (s : Shape) → IsScalar s → (ws : List Word) → IsHeld IsTeleCount s ws → HasWidth (width_of (value_type s)) (scalar ws (shape_width s))
@@ -81,19 +87,19 @@ module _ (p : Setting) (b : Begins p) (d : Doing Held Held) where
     shows_view x c is k =
         let name : name_word v x ≡ p.hop.headers x = ap (variable_word v x) is ∙ ap (λ k. word_by_kind k v x (shape_width c.shape)) k in
         let shown = view_is p.start q s.others (view_of c) (b.own x c is k) (p.hop.headers x) (b.view x c is k) in
-        record { value = λ w. shown.0 w ∙ sym name; own = shown.1 ∙ sym (ap (λ (u : Word). u.width) name) }
+        record { value = λ w. shown.0 w ∙ sym name; own = shown.1 ∙ sym (ap (λ (u : Word). u.width) name); narrow = view_bit q (view_of c) (b.own x c is k) }
 
     -- a flag that the linker set
     reads_flag : (x : List ℕ) (t : Bool) → is_lowered (x ∷ []) ≡ false → p.start.store.values (x ∷ []) ≡ bit t → read q.store (x ∷ []) ≡ bit t
     reads_flag x t out is = ap₂ shown plain_now (s.others.values (x ∷ []) out ∙ is)
 
     shows_flag : (y x : List ℕ) (u : Word) → read q.store (y ∷ []) ≡ u → name_word v x ≡ u → Same q.store v (variable y) (reads 0 x)
-    shows_flag y x u is name = record { value = λ w. is ∙ sym name; own = ap (λ (u : Word). u.width) (is ∙ sym name) }
+    shows_flag y x u is name = record { value = λ w. is ∙ sym name; own = ap (λ (u : Word). u.width) (is ∙ sym name); narrow = refl }
 
     shows_switch : (x : List ℕ) → name_word v x ≡ word 16 (cast_number 16 p.hop.switch) → Same q.store v (number 16 (cast_number 16 p.hop.switch)) (reads 0 x)
     shows_switch x name =
         let n = p.hop.switch in
-        record { value = λ w. ap (word 16) (cast_of_small 16 (cast_number 16 n) (cast-lt 16 n)) ∙ sym name; own = sym (ap (λ (u : Word). u.width) name) }
+        record { value = λ w. ap (word 16) (cast_of_small 16 (cast_number 16 n) (cast-lt 16 n)) ∙ sym name; own = sym (ap (λ (u : Word). u.width) name); narrow = refl }
 
     shows_built_in : (x : List ℕ) → lookup ds x ≡ None → IsBuiltIn p.exits x → Same q.store v (built_in (environment p) x) (reads 0 x)
     shows_built_in x is i = go (same_text x (codes "first_hop")) (same_text x (codes "last_hop")) (same_text x (codes "switch_id")) i (ap (variable_word v x) is)

@@ -25,15 +25,17 @@ use Rattle.indus_tree.specs.declared.tree.Op as indus_op
 use Rattle.indus_tree.specs.declared.tree.Op.TheVariants as op
 use Rattle.lookup_names.specs.Names.{found_name}
 use Rattle.lowered_code.specs.Environment.{tele_path, view_of}
-use Rattle.lowered_code.specs.Expressions.{lowered_op, value_type, of_bits, read_decl, is_in, place_in, built_in, found, name_by_kind, name_for, found_for, lowered}
+use Rattle.lowered_code.specs.Expressions.{lowered_op, value_type, of_bits, as_bit, read_decl, is_in, place_in, built_in, found, name_by_kind, name_for, found_for, lowered}
 use Rattle.lowered_code.specs.Suiting.{IsBuiltIn, HasPlace, SuitsName, SuitsIndex, SuitsMember, Suits}
 use Rattle.lowered_code.specs.Standing.{Setting, environment}
 use Rattle.lowered_code.proofs.Widths.{cast_same, cast_kept, value_at_own, value_width}
 
--- an expression of P4 is one of the property's: at each place it has the same value, and the same width of its own
+-- an expression of P4 is one of the property's: at each place it has the same value, and the same width of its own. As one
+-- bit it has one
 pub record Same (s : Store) (v : Seen) (f : p4.Expr) (e : Expr) : Type 0 where
   pub value : (w : ℕ) → p4v.value_of f w s ≡ value_of v e w
   pub own : p4v.own_width f s ≡ own_width v e
+  pub narrow : p4v.own_width (as_bit f) s ≡ 1
 
 op_same : (o : indus_op.Op) → p4_operators.operator_of (lowered_op o) ≡ indus_operators.operator_of o
 op_same op.Mul = refl
@@ -56,8 +58,8 @@ op_same op.Either = refl
 module _ (s : Store) (v : Seen) where
   -- the word at a path, which holds bits of a type
   bits_same : (t : Ty) (p : List (List ℕ)) (e : Expr) → read s p ≡ value_of v e 0 → HasWidth (width_of t) (value_of v e 0) → ((w : ℕ) → value_of v e 0 ≡ value_of v e w) → (value_of v e 0).width ≡ own_width v e → Same s v (of_bits t (p4.path 0 p)) e
-  bits_same (ty.Bit n) p e is h flat wide = record { value = λ w. is ∙ flat w; own = ap (λ (u : Word). u.width) is ∙ wide }
-  bits_same ty.Bool p e is h flat wide = record { value = λ w. ap (cast_word 1) is ∙ cast_kept 1 (value_of v e 0) h ∙ flat w; own = sym h.width ∙ wide }
+  bits_same (ty.Bit n) p e is h flat wide = record { value = λ w. is ∙ flat w; own = ap (λ (u : Word). u.width) is ∙ wide; narrow = refl }
+  bits_same ty.Bool p e is h flat wide = record { value = λ w. ap (cast_word 1) is ∙ cast_kept 1 (value_of v e 0) h ∙ flat w; own = sym h.width ∙ wide; narrow = ap (λ (u : Word). u.width) is ∙ h.width }
 
   inversion_same : (f : p4.Expr) (p : ℕ) (e : Expr) → HasPlace v e → ((w : ℕ) → IsWord (value_of v e w)) → Same s v f e → Same s v (p4.inversion 0 f) (inversion p e)
   inversion_same f p e wide words h =
@@ -69,6 +71,7 @@ module _ (s : Store) (v : Seen) where
             ∙ ap (λ u. p4v.inverted (cast_word (sound_width m) u)) (h.value m ∙ value_at_own v e w)
             ∙ ap (λ (u : Word). p4v.inverted u) (cast_same (sound_width m) u (wide w) (words w).in_range);
         own = h.own;
+        narrow = refl;
       }
 
   operated_same : (k : Operator) (f g : p4.Expr) (a b : Expr) (w : ℕ) → Same s v f a → Same s v g b →
@@ -90,6 +93,7 @@ module _ (s : Store) (v : Seen) where
             ap (λ k. table.operate k (cast_word (sound_width (left_place (table.class_of k) (p4v.own_width f s) (p4v.own_width g s) w)) (p4v.value_of f (left_place (table.class_of k) (p4v.own_width f s) (p4v.own_width g s) w) s)) (cast_word (sound_width (right_place (table.class_of k) (p4v.own_width f s) (p4v.own_width g s) w)) (p4v.value_of g (right_place (table.class_of k) (p4v.own_width f s) (p4v.own_width g s) w) s))) (op_same o)
             ∙ operated_same (indus_operators.operator_of o) f g a b w h i;
         own = ap (λ k. own_of (table.class_of k) (p4v.own_width f s) (p4v.own_width g s)) (op_same o) ∙ ap₂ (own_of (table.class_of (indus_operators.operator_of o))) h.own i.own;
+        narrow = refl;
       }
 
 -- ---- what was read before
@@ -162,11 +166,11 @@ module _ (p : Setting) (d : Doing Held Held) (base : ℕ) (before : List Expr) (
     kind_same : (k : DeclKind) (c : Decl) (q : ℕ) (x : List ℕ) → lookup ds x ≡ Some c → c.kind ≡ k → IsKindRead ds before k (reads q x) → Same s v (name_by_kind (environment p) ds base before k (reads q x) x c) (reads q x)
     kind_same Tele c q x is k i = let t = see.tele x c is k in bits_same s v (value_type c.shape) (tele_path (environment p) x) (reads q x) t.value t.fits (λ w. refl) refl
     kind_same Sensor c q x is k i = held_same (reads q x) (Some c) is i (λ w. refl) refl
-    kind_same Header c q x is k i = let t = see.view x c is k in record { value = t.value; own = t.own }
+    kind_same Header c q x is k i = let t = see.view x c is k in record { value = t.value; own = t.own; narrow = t.narrow }
     kind_same Control c q x is k i = held_same (reads q x) (Some c) is i (λ w. refl) refl
 
     name_same : (o : Option Decl) (q : ℕ) (x : List ℕ) → lookup ds x ≡ o → SuitsName p.exits v o x → IsNameRead ds before o (reads q x) → Same s v (name_for (environment p) ds base before o (reads q x) x) (reads q x)
-    name_same None q x is k i = let t = see.built_in x is k in record { value = t.value; own = t.own }
+    name_same None q x is k i = let t = see.built_in x is k in record { value = t.value; own = t.own; narrow = t.narrow }
     name_same (Some c) q x is k i = kind_same c.kind c q x is refl i
 
     -- the width of what was read is the declared one
@@ -183,13 +187,13 @@ module _ (p : Setting) (d : Doing Held Held) (base : ℕ) (before : List Expr) (
     member_same (Some c) q x ks is k i = held_same (member q ks x) (Some c) is i (λ w. refl) refl
 
     pub same : (e : Expr) → Suits p.exits v e → Covers ds before e → Same s v (lowered (environment p) ds base before e) e
-    same (num q n) k i = record { value = λ w. refl; own = refl }
-    same (flag q b) k i = record { value = λ w. refl; own = refl }
+    same (num q n) k i = record { value = λ w. refl; own = refl; narrow = refl }
+    same (flag q b) k i = record { value = λ w. refl; own = refl; narrow = refl }
     same (reads q x) k i = name_same (lookup ds x) q x refl k i
     same (count q x) k i = absurd k
     same (index q x ks) k i = index_same (lookup ds x) q x ks refl k.0 i
     same (member q ks x) k i = member_same (lookup ds x) q x ks refl k.0 i
-    same (negation q e) k i = let j = same e k i in record { value = λ w. ap (λ u. bit (not (holds u))) (j.value 1); own = refl }
+    same (negation q e) k i = let j = same e k i in record { value = λ w. ap (λ u. bit (not (holds u))) (j.value 1); own = refl; narrow = refl }
     same (inversion q e) k i = inversion_same s v (lowered (environment p) ds base before e) q e k.0 (λ w. see.words e w) (same e k.1 i)
     same (binary q o e f) k i = binary_same s v q o (lowered (environment p) ds base before e) (lowered (environment p) ds base before f) e f (same e k.0 i.0) (same f k.1 i.1)
-    same (cast q n e) k i = let j = same e k i in record { value = λ w. ap (λ u. cast_word (sound_width n) u) (j.value 0); own = refl }
+    same (cast q n e) k i = let j = same e k i in record { value = λ w. ap (λ u. cast_word (sound_width n) u) (j.value 0); own = refl; narrow = refl }

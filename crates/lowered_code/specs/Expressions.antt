@@ -1,6 +1,7 @@
 -- Expressions of flat code in P4. What has to be read by statements of its own, a sensor or a control variable, is read
 -- before and stands in a variable. Read `Same` and `Environment` before it.
 use Rattle.std.specs.Prelude.{codes, ℕ, suc, ◌+◌, List, [], ◌∷◌, Bool, false, ◌&&◌, ◌||◌, Option, Some, None, if◌then◌else◌, nat_eq}
+use Rattle.bit_values.specs.Widths.{bit}
 use Rattle.lex_text.specs.Names.{same_text}
 use Rattle.indus_tree.specs.Tree.{Expr, Exprs, num, flag, read, count, index, member, negation, inversion, binary, cast, none, more, Shape, one, list, set, dict, Decl}
 use Rattle.indus_tree.specs.State.{lookup}
@@ -16,6 +17,7 @@ use Rattle.p4_tree.specs.declared.statement.PTy.TheVariants as type
 use Rattle.p4_tree.specs.declared.statement.Op as p4_op
 use Rattle.p4_tree.specs.declared.statement.Op.TheVariants as p4o
 use Rattle.monitor_laws.specs.Names.{first_name, last_name}
+use Rattle.monitor_laws.specs.Trees.{number}
 use Rattle.lookup_names.specs.Names.{found_name}
 use Rattle.lookup_names.specs.Keys.{variable}
 use Rattle.lowered_code.specs.Same.{same_expr}
@@ -59,9 +61,15 @@ abbrev pub of_bits : Ty → p4.Expr → p4.Expr
 of_bits (ty.Bit w) e = e
 of_bits ty.Bool e = p4.cast 0 type.Bool e
 
+-- a truth value as one bit: a written one is written so, and what is bits that are read as a truth value is these bits
+abbrev pub as_bit : p4.Expr → p4.Expr
+as_bit (p4.flag p b) = number 1 (bit b).value
+as_bit (p4.cast p type.Bool (p4.path q x)) = p4.path q x
+as_bit e = p4.cast 0 (type.Bit 1) e
+
 abbrev pub to_bits : Ty → p4.Expr → p4.Expr
 to_bits (ty.Bit w) e = e
-to_bits ty.Bool e = p4.cast 0 (type.Bit 1) e
+to_bits ty.Bool e = as_bit e
 
 -- the declaration of what an expression reads, where it reads a variable
 abbrev pub read_decl : List Decl → Expr → Option Decl

@@ -5,7 +5,7 @@ use Rattle.bit_values.specs.Bits.{Word, word}
 use Rattle.bit_values.specs.Widths.{bit}
 use Rattle.lex_text.specs.Names.{same_text}
 use Rattle.indus_tree.specs.Tree.{Shape, one, list, set, dict, Decl}
-use Rattle.indus_tree.specs.State.{Contents, lookup, shape_width, width_of}
+use Rattle.indus_tree.specs.State.{Contents, lookup, width_of}
 use Rattle.indus_tree.specs.Reads.{single_word}
 use Rattle.indus_tree.specs.Keys.{held_in, found_in}
 use Rattle.indus_tree.specs.declared.tree.DeclKind.TheVariants.{Control}
@@ -55,10 +55,17 @@ pub record Applied (vars : List Var) (n : ℕ) (c : Decl) (k : Contents) (key : 
   pub goes : t.flow ≡ Go
   pub found : t.run.store.values (found_name n ∷ []) ≡ looked_up c.shape k key
 
--- the n-th table does so, where the variable of what is found is 0 and the key stands in its variables
+-- a word that stands in the variable before: 0 where a miss leaves it, and for a scalar any of its width
+abbrev pub IsReady : Shape → Word → Type 0
+IsReady (one t) u = u.width ≡ width_of t
+IsReady (list t n) u = u.width ≡ width_of t
+IsReady (set ts) u = u ≡ word 1 0
+IsReady (dict ts t) u = u ≡ word (width_of t) 0
+
+-- the n-th table does so, where the variable of what is found is ready and the key stands in its variables
 abbrev pub Applies : Calls → List Var → (control : List ℕ) (n : ℕ) → Decl → Contents → Type 0
 Applies calls vars control n c k =
-    (q : Run) (key : List Word) → q.store.headers [] ≡ None → q.store.values (found_name n ∷ []) ≡ word (shape_width c.shape) 0 → AreKeys n 0 key q.store → length key ≡ length (key_types c.shape)
+    (q : Run) (key : List Word) → q.store.headers [] ≡ None → IsReady c.shape (q.store.values (found_name n ∷ [])) → AreKeys n 0 key q.store → length key ≡ length (key_types c.shape)
     → Applied vars n c k key q (calls.apply_table (table_name control n) q)
 
 -- the lookup of a declared control variable finds what the variable has at the hop

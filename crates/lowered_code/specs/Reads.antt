@@ -2,7 +2,7 @@
 -- what they are the key of, and what is read twice once. Read `Expressions` before it and `Statements` after it.
 use Rattle.std.specs.Prelude.{codes, ℕ, suc, List, [], ◌∷◌, ◌++◌, Option, Some, None, if◌then◌else◌, nat_eq}
 use Rattle.indus_tree.specs.Tree.{Expr, Exprs, num, flag, read, count, index, member, negation, inversion, binary, cast, none, more, Shape, one, list, set, dict, Decl}
-use Rattle.indus_tree.specs.State.{lookup, shape_width}
+use Rattle.indus_tree.specs.State.{lookup, shape_width, width_of}
 use Rattle.indus_tree.specs.Start.{start_word}
 use Rattle.indus_tree.specs.declared.tree.DeclKind.{DeclKind}
 use Rattle.indus_tree.specs.declared.tree.DeclKind.TheVariants.{Tele, Sensor, Header, Control}
@@ -56,6 +56,13 @@ module _ (ds : List Decl) where
 abbrev pub clear : (n w : ℕ) → Stmt
 clear n w = p4.assign 0 (found_name n ∷ []) (number w 0)
 
+-- it does before a lookup that may miss, which leaves it there; the table of a scalar has no miss, and always writes it
+abbrev pub cleared : (n : ℕ) → Shape → Stmts
+cleared n (one t) = done
+cleared n (list t size) = done
+cleared n (set ts) = next (clear n 1) done
+cleared n (dict ts t) = next (clear n (width_of t)) done
+
 -- a cell of a sensor's register stands in it
 abbrev pub take_cell : (n : ℕ) → List ℕ → p4.Expr → Stmt
 take_cell n x i = p4.call 0 (sensor_name x ∷ codes "read" ∷ []) (p4.one 0 (variable (found_name n)) ∷ p4.one 0 i ∷ [])
@@ -104,7 +111,7 @@ module _ (a : Environment) (ds : List Decl) (base : ℕ) where
   read_sensor l n d (dict ts t) ks = done
 
   abbrev pub read_control : List Expr → (n : ℕ) → Decl → Exprs → Stmts
-  read_control l n d ks = next (clear n (shape_width d.shape)) (keyed l n 0 (key_types d.shape) ks (next (apply n) done))
+  read_control l n d ks = and_then (cleared n d.shape) (keyed l n 0 (key_types d.shape) ks (next (apply n) done))
 
   abbrev pub read_kind : DeclKind → List Expr → (n : ℕ) → Decl → Exprs → Stmts
   read_kind Tele l n d ks = done

@@ -17,6 +17,7 @@ use Rattle.indus_rules.specs.declared.rule.Rule.TheVariants.{WidthDiffers, KindD
 use Rattle.indus_types.proofs.Widths.{neither, kind_fine}
 use Rattle.p4_tree.specs.Tree as p4
 use Rattle.p4_tree.specs.Operators.{class_of}
+use Rattle.p4_tree.specs.declared.statement.PTy.TheVariants as type
 use Rattle.p4_scopes.specs.Kinds as to
 use Rattle.p4_scopes.specs.Scopes.{Scope}
 use Rattle.p4_scopes.specs.Scopes as scope
@@ -24,8 +25,28 @@ use Rattle.p4_scopes.specs.declared.kind.Kind as target
 use Rattle.p4_scopes.specs.declared.kind.Kind.TheVariants as t
 use Rattle.p4_statement_rules.specs.Expressions as rules
 use Rattle.lowered_code.specs.Environment.{Environment}
-use Rattle.lowered_code.specs.Expressions.{lowered_op, lowered}
+use Rattle.lowered_code.specs.Expressions.{as_bit, lowered_op, lowered}
 use Rattle.monitor_rules.proofs.KindMaps.{K, join_same, number_same, width_same, widths_same, kinds_same, binary_same, left_same, right_same}
+
+-- a truth value as one bit is of one, and breaks no rule there
+pub record IsBit (sc : Scope) (e : p4.Expr) : Type 0 where
+  pub own : scope.own sc (as_bit e) ≡ t.Number 1
+  pub fine : scope.own sc e ≡ t.Truth → IsFine (rules.expr_tests sc t.Truth e) → IsFine (rules.expr_tests sc (t.Number 1) (as_bit e))
+
+module _ (sc : Scope) where
+  -- where it is cast
+  cast_fits : (e : p4.Expr) → scope.own sc e ≡ t.Truth → IsFine (rules.expr_tests sc t.Truth e) → IsFine (rules.expr_tests sc (t.Number 1) (p4.cast 0 (type.Bit 1) e))
+  cast_fits e k h = ((refl, refl), (refl, (ap (rules.cast_differs (t.Number 1)) k, subst (λ q. IsFine (rules.expr_tests sc q e)) (sym (ap to.as_value k)) h)))
+
+  pub cast_bit : (e : p4.Expr) → as_bit e ≡ p4.cast 0 (type.Bit 1) e → IsBit sc e
+  cast_bit e is =
+      record {
+        own = ap (scope.own sc) is;
+        fine = λ k h. subst (λ f. IsFine (rules.expr_tests sc (t.Number 1) f)) (sym is) (cast_fits e k h);
+      }
+
+  written_bit : (p : ℕ) (b : Bool) → IsBit sc (p4.flag p b)
+  written_bit p b = record { own = refl; fine = λ k h. ((refl, refl), (refl, refl)) }
 
 module _ (env : Environment) (ds : List Decl) (base : ℕ) (before : List Expr) (sc : Scope) (st : Sight) where
   abbrev low : Expr → p4.Expr
@@ -36,6 +57,7 @@ module _ (env : Environment) (ds : List Decl) (base : ℕ) (before : List Expr) 
     pub same : scope.own sc (low e) ≡ K (own st e)
     pub known : own st e ≡ Unknown → ⊥
     pub fine : (w : Kind) → from.widths_differ (own st e) w ≡ false → from.kinds_differ (own st e) w ≡ false → IsFine (rules.expr_tests sc (K w) (low e))
+    pub bit : IsBit sc (low e)
 
   abbrev pub Rights : Expr → Type 0
   Rights (num p n) = Unit {0}
@@ -60,6 +82,18 @@ module _ (env : Environment) (ds : List Decl) (base : ℕ) (before : List Expr) 
   own_same (inversion p a) r = ap to.as_number (own_same a r) ∙ number_same (own st a)
   own_same (binary p o a b) r = ap₂ (to.binary_kind (lowered_op o)) (own_same a r.0) (own_same b r.1) ∙ binary_same o (own st a) (own st b)
   own_same (cast p v a) r = refl
+
+  pub bit_right : (e : Expr) → Rights e → IsBit sc (low e)
+  bit_right (num p n) r = cast_bit sc (low (num p n)) refl
+  bit_right (flag p b) r = written_bit sc 0 b
+  bit_right (reads p x) r = r.bit
+  bit_right (count p x) r = absurd r
+  bit_right (index p x ks) r = r.bit
+  bit_right (member p ks x) r = r.bit
+  bit_right (negation p a) r = cast_bit sc (low (negation p a)) refl
+  bit_right (inversion p a) r = cast_bit sc (low (inversion p a)) refl
+  bit_right (binary p o a b) r = cast_bit sc (low (binary p o a b)) refl
+  bit_right (cast p v a) r = cast_bit sc (low (cast p v a)) refl
 
   -- ---- no expression is of an unknown kind
 

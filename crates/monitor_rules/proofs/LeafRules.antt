@@ -37,7 +37,7 @@ use Rattle.lowered_code.specs.Expressions.{of_bits, value_type, read_decl, is_in
 use Rattle.lowered_code.proofs.Values.{Covers, AllCovered, IsNameRead, IsKindRead}
 use Rattle.whole_properties.proofs.Declarations.{AreShapely, clash}
 use Rattle.monitor_rules.proofs.KindMaps.{K, widths_same, kinds_same}
-use Rattle.monitor_rules.proofs.ExprRules.{IsRight, Rights}
+use Rattle.monitor_rules.proofs.ExprRules.{IsBit, cast_bit, IsRight, Rights}
 use Rattle.monitor_rules.proofs.FreeRules.{AllRight}
 use Rattle.monitor_rules.proofs.IndexRules.{Wides}
 
@@ -51,6 +51,7 @@ pub record IsRead (sc : Scope) (x : List (List ℕ)) (k : target.Kind) : Type 0 
 pub record IsOf (sc : Scope) (k : Kind) (e : p4.Expr) : Type 0 where
   pub same : scope.own sc e ≡ K k
   pub fine : (w : Kind) → from.widths_differ k w ≡ false → from.kinds_differ k w ≡ false → IsFine (rules.expr_tests sc (K w) e)
+  pub bit : IsBit sc e
 
 module _ (sc : Scope) where
   pub path_of : (x : List (List ℕ)) (k : Kind) → IsRead sc x (K k) → IsOf sc k (p4.path 0 x)
@@ -58,6 +59,7 @@ module _ (sc : Scope) where
       record {
         same = r.kind;
         fine = λ w i j. (r.there, (ap not r.read, (ap (λ q. to.widths_differ q (K w)) r.kind ∙ widths_same k w ∙ i, ap (λ q. to.kinds_differ q (K w)) r.kind ∙ kinds_same k w ∙ j)));
+        bit = cast_bit sc (p4.path 0 x) refl;
       }
 
   -- a value of a type stands in its bits
@@ -70,6 +72,7 @@ module _ (sc : Scope) where
           (widths_same Truth w ∙ i, kinds_same Truth w ∙ j),
           (tt, (ap (rules.cast_differs t.Truth) r.kind, subst (λ k. IsFine (rules.expr_tests sc k (p4.path 0 x))) (sym (ap to.as_value r.kind)) ((path_of x (Number 1) r).fine (Number 1) refl refl))),
         );
+        bit = record { own = r.kind; fine = λ k h. (path_of x (Number 1) r).fine (Number 1) refl refl };
       }
 
 -- ---- what names are used as
@@ -171,6 +174,7 @@ module _ (exits : Bool) (r : Roots) (sc : Scope) (st : Sight) (flat : st.loops �
           same = of.same ∙ ap K (sym is);
           known = λ u. known (sym is ∙ u);
           fine = λ w i j. of.fine w (ap (λ q. from.widths_differ q w) (sym is) ∙ i) (ap (λ q. from.kinds_differ q w) (sym is) ∙ j);
+          bit = of.bit;
         }
 
     scalar_is : (s : Shape) → IsOne s → scalar_kind s ≡ from.kind_of (value_type s)

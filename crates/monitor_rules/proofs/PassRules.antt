@@ -76,6 +76,7 @@ use Rattle.monitor_trees.proofs.Promised.{fields_sound}
 use Rattle.monitor_rules.specs.Fields.{shown_at, standard_in, IsOwnBehind, IsShown, HasFields}
 use Rattle.monitor_rules.proofs.KindMaps.{widths_same, kinds_same}
 use Rattle.monitor_rules.proofs.FormRules.{place as wide, IsWidth, join_fits}
+use Rattle.monitor_rules.proofs.ExprRules.{cast_bit}
 use Rattle.monitor_rules.proofs.LeafRules.{IsRead, IsOf, path_of}
 use Rattle.monitor_rules.proofs.StmtRules.{AreKeys, AreThere, Scene, block_typed}
 use Rattle.monitor_rules.proofs.LocalRules.{LooksApart, IsSingle, kind_at, declare_other, declare_here, IsVar, NoVar, VarsNew, AreHeld, HasMiss, Applies, NoAct, NoLook}
@@ -122,7 +123,7 @@ module _ (S : Scope) (H M : List ℕ) (r : Roots) (u z : Scope) (o : asked.Offer
       as_test e =
           let f = i.header e in
           let at = path_shown (parent d.path) f.0 (thing.Header f.1) f.2 f.3 in
-          record { same = refl; fine = λ w a b. (ap is_missing at, (ap (λ st. not (uses.holds_header st)) at, (widths_same Truth w ∙ a, kinds_same Truth w ∙ b))) }
+          record { same = refl; fine = λ w a b. (ap is_missing at, (ap (λ st. not (uses.holds_header st)) at, (widths_same Truth w ∙ a, kinds_same Truth w ∙ b))); bit = cast_bit z (p4.valid 0 (rooted_path r (parent d.path))) refl }
 
       go :
           (s : Shape) (b : Bool) → d.shape ≡ s → d.valid ≡ b → misshapen Header s ≡ false → same_truth (is_truth s) b ≡ true →

@@ -15,7 +15,7 @@ use Rattle.lookup_names.specs.Names.{found_name, key_name}
 use Rattle.lookup_names.specs.Keys.{key_types, variable}
 use Rattle.lowered_code.specs.Environment.{Environment}
 use Rattle.lowered_code.specs.Expressions.{read_decl, lowered, lowered_all}
-use Rattle.lowered_code.specs.Reads.{turn, turned, take_sensor, start_of, keys_of, apply, keyed, read_array, read_sensor, read_kind, read_stmts, reads_stmts}
+use Rattle.lowered_code.specs.Reads.{cleared, turn, turned, take_sensor, start_of, keys_of, apply, keyed, read_array, read_sensor, read_kind, read_stmts, reads_stmts}
 use Rattle.lowered_code.specs.Statements.{set_kind, set_name, set_array, tell, maybe_else, stmt_reads, stmt_end, block_end, behind, with_reads, stmt_code, block_code}
 
 pub record Quiet (ss : Stmts) : Type 0 where
@@ -75,12 +75,19 @@ module _ (a : Environment) (ds : List Decl) where
     shape_quiet l n d (set ts) ks = quiet_done
     shape_quiet l n d (dict ts t) ks = quiet_done
 
+    cleared_quiet : (n : ℕ) (s : Shape) → Quiet (cleared n s)
+    cleared_quiet n (one t) = quiet_done
+    cleared_quiet n (list t size) = quiet_done
+    cleared_quiet n (set ts) = record { names = refl; stays = λ z. refl }
+    cleared_quiet n (dict ts t) = record { names = refl; stays = λ z. refl }
+
     kind_quiet : (k : DeclKind) (l : List Expr) (n : ℕ) (d : Decl) (ks : Exprs) → Quiet (read_kind a ds base k l n d ks)
     kind_quiet Tele l n d ks = quiet_done
     kind_quiet Sensor l n d ks = shape_quiet l n d d.shape ks
     kind_quiet Header l n d ks = quiet_done
     kind_quiet Control l n d ks =
-        (let q = keyed_quiet l n 0 (key_types d.shape) ks (next (apply a ds base n) done) (record { names = refl; stays = λ z. refl }) in record { names = q.names; stays = q.stays })
+        let found = next (apply a ds base n) done in
+        quiet_then (cleared n d.shape) (keyed a ds base l n 0 (key_types d.shape) ks found) (cleared_quiet n d.shape) (keyed_quiet l n 0 (key_types d.shape) ks found (record { names = refl; stays = λ z. refl }))
 
     pub one_quiet : (o : Option Decl) (l : List Expr) (n : ℕ) (ks : Exprs) → Quiet (read_stmts a ds base o l n ks)
     one_quiet None l n ks = quiet_done

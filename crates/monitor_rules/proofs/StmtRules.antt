@@ -52,7 +52,7 @@ use Rattle.lookup_names.specs.Keys.{key_types, variable}
 use Rattle.lowered_code.specs.Names.{sensor_name}
 use Rattle.lowered_code.specs.Environment.{Environment, in_control, tele_path, rooted_path, switch_name}
 use Rattle.lowered_code.specs.Expressions.{value_type, of_bits, to_bits, read_decl, is_in, place_in, as_index, lowered, lowered_all, name_for, name_by_kind, found_for}
-use Rattle.lowered_code.specs.Reads.{start_of, turned, turn, take_sensor, keys_of, apply, keyed, read_array, read_sensor, read_kind, read_stmts, reads_stmts}
+use Rattle.lowered_code.specs.Reads.{cleared, start_of, turned, turn, take_sensor, keys_of, apply, keyed, read_array, read_sensor, read_kind, read_stmts, reads_stmts}
 use Rattle.lowered_code.specs.Statements.{put_sensor, set_kind, set_name, set_array, tell, maybe_else, stmt_reads, behind, stmt_end, block_end, with_reads, stmt_code, block_code, kept_types, numbered_reads, stmt_numbers, block_numbers}
 use Rattle.lowered_code.proofs.Lists.{place_more, place_last, is_last}
 use Rattle.lowered_code.proofs.Values.{Covers, AllCovered}
@@ -60,7 +60,7 @@ use Rattle.lowered_code.proofs.Widths.{value_width}
 use Rattle.whole_properties.proofs.Declarations.{AreShapely, clash}
 use Rattle.monitor_trees.proofs.Turns.{IsNext, InTurn, expr_covers, exprs_covered, index_covers, value_covers, stmt_turn}
 use Rattle.monitor_rules.proofs.KindMaps.{K}
-use Rattle.monitor_rules.proofs.ExprRules.{Rights, own_same, own_known, fine_same}
+use Rattle.monitor_rules.proofs.ExprRules.{Rights, own_same, own_known, fine_same, bit_right}
 use Rattle.monitor_rules.proofs.FreeRules.{AllRight, all_free_fine, index_fine}
 use Rattle.monitor_rules.proofs.IndexRules.{index_typed}
 use Rattle.monitor_rules.proofs.FormRules.{place, IsWidth, Typed, Fits, variable_typed, number_typed, join_self, self_widths, assign_fits, apply_fits, read_fits, write_fits, join_fits}
@@ -216,15 +216,13 @@ module _ (exits : Bool) (r : Roots) (sc : Scope) (st : Sight) (flat : st.loops �
       bits_typed : (ty : Ty) (e : Expr) → Rights A ds base l sc st e → Fine (expr_sites st (from.kind_of ty) e) → Typed sc (width_of ty) (to_bits ty (lowered A ds base l e))
       bits_typed (ty.Bit w) e r f = fine_same A ds base l sc st e (Number w) r f
       bits_typed ty.Bool e r f =
-          let k : scope.own sc (lowered A ds base l e) ≡ t.Truth = own_same A ds base l sc st e r ∙ ap K (truth_only (own st e) (own_known A ds base l sc st e r) (kind_fine st Truth e f)) in (
-            (refl, refl),
-            (refl, (ap (rules.cast_differs (t.Number 1)) k, subst (λ q. IsFine (rules.expr_tests sc q (lowered A ds base l e))) (sym (ap to.as_value k)) (fine_same A ds base l sc st e Truth r f))),
-          )
+          let k : scope.own sc (lowered A ds base l e) ≡ t.Truth = own_same A ds base l sc st e r ∙ ap K (truth_only (own st e) (own_known A ds base l sc st e r) (kind_fine st Truth e f)) in
+          (bit_right A ds base l sc st e r).fine k (fine_same A ds base l sc st e Truth r f)
 
       bits_wide : (ty : Ty) (e : Expr) → IsWidth (width_of ty) → Rights A ds base l sc st e → Fine (expr_sites st (from.kind_of ty) e) → IsWide (width_of ty) (scope.own sc (to_bits ty (lowered A ds base l e)))
       bits_wide (ty.Bit w) e i r f =
           subst (IsWide w) (sym (own_same A ds base l sc st e r)) (number_wide w (own st e) i.some (own_known A ds base l sc st e r) (head_fine st (Number w) e f WidthDiffers) (kind_fine st (Number w) e f))
-      bits_wide ty.Bool e i r f = inr refl
+      bits_wide ty.Bool e i r f = inr (bit_right A ds base l sc st e r).own
 
       keyed_typed : (n i : ℕ) (ts : List Ty) (ks : Exprs) (rest : Stmts) → AreKeys n i ts → AllRight A ds base l sc st ks → Fine (all_sites st (keys ts) ks) → IsFine (block_tests part.Apply sc rest) → IsFine (block_tests part.Apply sc (keyed A ds base l n i ts ks rest))
       keyed_typed n i [] ks rest a r f h = h
@@ -234,13 +232,18 @@ module _ (exits : Bool) (r : Roots) (sc : Scope) (st : Sight) (flat : st.loops �
         keyed_typed n (suc i) ts es rest a.1 r.1 f.1 h,
       )
 
+      ready_typed : (n : ℕ) (h : Shape) (rest : Stmts) → IsWidth (shape_width h) → sc (found_name n ∷ []) ≡ place (shape_width h) → IsFine (block_tests part.Apply sc rest) → IsFine (block_tests part.Apply sc (and_then (cleared n h) rest))
+      ready_typed n (one ty) rest i e k = k
+      ready_typed n (list ty size) rest i e k = k
+      ready_typed n (set ts) rest i e k = (assign_fits sc (found_name n ∷ []) 1 (number 1 0) e (number_typed sc 1 0 i), k)
+      ready_typed n (dict ts ty) rest i e k = (assign_fits sc (found_name n ∷ []) (width_of ty) (number (width_of ty) 0) e (number_typed sc (width_of ty) 0 i), k)
+
       -- a control variable is looked up
       control_typed : (n m : ℕ) (d : Decl) (ks : Exprs) → IsWidth (shape_width d.shape) → sc (found_name n ∷ []) ≡ place (shape_width d.shape) → sc (plain.table_name n ∷ []) ≡ rows m → AreKeys n 0 (key_types d.shape) →
           AllRight A ds base l sc st ks → Fine (all_sites st (keys (key_types d.shape)) ks) → IsFine (block_tests part.Apply sc (read_kind A ds base Control l n d ks))
-      control_typed n m d ks i e q a r f = (
-        assign_fits sc (found_name n ∷ []) (shape_width d.shape) (number (shape_width d.shape) 0) e (number_typed sc (shape_width d.shape) 0 i),
-        keyed_typed n 0 (key_types d.shape) ks (next (apply A ds base n) done) a r f (apply_fits sc (plain.table_name n) m q, tt),
-      )
+      control_typed n m d ks i e q a r f =
+          ready_typed n d.shape (keyed A ds base l n 0 (key_types d.shape) ks (next (apply A ds base n) done)) i e
+          (keyed_typed n 0 (key_types d.shape) ks (next (apply A ds base n) done) a r f (apply_fits sc (plain.table_name n) m q, tt))
 
       module _ (found : AllFound exits r sc st flat hops well base l) where
         rights : (e : Expr) (w : Kind) → Fine (expr_sites st w e) → IsFlatExpr ds e → Covers ds l e → Rights A ds base l sc st e

@@ -29,7 +29,7 @@ use Rattle.lookup_names.specs.Keys.{key_types, variable}
 use Rattle.lowered_code.specs.Names.{sensor_name}
 use Rattle.lowered_code.specs.Environment.{Environment, in_control, rooted_path, switch_name}
 use Rattle.lowered_code.specs.Expressions.{value_type, of_bits, read_decl, lowered, lowered_all, name_for, name_by_kind, found_for}
-use Rattle.lowered_code.specs.Reads.{turned, turn, take_sensor, start_of, keys_of, apply, keyed, read_array, read_sensor, read_kind, read_stmts, reads_stmts}
+use Rattle.lowered_code.specs.Reads.{cleared, turned, turn, take_sensor, start_of, keys_of, apply, keyed, read_array, read_sensor, read_kind, read_stmts, reads_stmts}
 use Rattle.lowered_code.specs.Statements.{set_kind, set_name, set_array, tell, maybe_else, stmt_reads, behind, stmt_end, block_end, with_reads, stmt_code, block_code, control_kind, read_lookups, lookups_in, numbered_reads, stmt_numbers, block_numbers}
 use Rattle.lowered_code.proofs.Served.{lookups_both}
 use Rattle.monitor_rules.specs.Told.{told_by, told_in, told_before}
@@ -180,11 +180,20 @@ module _ (sc : Scope) where
       shape_silent l n d (set ts) ks = tt
       shape_silent l n d (dict ts t) ks = tt
 
+      cleared_silent : (n : ℕ) (s : Shape) → Silent (cleared n s)
+      cleared_silent n (one t) = tt
+      cleared_silent n (list t size) = tt
+      cleared_silent n (set ts) = (refl, tt)
+      cleared_silent n (dict ts t) = (refl, tt)
+
       kind_silent : (k : DeclKind) (l : List Expr) (n : ℕ) (d : Decl) (ks : Exprs) → TablesSilent (control_kind k n d) → Silent (read_kind A ds base k l n d ks)
       kind_silent Tele l n d ks h = tt
       kind_silent Sensor l n d ks h = shape_silent l n d d.shape ks
       kind_silent Header l n d ks h = tt
-      kind_silent Control l n d ks h = (refl, keyed_silent l n 0 (key_types d.shape) ks (next (apply A ds base n) done) (apply_silent (sc (plain.table_name n ∷ [])) (plain.table_name n) refl h.0, tt))
+      kind_silent Control l n d ks h =
+          let found = next (apply A ds base n) done in
+          silent_both (cleared n d.shape) (keyed A ds base l n 0 (key_types d.shape) ks found) (cleared_silent n d.shape)
+          (keyed_silent l n 0 (key_types d.shape) ks found (apply_silent (sc (plain.table_name n ∷ [])) (plain.table_name n) refl h.0, tt))
 
       one_silent : (o : Option Decl) (l : List Expr) (n : ℕ) (ks : Exprs) → TablesSilent (read_lookups n o) → Silent (read_stmts A ds base o l n ks)
       one_silent None l n ks h = tt

@@ -5,6 +5,7 @@ use Rattle.indus_tree.specs.Tree.{Expr, Exprs, Decl}
 use Rattle.indus_tree.specs.State.{lookup, shape_width}
 use Rattle.indus_tree.specs.declared.tree.DeclKind.{DeclKind}
 use Rattle.indus_tree.specs.declared.tree.DeclKind.TheVariants.{Tele, Sensor, Header, Control}
+use Rattle.indus_tree.specs.declared.tree.Ty.{Ty}
 use Rattle.linkage.specs.Linkage.{report_receiver}
 use Rattle.p4_tree.specs.Tree as p4
 use Rattle.p4_tree.specs.Tree.{Stmt, Stmts, MaybeStmt, done, next, and_then, without, otherwise}
@@ -18,7 +19,7 @@ use Rattle.lowered_code.specs.Expressions.{value_type, to_bits, lowered, lowered
 use Rattle.lowered_code.specs.Reads.{start_of, reads_stmts}
 use Rattle.lowered_code.specs.Statements.{put_sensor, set_kind, set_name, set_array, tell, maybe_else, stmt_reads, behind, stmt_end, block_end, with_reads, stmt_code, block_code, numbered_reads, read_lookups, lookups_in, stmt_numbers, block_numbers}
 use Rattle.monitor_trees.specs.Stage.{AreRooted, Stage, AreNamed}
-use Rattle.monitor_trees.proofs.Expressions.{Here, to_bits_under, lowered_under, all_under}
+use Rattle.monitor_trees.proofs.Expressions.{Here, lowered_under, bits_under, all_under}
 use Rattle.monitor_trees.proofs.ReadsUnder.{then_under, turned_under, named_left, named_right, reads_under}
 
 lookups_both : (a b : List (ℕ × Option Decl)) → lookups_in (a ++ b) ≡ lookups_in a ++ lookups_in b
@@ -26,17 +27,21 @@ lookups_both [] b = refl
 lookups_both (x ∷ a) b = ap (λ ls. read_lookups x.0 x.1 ++ ls) (lookups_both a b) ∙ sym (append_assoc (read_lookups x.0 x.1) (lookups_in a) (lookups_in b))
 
 module _ (s : ℕ) (r : Roots) (sc : Scope) (g : Stage s r sc) where
-  put_under : (d : Decl) (i k v w : p4.Expr) → expr_under sc i ≡ k → expr_under sc v ≡ w → stmts_under sc (put_sensor d i v) ≡ put_sensor d k w
+  -- a value is the same as bits of each type
+  abbrev SameBits : (v w : p4.Expr) → Type 0
+  SameBits v w = (t : Ty) → expr_under sc (to_bits t v) ≡ to_bits t w
+
+  put_under : (d : Decl) (i k v w : p4.Expr) → expr_under sc i ≡ k → SameBits v w → stmts_under sc (put_sensor d i v) ≡ put_sensor d k w
   put_under d i k v w h z =
       λ j.
       next
       (p4.call 0 (g.registers d.name j ∷ codes "write" ∷ [])
       (p4.one 0 (h j)
-      ∷ p4.one 0 (turned_under s r sc g (start_of d) (shape_width d.shape) (to_bits (value_type d.shape) v) (to_bits (value_type d.shape) w) (to_bits_under s r sc g (value_type d.shape) v w z) j)
+      ∷ p4.one 0 (turned_under s r sc g (start_of d) (shape_width d.shape) (to_bits (value_type d.shape) v) (to_bits (value_type d.shape) w) (z (value_type d.shape)) j)
       ∷ []))
       done
 
-  array_under : (o : Option Decl) (i k v w : p4.Expr) → expr_under sc i ≡ k → expr_under sc v ≡ w → stmts_under sc (set_array o i v) ≡ set_array o k w
+  array_under : (o : Option Decl) (i k v w : p4.Expr) → expr_under sc i ≡ k → SameBits v w → stmts_under sc (set_array o i v) ≡ set_array o k w
   array_under None i k v w h z = refl
   array_under (Some d) i k v w h z = put_under d i k v w h z
 
@@ -51,13 +56,13 @@ module _ (s : ℕ) (r : Roots) (sc : Scope) (g : Stage s r sc) where
       go (next c ss) = refl
 
   module _ (c : List ℕ) (ds : List Decl) (rooted : AreRooted ds) where
-    set_kind_under : (k : DeclKind) (d : Decl) (x : List ℕ) (v w : p4.Expr) → expr_under sc v ≡ w → stmts_under sc (set_kind (in_control r) k d x v) ≡ set_kind (Here s r sc g c) k d x w
-    set_kind_under Tele d x v w z = λ j. next (p4.assign 0 (g.roots.headers j ∷ codes "hydra_tele" ∷ tele_name x ∷ []) (to_bits_under s r sc g (value_type d.shape) v w z j)) done
+    set_kind_under : (k : DeclKind) (d : Decl) (x : List ℕ) (v w : p4.Expr) → SameBits v w → stmts_under sc (set_kind (in_control r) k d x v) ≡ set_kind (Here s r sc g c) k d x w
+    set_kind_under Tele d x v w z = λ j. next (p4.assign 0 (g.roots.headers j ∷ codes "hydra_tele" ∷ tele_name x ∷ []) (z (value_type d.shape) j)) done
     set_kind_under Sensor d x v w z = put_under d (number 1 0) (number 1 0) v w refl z
     set_kind_under Header d x v w z = refl
     set_kind_under Control d x v w z = refl
 
-    set_under : (o : Option Decl) (x : List ℕ) (v w : p4.Expr) → expr_under sc v ≡ w → stmts_under sc (set_name (in_control r) o x v) ≡ set_name (Here s r sc g c) o x w
+    set_under : (o : Option Decl) (x : List ℕ) (v w : p4.Expr) → SameBits v w → stmts_under sc (set_name (in_control r) o x v) ≡ set_name (Here s r sc g c) o x w
     set_under None x v w z = refl
     set_under (Some d) x v w z = set_kind_under d.kind d x v w z
 
@@ -84,11 +89,11 @@ module _ (s : ℕ) (r : Roots) (sc : Scope) (g : Stage s r sc) where
       stmt_under_is (indus.assign p x e) n named =
           let l = stmt_reads ds (indus.assign p x e) in
           with_under n (indus.assign p x e) (λ k. set_name (in_control r) (lookup ds x) x (lowered (in_control r) ds n k e)) (λ k. set_name (Here s r sc g c) (lookup ds x) x (lowered (Here s r sc g c) ds n k e)) named
-          (set_under (lookup ds x) x (lowered (in_control r) ds n l e) (lowered (Here s r sc g c) ds n l e) (lowered_under s r sc g c ds rooted n l e))
+          (set_under (lookup ds x) x (lowered (in_control r) ds n l e) (lowered (Here s r sc g c) ds n l e) (λ t. bits_under s r sc g c ds rooted n l t e))
       stmt_under_is (indus.cell p x i e) n named =
           let l = stmt_reads ds (indus.cell p x i e) in
           with_under n (indus.cell p x i e) (λ k. set_array (lookup ds x) (lowered (in_control r) ds n k i) (lowered (in_control r) ds n k e)) (λ k. set_array (lookup ds x) (lowered (Here s r sc g c) ds n k i) (lowered (Here s r sc g c) ds n k e)) named
-          (array_under (lookup ds x) (lowered (in_control r) ds n l i) (lowered (Here s r sc g c) ds n l i) (lowered (in_control r) ds n l e) (lowered (Here s r sc g c) ds n l e) (lowered_under s r sc g c ds rooted n l i) (lowered_under s r sc g c ds rooted n l e))
+          (array_under (lookup ds x) (lowered (in_control r) ds n l i) (lowered (Here s r sc g c) ds n l i) (lowered (in_control r) ds n l e) (lowered (Here s r sc g c) ds n l e) (lowered_under s r sc g c ds rooted n l i) (λ t. bits_under s r sc g c ds rooted n l t e))
       stmt_under_is (indus.push p x e) n named = refl
       stmt_under_is (indus.choice p t a b) n named =
           let e = indus.choice p t a b in

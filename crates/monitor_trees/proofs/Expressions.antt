@@ -22,7 +22,7 @@ use Rattle.lookup_names.specs.Names.{found_name}
 use Rattle.lookup_names.specs.Keys.{variable}
 use Rattle.lowered_code.specs.Names.{tele_name}
 use Rattle.lowered_code.specs.Environment.{Environment, tele_path, view_of, on_switch, rooted, rooted_path, rooted_view, in_control, switch_name}
-use Rattle.lowered_code.specs.Expressions.{lowered_op, value_type, of_bits, to_bits, place_in, lowered, lowered_all, name_by_kind, name_for, found_for, built_in}
+use Rattle.lowered_code.specs.Expressions.{lowered_op, value_type, of_bits, as_bit, to_bits, place_in, lowered, lowered_all, name_by_kind, name_for, found_for, built_in}
 use Rattle.linked_programs.specs.Gives.{switch_word}
 use Rattle.monitor_trees.specs.Stage.{is_root, IsRooted, AreRooted, Stage}
 
@@ -37,9 +37,10 @@ module _ (s : ℕ) (r : Roots) (sc : Scope) (g : Stage s r sc) where
   of_bits_under (ty.Bit w) e f h = h
   of_bits_under ty.Bool e f h = ap (p4.cast 0 type.Bool) h
 
-  pub to_bits_under : (t : Ty) (e f : p4.Expr) → expr_under sc e ≡ f → expr_under sc (to_bits t e) ≡ to_bits t f
-  to_bits_under (ty.Bit w) e f h = h
-  to_bits_under ty.Bool e f h = ap (p4.cast 0 (type.Bit 1)) h
+  -- bits of a type that stand at a path, as one bit
+  stored_under : (t : Ty) (p q : List (List ℕ)) → expr_under sc (p4.path 0 p) ≡ p4.path 0 q → expr_under sc (as_bit (of_bits t (p4.path 0 p))) ≡ as_bit (of_bits t (p4.path 0 q))
+  stored_under (ty.Bit w) p q h = ap (p4.cast 0 (type.Bit 1)) h
+  stored_under ty.Bool p q h = h
 
   pub found_under : (n : ℕ) → expr_under sc (variable (found_name n)) ≡ variable (found_name n)
   found_under n = variable_under (found_name n) refl refl
@@ -76,6 +77,14 @@ module _ (s : ℕ) (r : Roots) (sc : Scope) (g : Stage s r sc) where
       go true = valid_is (parent d.path)
       go false = path_is d.path
 
+  view_bit_under : (d : Decl) → IsRooted (view_of d) → expr_under sc (as_bit (rooted_view r d)) ≡ as_bit (view_of d)
+  view_bit_under d = go d.valid
+    where
+      go : (b : Bool) → IsRooted (cond b (p4.valid 0 (parent d.path)) (p4.path 0 d.path))
+          → expr_under sc (as_bit (cond b (p4.valid 0 (rooted_path r (parent d.path))) (p4.path 0 (rooted_path r d.path)))) ≡ as_bit (cond b (p4.valid 0 (parent d.path)) (p4.path 0 d.path))
+      go true k = ap (p4.cast 0 (type.Bit 1)) (valid_is (parent d.path) k)
+      go false k = ap (p4.cast 0 (type.Bit 1)) (path_is d.path k)
+
   -- ---- expressions
 
   module _ (c : List ℕ) where
@@ -89,6 +98,14 @@ module _ (s : ℕ) (r : Roots) (sc : Scope) (g : Stage s r sc) where
         go true b = variable_under first_name refl refl
         go false true = variable_under last_name refl refl
         go false false = ap (λ (o : Option Word). constant_or_path 0 o (name_in sc switch_name ∷ [])) g.switch ∙ word_is s
+
+    built_in_bit_under : (x : List ℕ) → expr_under sc (as_bit (built_in (in_control r) x)) ≡ as_bit (built_in Here x)
+    built_in_bit_under x = go (same_text x (codes "first_hop")) (same_text x (codes "last_hop"))
+      where
+        go : (a b : Bool) → expr_under sc (as_bit (cond a (variable first_name) (cond b (variable last_name) (p4.path 0 (switch_name ∷ []))))) ≡ as_bit (cond a (variable first_name) (cond b (variable last_name) (number 16 (cast_number 16 s))))
+        go true b = ap (p4.cast 0 (type.Bit 1)) (variable_under first_name refl refl)
+        go false true = ap (p4.cast 0 (type.Bit 1)) (variable_under last_name refl refl)
+        go false false = ap (p4.cast 0 (type.Bit 1)) (ap (λ (o : Option Word). constant_or_path 0 o (name_in sc switch_name ∷ [])) g.switch ∙ word_is s)
 
     pub tele_under : (x : List ℕ) → expr_under sc (p4.path 0 (tele_path (in_control r) x)) ≡ p4.path 0 (tele_path Here x)
     tele_under x = ap (λ (z : List ℕ). p4.path 0 (z ∷ codes "hydra_tele" ∷ tele_name x ∷ [])) g.roots.headers
@@ -122,6 +139,41 @@ module _ (s : ℕ) (r : Roots) (sc : Scope) (g : Stage s r sc) where
       lowered_under (inversion p a) = ap (p4.inversion 0) (lowered_under a)
       lowered_under (binary p o a b) = ap₂ (p4.binary 0 (lowered_op o)) (lowered_under a) (lowered_under b)
       lowered_under (cast p w a) = ap (p4.cast 0 (type.Bit w)) (lowered_under a)
+
+      -- ---- as bits
+
+      found_bit_under : (e : Expr) (d : Decl) → expr_under sc (as_bit (of_bits (value_type d.shape) (here e))) ≡ as_bit (of_bits (value_type d.shape) (here e))
+      found_bit_under e d = (let x = found_name (base + place_in l e) ∷ [] in stored_under (value_type d.shape) x x (found_under (base + place_in l e)))
+
+      kind_bit_under : (k : DeclKind) (e : Expr) (x : List ℕ) (d : Decl) → (k ≡ Header → IsRooted (view_of d)) → expr_under sc (as_bit (name_by_kind (in_control r) ds base l k e x d)) ≡ as_bit (name_by_kind Here ds base l k e x d)
+      kind_bit_under Tele e x d h = stored_under (value_type d.shape) (tele_path (in_control r) x) (tele_path Here x) (tele_under x)
+      kind_bit_under Sensor e x d h = found_bit_under e d
+      kind_bit_under Header e x d h = view_bit_under d (h refl)
+      kind_bit_under Control e x d h = found_bit_under e d
+
+      name_bit_under : (o : Option Decl) (e : Expr) (x : List ℕ) → ((d : Decl) → o ≡ Some d → d.kind ≡ Header → IsRooted (view_of d)) → expr_under sc (as_bit (name_for (in_control r) ds base l o e x)) ≡ as_bit (name_for Here ds base l o e x)
+      name_bit_under None e x h = built_in_bit_under x
+      name_bit_under (Some d) e x h = kind_bit_under d.kind e x d (h d refl)
+
+      found_for_bit_under : (o : Option Decl) (e : Expr) → expr_under sc (as_bit (found_for (in_control r) ds base l o e)) ≡ as_bit (found_for Here ds base l o e)
+      found_for_bit_under None e = refl
+      found_for_bit_under (Some d) e = found_bit_under e d
+
+      bit_under : (e : Expr) → expr_under sc (as_bit (lowered (in_control r) ds base l e)) ≡ as_bit (lowered Here ds base l e)
+      bit_under (num p n) = refl
+      bit_under (flag p b) = refl
+      bit_under (reads p x) = name_bit_under (lookup ds x) (reads p x) x (are_rooted x)
+      bit_under (count p x) = refl
+      bit_under (index p x ks) = found_for_bit_under (lookup ds x) (index p x ks)
+      bit_under (member p ks x) = found_for_bit_under (lookup ds x) (member p ks x)
+      bit_under (negation p a) = ap (p4.cast 0 (type.Bit 1)) (lowered_under (negation p a))
+      bit_under (inversion p a) = ap (p4.cast 0 (type.Bit 1)) (lowered_under (inversion p a))
+      bit_under (binary p o a b) = ap (p4.cast 0 (type.Bit 1)) (lowered_under (binary p o a b))
+      bit_under (cast p w a) = ap (p4.cast 0 (type.Bit 1)) (lowered_under (cast p w a))
+
+      pub bits_under : (t : Ty) (e : Expr) → expr_under sc (to_bits t (lowered (in_control r) ds base l e)) ≡ to_bits t (lowered Here ds base l e)
+      bits_under (ty.Bit w) e = lowered_under e
+      bits_under ty.Bool e = bit_under e
 
       pub all_under : (es : Exprs) → map (expr_under sc) (lowered_all (in_control r) ds base l es) ≡ lowered_all Here ds base l es
       all_under none = refl

@@ -22,8 +22,9 @@ use Rattle.lookup_names.specs.Names.{found_name}
 use Rattle.lookup_names.specs.Keys.{key_types, variable}
 use Rattle.lowered_code.specs.Environment.{Environment, view_of, rooted, rooted_path, rooted_view, in_control, switch_name}
 use Rattle.lowered_code.specs.Expressions.{value_type, of_bits, to_bits, read_decl, lowered, lowered_all, name_by_kind, name_for, found_for, built_in, as_index, is_bare}
-use Rattle.lowered_code.specs.Reads.{turned, turn, start_of, keys_of, apply, keyed, read_array, read_sensor, read_kind, read_stmts, reads_stmts}
+use Rattle.lowered_code.specs.Reads.{cleared, turned, turn, start_of, keys_of, apply, keyed, read_array, read_sensor, read_kind, read_stmts, reads_stmts}
 use Rattle.lowered_code.specs.Statements.{put_sensor, set_kind, set_name, set_array, tell, maybe_else, stmt_reads, behind, stmt_end, block_end, with_reads, stmt_code, block_code}
+use Rattle.lowered_code.proofs.Bit.{by_bit_form}
 use Rattle.monitor_trees.specs.Stage.{is_root, IsRooted, AreRooted, Stage}
 use Rattle.monitor_trees.proofs.Expressions.{rooted_under}
 
@@ -77,7 +78,7 @@ module _ (s : ℕ) (r : Roots) (sc : Scope) (g : Stage s r sc) where
 
   to_reads : (t : Ty) (e : p4.Expr) → E e → E (to_bits t e)
   to_reads (ty.Bit w) e h = h
-  to_reads ty.Bool e h = h
+  to_reads ty.Bool e h = by_bit_form (λ e f. E e → E f) (λ p b h. tt) (λ p q x h. h) (λ e h. h) e h
 
   index_reads : (e : Expr) (i : p4.Expr) → E i → E (as_index e i)
   index_reads e i h = go (is_bare e)
@@ -166,11 +167,19 @@ module _ (s : ℕ) (r : Roots) (sc : Scope) (g : Stage s r sc) where
     sensor_reads l n d (set ts) ks = tt
     sensor_reads l n d (dict ts t) ks = tt
 
+    cleared_reads : (n : ℕ) (k : Shape) → S (cleared n k)
+    cleared_reads n (one t) = tt
+    cleared_reads n (list t size) = tt
+    cleared_reads n (set ts) = (tt, tt)
+    cleared_reads n (dict ts t) = (tt, tt)
+
     read_kind_reads : (k : DeclKind) (l : List Expr) (n : ℕ) (d : Decl) (ks : Exprs) → S (read_kind A ds base k l n d ks)
     read_kind_reads Tele l n d ks = tt
     read_kind_reads Sensor l n d ks = sensor_reads l n d d.shape ks
     read_kind_reads Header l n d ks = tt
-    read_kind_reads Control l n d ks = (tt, keyed_reads l n 0 (key_types d.shape) ks (next (apply A ds base n) done) (tt, tt))
+    read_kind_reads Control l n d ks =
+        let found = next (apply A ds base n) done in
+        then_reads (cleared n d.shape) (keyed A ds base l n 0 (key_types d.shape) ks found) (cleared_reads n d.shape) (keyed_reads l n 0 (key_types d.shape) ks found (tt, tt))
 
     one_reads : (o : Option Decl) (l : List Expr) (n : ℕ) (ks : Exprs) → S (read_stmts A ds base o l n ks)
     one_reads None l n ks = tt

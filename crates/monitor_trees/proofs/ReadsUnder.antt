@@ -1,7 +1,7 @@
 -- The statements of reads as they are written are, under a scope, the ones that run.
 use Rattle.std.proofs.Common.{◌≡◌, codes, ℕ, suc, List, [], ◌∷◌, ◌++◌, Bool, true, false, cond, Option, Some, None, refl, ap, ap₂, ◌∙◌, nat_eq}
 use Rattle.indus_tree.specs.Tree.{Expr, Exprs, none, more, Shape, one, list, set, dict, Decl}
-use Rattle.indus_tree.specs.State.{shape_width}
+use Rattle.indus_tree.specs.State.{shape_width, width_of}
 use Rattle.indus_tree.specs.declared.tree.DeclKind.{DeclKind}
 use Rattle.indus_tree.specs.declared.tree.DeclKind.TheVariants.{Tele, Sensor, Header, Control}
 use Rattle.indus_tree.specs.declared.tree.Ty.{Ty}
@@ -18,10 +18,10 @@ use Rattle.lookup_names.specs.Keys.{key_types, variable}
 use Rattle.lowered_code.specs.Names.{table_name}
 use Rattle.lowered_code.specs.Environment.{in_control}
 use Rattle.lowered_code.specs.Expressions.{read_decl, lowered, as_index, is_bare}
-use Rattle.lowered_code.specs.Reads.{clear, take_cell, start_of, turned, turn, take_sensor, keys_of, keyed, read_array, read_sensor, read_control, read_kind, read_stmts, reads_stmts}
+use Rattle.lowered_code.specs.Reads.{clear, cleared, take_cell, start_of, turned, turn, take_sensor, keys_of, keyed, read_array, read_sensor, read_control, read_kind, read_stmts, reads_stmts}
 use Rattle.lowered_code.specs.Statements.{control_kind, read_lookups, numbered_reads, lookups_in}
 use Rattle.monitor_trees.specs.Stage.{AreRooted, Stage, AreNamed}
-use Rattle.monitor_trees.proofs.Expressions.{Here, variable_under, found_under, to_bits_under, lowered_under}
+use Rattle.monitor_trees.proofs.Expressions.{Here, variable_under, found_under, lowered_under, bits_under}
 
 pub then_under : (sc : Scope) (a b : Stmts) → stmts_under sc (and_then a b) ≡ and_then (stmts_under sc a) (stmts_under sc b)
 then_under sc done b = refl
@@ -78,7 +78,7 @@ module _ (s : ℕ) (r : Roots) (sc : Scope) (g : Stage s r sc) where
     keyed_under l n i (t ∷ ts) none a b h = h
     keyed_under l n i (t ∷ ts) (more e es) a b h =
         λ j.
-        next (p4.assign 0 (key_first n i j ∷ []) (to_bits_under s r sc g t (lowered (in_control r) ds base l e) (lowered (Here s r sc g c) ds base l e) (lowered_under s r sc g c ds rooted base l e) j))
+        next (p4.assign 0 (key_first n i j ∷ []) (bits_under s r sc g c ds rooted base l t e j))
         (keyed_under l n (suc i) ts es a b h j)
 
     array_under : (l : List Expr) (n : ℕ) (d : Decl) (size : ℕ) (ks : Exprs) → stmts_under sc (read_array (in_control r) ds base l n d size ks) ≡ read_array (Here s r sc g c) ds base l n d size ks
@@ -96,12 +96,18 @@ module _ (s : ℕ) (r : Roots) (sc : Scope) (g : Stage s r sc) where
     sensor_under l n d (set ts) ks = refl
     sensor_under l n d (dict ts t) ks = refl
 
+    cleared_under : (n : ℕ) (h : Shape) → stmts_under sc (cleared n h) ≡ cleared n h
+    cleared_under n (one t) = refl
+    cleared_under n (list t size) = refl
+    cleared_under n (set ts) = λ j. next (clear_under n 1 j) done
+    cleared_under n (dict ts t) = λ j. next (clear_under n (width_of t) j) done
+
     control_under : (l : List Expr) (n : ℕ) (d : Decl) (ks : Exprs) → full_name sc (plain.table_name n) ≡ table_name c n → stmts_under sc (read_control (in_control r) ds base l n d ks) ≡ read_control (Here s r sc g c) ds base l n d ks
     control_under l n d ks h =
-        λ j.
-        next (clear_under n (shape_width d.shape) j)
-        (keyed_under l n 0 (key_types d.shape) ks (next (p4.call 0 (plain.table_name n ∷ codes "apply" ∷ []) []) done) (next (p4.call 0 (table_name c n ∷ codes "apply" ∷ []) []) done)
-        (λ k. next (p4.call 0 (h k ∷ codes "apply" ∷ []) []) done) j)
+        let plain_found = next (p4.call 0 (plain.table_name n ∷ codes "apply" ∷ []) []) done in
+        let found = next (p4.call 0 (table_name c n ∷ codes "apply" ∷ []) []) done in
+        then_under sc (cleared n d.shape) (keyed (in_control r) ds base l n 0 (key_types d.shape) ks plain_found)
+        ∙ ap₂ and_then (cleared_under n d.shape) (keyed_under l n 0 (key_types d.shape) ks plain_found found (λ k. next (p4.call 0 (h k ∷ codes "apply" ∷ []) []) done))
 
     kind_under : (k : DeclKind) (l : List Expr) (n : ℕ) (d : Decl) (ks : Exprs) → AreNamed sc c (control_kind k n d) → stmts_under sc (read_kind (in_control r) ds base k l n d ks) ≡ read_kind (Here s r sc g c) ds base k l n d ks
     kind_under Tele l n d ks h = refl

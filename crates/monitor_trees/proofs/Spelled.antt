@@ -4,11 +4,12 @@ use Rattle.std.proofs.lemmas.Bool.{ltb-false}
 use Rattle.std.proofs.lemmas.Bool.Decides.{nat_tests}
 use Rattle.std.proofs.lemmas.List.{length-append}
 use Rattle.std.proofs.Math.Pow.{pow_mono}
+use Rattle.bit_values.specs.Widths.{bit}
 use Rattle.lex_text.specs.Names.{same_text, parent}
 use Rattle.lex_text.specs.declared.literal.Literal.{Literal}
 use Rattle.indus_tree.specs.Tree as indus
 use Rattle.indus_tree.specs.Tree.{Expr, Exprs, num, flag, read as reads_it, count, index, member, negation, inversion, binary, cast, none, more, Shape, one, list, set, dict, Decl}
-use Rattle.indus_tree.specs.State.{lookup, shape_width}
+use Rattle.indus_tree.specs.State.{lookup, shape_width, width_of}
 use Rattle.indus_tree.specs.Reports.{ReportsBelow, BlockReportsBelow}
 use Rattle.indus_tree.specs.declared.tree.DeclKind.{DeclKind}
 use Rattle.indus_tree.specs.declared.tree.DeclKind.TheVariants.{Tele, Sensor, Header, Control}
@@ -38,9 +39,10 @@ use Rattle.lookup_names.specs.Keys.{key_types, variable}
 use Rattle.lowered_code.specs.Same.{same_expr}
 use Rattle.lowered_code.specs.Environment.{Environment, tele_path, view_of, rooted, rooted_path, rooted_view, in_control, switch_name}
 use Rattle.lowered_code.specs.Expressions.{value_type, of_bits, to_bits, place_in, read_decl, lowered, lowered_all, name_by_kind, name_for, found_for, built_in, as_index, is_bare}
-use Rattle.lowered_code.specs.Reads.{clear, start_of, turned, turn, take_sensor, keys_of, apply, keyed, read_array, read_sensor, read_kind, read_stmts, reads_stmts}
+use Rattle.lowered_code.specs.Reads.{clear, cleared, start_of, turned, turn, take_sensor, keys_of, apply, keyed, read_array, read_sensor, read_kind, read_stmts, reads_stmts}
 use Rattle.lowered_code.specs.Statements.{put_sensor, set_kind, set_name, set_array, tell, maybe_else, stmt_reads, behind, stmt_end, block_end, with_reads, stmt_code, block_code}
 use Rattle.lowered_code.proofs.Rising.{block_rises}
+use Rattle.lowered_code.proofs.Bit.{by_bit_form}
 use Rattle.monitor_trees.proofs.Turns.{InTurn, stmt_turn}
 use Rattle.monitor_trees.proofs.Words.{IsWord, tele_named, sensor_named, table_named, found_named, key_named}
 
@@ -99,9 +101,13 @@ of_can : (t : Ty) (e : p4.Expr) → CanSpellExpr e → CanSpellExpr (of_bits t e
 of_can (ty.Bit w) e h = h
 of_can ty.Bool e h = (tt, h)
 
+bit_can : (b : Bool) → CanSpellExpr (number 1 (bit b).value)
+bit_can true = number_can 1 1 (omega arith) (omega arith)
+bit_can false = number_can 1 0 (omega arith) (omega arith)
+
 to_can : (t : Ty) (e : p4.Expr) → CanSpellExpr e → CanSpellExpr (to_bits t e)
 to_can (ty.Bit w) e h = h
-to_can ty.Bool e h = (omega arith, h)
+to_can ty.Bool e h = by_bit_form (λ e f. CanSpellExpr e → CanSpellExpr f) (λ p b h. bit_can b) (λ p q x h. h.1) (λ e h. (omega arith, h)) e h
 
 index_can : (e : Expr) (i : p4.Expr) → CanSpellExpr i → CanSpellExpr (as_index e i)
 index_can e i h = go (is_bare e)
@@ -192,8 +198,18 @@ module _ (g : Sight) (r : Roots) (names : AreNames r) (are : AreDecls g.decls r)
 
   -- ---- reads
 
+  join_can : (a b : Stmts) → CanSpellStmts a → CanSpellStmts b → CanSpellStmts (and_then a b)
+  join_can done b h k = k
+  join_can (next c a) b h k = (h.0, join_can a b h.1 k)
+
   clear_can : (n w : ℕ) → n < 2 ^ 64 → w ≤ 128 → CanSpellStmt false (clear n w)
   clear_can n w h k = ((found_named n h, tt), (k, omega arith))
+
+  cleared_can : (n : ℕ) (s : Shape) → n < 2 ^ 64 → shape_width s ≤ 128 → CanSpellStmts (cleared n s)
+  cleared_can n (one t) h k = tt
+  cleared_can n (list t size) h k = tt
+  cleared_can n (set ts) h k = (inl (clear_can n 1 h k), tt)
+  cleared_can n (dict ts t) h k = (inl (clear_can n (width_of t) h k), tt)
 
   turn_can : (n w start : ℕ) → n < 2 ^ 64 → w ≤ 128 → start < 2 ^ 128 → CanSpellStmts (turn n w start)
   turn_can n w start h k s = go (nat_eq start 0)
@@ -245,10 +261,10 @@ module _ (g : Sight) (r : Roots) (names : AreNames r) (are : AreDecls g.decls r)
     by_kind Tele l low n d ks ws h is f = tt
     by_kind Sensor l low n d ks ws h is f = shape_can l low n d d.shape ks ws h (are.sized d.name d is) is f
     by_kind Header l low n d ks ws h is f = tt
-    by_kind Control l low n d ks ws h is f = (
-      inl (clear_can n (shape_width d.shape) h (are.narrow d.name d is)),
-      keyed_can l low n 0 (key_types d.shape) ks ws (next (apply A ds base n) done) h (few_keys d.shape (are.sized d.name d is)) f (inl ((table_named n h, ((refl, refl), tt)), tt), tt),
-    )
+    by_kind Control l low n d ks ws h is f =
+        let found = next (apply A ds base n) done in
+        join_can (cleared n d.shape) (keyed A ds base l n 0 (key_types d.shape) ks found) (cleared_can n d.shape h (are.narrow d.name d is))
+        (keyed_can l low n 0 (key_types d.shape) ks ws found h (few_keys d.shape (are.sized d.name d is)) f (inl ((table_named n h, ((refl, refl), tt)), tt), tt))
 
     by_name : (x : List ℕ) (o : Option Decl) (l : List Expr) (low : base + length l < 2 ^ 64) (n : ℕ) (ks : Exprs) (ws : Wants) → n < 2 ^ 64 → lookup ds x ≡ o → Fine (all_sites g ws ks) → CanSpellStmts (read_stmts A ds base o l n ks)
     by_name x None l low n ks ws h is f = tt
@@ -265,10 +281,6 @@ module _ (g : Sight) (r : Roots) (names : AreNames r) (are : AreDecls g.decls r)
     one_can l low n (inversion p a) w h f = tt
     one_can l low n (binary p o a b) w h f = tt
     one_can l low n (cast p v a) w h f = tt
-
-  join_can : (a b : Stmts) → CanSpellStmts a → CanSpellStmts b → CanSpellStmts (and_then a b)
-  join_can done b h k = k
-  join_can (next c a) b h k = (h.0, join_can a b h.1 k)
 
   reads_can : (base : ℕ) (l es : List Expr) (n : ℕ) → InTurn g l es → n ≡ base + length l → n + length es < 2 ^ 64 → CanSpellStmts (reads_stmts A ds base l n es)
   reads_can base l [] n t at low = tt

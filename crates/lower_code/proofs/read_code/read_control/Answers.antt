@@ -15,7 +15,7 @@ loop-part-preserved c =
     let base = c.args.place.now.base in
     let in_types : c.loop-part.part < length c.key_types-types.result.now = omega (arith, c.loop-part-test.true, c.min-part-end.ensures) in
     let in_key : c.loop-part.part < length c.args.key.now = omega (arith, c.loop-part-test.true, c.min-part-end.ensures) in
-    stmt_more c.push-in-loop-part.new.self.items c.loop-part.out.items c.in_ok-key_stmt.field-0 _ c.in_ok-push-2.ensures.items
+    stmt_more c.push.new.self.items c.loop-part.out.items c.in_ok-key_stmt.field-0 _ c.in_ok-push.ensures.items
     ∙ ap (and_then (stmts_of c.loop-part.out.items))
     (sym (key_more a ds base (lent c.args.place.now.reads.now) c.args.read (next (apply a ds base c.args.read) done) c.key_types-types.result.now c.args.key.now c.loop-part.part _ _ c.index-key-part.result in_types in_key
     (stmt_of c.in_ok-key_stmt.field-0) c.in_ok-key_stmt.ensures (let item : c.index-key-part.result ≡ get_or c.args.key.now c.loop-part.part c.index-key-part.result = c.index-key-part.is in cc)))
@@ -28,7 +28,7 @@ returns c =
     let base = c.args.place.now.base in
     let past : min (length c.key_types-types.result.now) (length c.args.key.now) ≤ c.loop-part.part = omega (arith, c.loop-part-test.false, c.min-part-end.ensures) in
     sym (joined_done (stmts_of c.push-2.new.self.items))
-    ∙ stmt_more c.push-2.new.self.items c.loop-part.out.items c.in_ok-apply.field-0 done c.in_ok-push-3.ensures.items
+    ∙ stmt_more c.push-2.new.self.items c.loop-part.out.items c.in_ok-apply.field-0 done c.in_ok-push-2.ensures.items
     ∙ ap (and_then (stmts_of c.loop-part.out.items))
     (ap (λ (s : Stmt). next s done) c.in_ok-apply.ensures
     ∙ sym (keys_end a ds base (lent c.args.place.now.reads.now) c.args.read (next (apply a ds base c.args.read) done) c.key_types-types.result.now c.args.key.now c.loop-part.part past))
