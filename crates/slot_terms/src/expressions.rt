@@ -1,6 +1,6 @@
 //! The terms of expressions.
 
-ghost use Rattle.std.specs.Prelude.{◌≡◌, ◌≤◌, ◌+◌, ◌-◌, IfOk, IfErr};
+ghost use Rattle.std.specs.Prelude.{◌≡◌, ◌≤◌, ◌+◌, ◌-◌, true, IfOk, OnOk, IfErr};
 ghost use Rattle.bit_values.specs.Widths.{sound_width, either_width};
 ghost use Rattle.p4_tree.specs.View.{expr_of};
 ghost use Rattle.p4_tree.specs.Tree.{path, valid, num, error_name, inversion as tree_inversion, opposite as tree_opposite, slice as tree_slice, cast as tree_cast};
@@ -8,7 +8,7 @@ ghost use Rattle.slot_terms.specs.Typed.{typed_of};
 ghost use Rattle.slot_terms.specs.Places.{Means, Fills, places_of};
 ghost use Rattle.slot_terms.specs.Own.{IsOwn};
 ghost use Rattle.slot_terms.specs.Places as sight;
-ghost use Rattle.slot_terms.specs.Known.{Blames};
+ghost use Rattle.slot_terms.specs.Known.{is_known, Blames};
 
 use crate::fault::Fault;
 use crate::nodes::place_node;
@@ -24,6 +24,7 @@ use std::alloc::Global;
 /// The term of a path.
 fn path_term(places: &Places, names: &[Name]) -> Result<Typed, Fault>
     ensures means { IfOk result (λ t. Means (places_of places.now) (path 0 names.now) 0 (typed_of t)) }
+    ensures known { OnOk result (is_known (places_of places.now) (path 0 names.now) ≡ true) }
     ensures blames { IfErr result (λ f. Blames (places_of places.now) (path 0 names.now) f) }
 {
     match place_at(&places.rows, names) {
@@ -38,6 +39,7 @@ fn path_term(places: &Places, names: &[Name]) -> Result<Typed, Fault>
 /// The term for whether a header is valid.
 fn header_term(places: &Places, names: &[Name]) -> Result<Typed, Fault>
     ensures means { IfOk result (λ t. Means (places_of places.now) (valid 0 names.now) 0 (typed_of t)) }
+    ensures known { OnOk result (is_known (places_of places.now) (valid 0 names.now) ≡ true) }
     ensures blames { IfErr result (λ f. Blames (places_of places.now) (valid 0 names.now) f) }
 {
     match header_number(&places.headers, names)? {
@@ -140,6 +142,7 @@ fn error_term(name: &str) -> Typed
 #[cycle(typed_term)]
 pub fn typed_term(alloc: Global, places: &Places, e: &Expr, width: u8) -> Result<Typed, Fault>
     ensures means { IfOk result (λ t. Means (places_of places.now) (expr_of e.now) width (typed_of t)) }
+    ensures known { OnOk result (is_known (places_of places.now) (expr_of e.now) ≡ true) }
     ensures blames { IfErr result (λ f. Blames (places_of places.now) (expr_of e.now) f) }
 {
     match e {
@@ -181,6 +184,7 @@ pub fn typed_term(alloc: Global, places: &Places, e: &Expr, width: u8) -> Result
 #[cycle(typed_term)]
 fn inversion_term(alloc: Global, places: &Places, a: &Expr, width: u8) -> Result<Typed, Fault>
     ensures means { IfOk result (λ t. Means (places_of places.now) (tree_inversion 0 (expr_of a.now)) width (typed_of t)) }
+    ensures known { OnOk result (is_known (places_of places.now) (expr_of a.now) ≡ true) }
     ensures blames { IfErr result (λ f. Blames (places_of places.now) (expr_of a.now) f) }
 {
     let own = own_width(places, a)?;
@@ -192,6 +196,7 @@ fn inversion_term(alloc: Global, places: &Places, a: &Expr, width: u8) -> Result
 #[cycle(typed_term)]
 fn opposite_term(alloc: Global, places: &Places, a: &Expr, width: u8) -> Result<Typed, Fault>
     ensures means { IfOk result (λ t. Means (places_of places.now) (tree_opposite 0 (expr_of a.now)) width (typed_of t)) }
+    ensures known { OnOk result (is_known (places_of places.now) (expr_of a.now) ≡ true) }
     ensures blames { IfErr result (λ f. Blames (places_of places.now) (expr_of a.now) f) }
 {
     let own = own_width(places, a)?;
@@ -203,6 +208,7 @@ fn opposite_term(alloc: Global, places: &Places, a: &Expr, width: u8) -> Result<
 #[cycle(typed_term)]
 fn slice_term(alloc: Global, places: &Places, a: &Expr, high: u8, low: u8) -> Result<Typed, Fault>
     ensures means { IfOk result (λ t. Means (places_of places.now) (tree_slice 0 (expr_of a.now) high low) 0 (typed_of t)) }
+    ensures known { OnOk result (is_known (places_of places.now) (expr_of a.now) ≡ true) }
     ensures blames { IfErr result (λ f. Blames (places_of places.now) (expr_of a.now) f) }
 {
     let a = typed_term(alloc, places, a, 0)?;
@@ -213,6 +219,7 @@ fn slice_term(alloc: Global, places: &Places, a: &Expr, high: u8, low: u8) -> Re
 #[cycle(typed_term)]
 fn cast_term(alloc: Global, places: &Places, ty: &PTy, a: &Expr) -> Result<Typed, Fault>
     ensures means { IfOk result (λ t. Means (places_of places.now) (tree_cast 0 ty.now (expr_of a.now)) 0 (typed_of t)) }
+    ensures known { OnOk result (is_known (places_of places.now) (expr_of a.now) ≡ true) }
     ensures blames { IfErr result (λ f. Blames (places_of places.now) (expr_of a.now) f) }
 {
     let a = typed_term(alloc, places, a, 0)?;
@@ -224,6 +231,7 @@ fn cast_term(alloc: Global, places: &Places, ty: &PTy, a: &Expr) -> Result<Typed
 pub fn term_in_place(alloc: Global, places: &Places, e: &Expr, place: u8) -> Result<Typed, Fault>
     ensures width { IfOk result (λ t. (typed_of t).width ≡ sound_width place) }
     ensures means { IfOk result (λ t. Fills (places_of places.now) (expr_of e.now) place (typed_of t)) }
+    ensures known { OnOk result (is_known (places_of places.now) (expr_of e.now) ≡ true) }
     ensures blames { IfErr result (λ f. Blames (places_of places.now) (expr_of e.now) f) }
 {
     let a = typed_term(alloc, places, e, place)?;
