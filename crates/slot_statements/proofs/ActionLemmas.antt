@@ -1,5 +1,5 @@
 -- An action on any words.
-use Rattle.std.proofs.Common.{◌≡◌, ℕ, ◌%◌, ◌^◌, List, [], ◌∷◌, refl, sym, ap, subst, bit_and}
+use Rattle.std.proofs.Common.{◌≡◌, ℕ, ◌%◌, ◌^◌, List, [], ◌∷◌, true, refl, sym, ap, subst, bit_and}
 use Rattle.std.specs.Prelude.{slice_set}
 use Rattle.bit_values.specs.Bits.{Word, word, IsWord}
 use Rattle.bit_values.specs.Widths.{sound_width, cast_word}
@@ -15,7 +15,9 @@ use Rattle.slot_terms.specs.States.{State}
 use Rattle.slot_statements.specs.Codes.{Codes, put, exec_all}
 use Rattle.slot_statements.specs.Runs.{Ends, DoAll}
 use Rattle.slot_statements.specs.Starts.{IsNew}
-use Rattle.slot_statements.specs.Parameters.{with_row, with_params, AreFree}
+use Rattle.slot_statements.specs.Parameters.{with_row, with_params}
+use Rattle.slot_statements.specs.Known.{are_free}
+use Rattle.slot_statements.proofs.KnownLemmas.{AreFree, free_names}
 use Rattle.slot_statements.specs.Actions.{bind_words, DoesAction}
 use Rattle.slot_statements.specs.Parameters.{masked_from}
 use Rattle.slot_statements.proofs.VarLemmas.{new_laid, var_grown}
@@ -48,11 +50,11 @@ words_follow m (p ∷ ps) (x ∷ ws) s now laid free follows =
     (one_bound m p s now (x.value % 2 ^ w) laid new follows word_is))
 
 pub action_does :
-    (m k : Places) (a : Action) (body : Codes) → IsLaid m → AreFree m a.params → DoAll (with_params m a.params) k body a.body → DoesAction m (record { params = masked_from m.next a.params; body = body }) a
+    (m k : Places) (a : Action) (body : Codes) → IsLaid m → are_free m a.params ≡ true → DoAll (with_params m a.params) k body a.body → DoesAction m (record { params = masked_from m.next a.params; body = body }) a
 action_does m k a body laid free all ws s y follows =
     let start : State = bind_words (masked_from m.next a.params) ws s in
     let store : Store = bound a.params ws y.store in
-    let begun : Follows (with_params m a.params) start.slots start.valid store = words_follow m a.params ws s y.store laid free follows in
+    let begun : Follows (with_params m a.params) start.slots start.valid store = words_follow m a.params ws s y.store laid (free_names m a.params free) follows in
     let e : Ends (with_params m a.params) k (exec_all body start) (meaning_of no_calls a.body (in_store y store)) = all no_calls start (in_store y store) begun in
     let kept : Follows m (exec_all body start).0.slots (exec_all body start).0.valid (meaning_of no_calls a.body (in_store y store)).0.store =
     follows_before m (with_params m a.params) (params_grow m a.params) (exec_all body start).0 (meaning_of no_calls a.body (in_store y store)).0 e.kept in

@@ -1,5 +1,5 @@
 -- An action on arguments: its parameters have the next slots, and its body runs there.
-use Rattle.std.proofs.Common.{◌≡◌, ◌≢◌, ℕ, ◌<◌, length, take, List, [], ◌∷◌, ◌++◌, Bool, Some, refl, sym, ap, ◌∙◌, subst, arith}
+use Rattle.std.proofs.Common.{◌≡◌, ◌≢◌, ◌⊎◌, ⊎_elim, ℕ, ◌<◌, length, take, map, List, [], ◌∷◌, ◌++◌, Bool, true, Some, refl, sym, ap, ◌∙◌, subst, arith}
 use Rattle.std.proofs.lemmas.Grind.{common_steps}
 use Rattle.std.specs.Prelude.{slice_set}
 use Rattle.std.proofs.lemmas.List.{get_or-set_other}
@@ -10,15 +10,18 @@ use Rattle.p4_meaning.specs.Store.{Store, set_value}
 use Rattle.p4_meaning.specs.Value.{value_of}
 use Rattle.p4_meaning.specs.Statements.{in_store, no_calls, meaning_of}
 use Rattle.p4_meaning.specs.Actions.{Param, Action, args_of, bound, flow_behind}
-use Rattle.slot_terms.specs.Terms.{Term, eval}
+use Rattle.slot_terms.specs.Terms.{Term, term_of, eval}
+use Rattle.slot_terms.specs.declared.term.Term as code_term
 use Rattle.slot_terms.specs.Typed.{Typed, Gives}
 use Rattle.slot_terms.specs.Places.{Place, Places, place_at, ShowsPlace, Shows, Follows, IsLaid, Fills}
 use Rattle.slot_statements.specs.Codes as codes
 use Rattle.slot_terms.specs.States.{State}
-use Rattle.slot_statements.specs.Codes.{Code, Codes, put, bind, exec, exec_all}
+use Rattle.slot_statements.specs.Codes.{Codes, put, bind, exec_all}
 use Rattle.slot_statements.specs.Runs.{Ends, DoAll, Grows}
 use Rattle.slot_statements.specs.Starts.{IsNew}
-use Rattle.slot_statements.specs.Parameters.{with_row, with_params, slots_from, IsFree, AreFree, FillAll}
+use Rattle.slot_statements.specs.Parameters.{with_row, with_params, slots_from, FillAll}
+use Rattle.slot_statements.specs.Known.{are_free}
+use Rattle.slot_statements.proofs.KnownLemmas.{IsFree, AreFree, free_names}
 use Rattle.slot_statements.specs.Actions.{DoesCall}
 use Rattle.slot_statements.proofs.VarLemmas.{new_laid, var_grown}
 use Rattle.slot_statements.proofs.FlowLemmas.{follows_before, grows_twice}
@@ -26,7 +29,7 @@ use Rattle.slot_statements.proofs.FlowLemmas.{follows_before, grows_twice}
 pub row_new : (m : Places) (x : List ℕ) (w : ℕ) → IsFree m x → IsNew m (with_row m x w) x w m.next
 row_new m x w free = record { room = free.room; unknown = free.unknown; at = refl; rows = refl; headers = refl; next = refl; size = refl }
 
-row_grows : (m : Places) (x : List ℕ) (w : ℕ) → Grows m (with_row m x w)
+pub row_grows : (m : Places) (x : List ℕ) (w : ℕ) → Grows m (with_row m x w)
 row_grows m x w = record { rows = take_front m.rows _; headers = refl; size = refl }
   where
     take_front : (xs ys : List Place) → take (length xs) (xs ++ ys) ≡ xs
@@ -36,10 +39,13 @@ pub params_grow : (m : Places) (ps : List Param) → Grows m (with_params m ps)
 params_grow m [] = record { rows = grind (arith, common_steps); headers = refl; size = refl }
 params_grow m (p ∷ ps) = grows_twice m (with_row m p.name (sound_width p.width)) (with_params m (p ∷ ps)) (row_grows m p.name (sound_width p.width)) (params_grow (with_row m p.name (sound_width p.width)) ps)
 
-pub params_laid : (m : Places) (ps : List Param) → IsLaid m → AreFree m ps → IsLaid (with_params m ps)
-params_laid m [] laid free = laid
-params_laid m (p ∷ ps) laid free =
-    params_laid (with_row m p.name (sound_width p.width)) ps (new_laid m (with_row m p.name (sound_width p.width)) p.name (sound_width p.width) m.next laid (row_new m p.name (sound_width p.width) free.0)) free.1
+laid_behind : (m : Places) (ps : List Param) → IsLaid m → AreFree m ps → IsLaid (with_params m ps)
+laid_behind m [] laid free = laid
+laid_behind m (p ∷ ps) laid free =
+    laid_behind (with_row m p.name (sound_width p.width)) ps (new_laid m (with_row m p.name (sound_width p.width)) p.name (sound_width p.width) m.next laid (row_new m p.name (sound_width p.width) free.0)) free.1
+
+pub params_laid : (m : Places) (ps : List Param) → IsLaid m → are_free m ps ≡ true → IsLaid (with_params m ps)
+params_laid m ps laid free = laid_behind m ps laid (free_names m ps free)
 
 -- places below a slot
 pub record AreBelow (m : Places) (i : ℕ) : Type 0 where
@@ -84,17 +90,23 @@ bind_follows base m (p ∷ ps) (e ∷ es) (t ∷ ts) s store now laid below free
 
 -- an action's code does what the action does
 pub call_does :
-    (m k : Places) (a : Action) (es : List Expr) (ts : List Term) (body : Codes) → IsLaid m → AreFree m a.params → FillAll m a.params es ts → DoAll (with_params m a.params) k body a.body
+    (m k : Places) (a : Action) (es : List Expr) (ts : List Term) (body : Codes) → IsLaid m → are_free m a.params ≡ true → FillAll m a.params es ts → DoAll (with_params m a.params) k body a.body
     → DoesCall m (codes.act (slots_from m.next a.params) ts body) a es
 call_does m k a es ts body laid free fills all s y follows =
     let start : State = bind (slots_from m.next a.params) ts s in
     let store : Store = bound a.params (args_of a.params es y.store) y.store in
     let begun : Follows (with_params m a.params) start.slots start.valid store =
-    bind_follows m m a.params es ts s y.store y.store laid (record { below = laid.below }) free fills follows.shows follows in
+    bind_follows m m a.params es ts s y.store y.store laid (record { below = laid.below }) (free_names m a.params free) fills follows.shows follows in
     let e : Ends (with_params m a.params) k (exec_all body start) (meaning_of no_calls a.body (in_store y store)) = all no_calls start (in_store y store) begun in
     let kept : Follows m (exec_all body start).0.slots (exec_all body start).0.valid (meaning_of no_calls a.body (in_store y store)).0.store =
     follows_before m (with_params m a.params) (params_grow m a.params) (exec_all body start).0 (meaning_of no_calls a.body (in_store y store)).0 e.kept in
     record { flow = ap flow_behind e.flow; kept = kept; grown = λ g. kept }
+
+-- where no slot or no argument is left, nothing more is bound
+pub bind_none : (is : List ℕ) (ts : List code_term.Term) (s : State) → (is ≡ []) ⊎ (ts ≡ []) → bind is (map term_of ts) s ≡ s
+bind_none [] ts s h = refl
+bind_none (i ∷ is) [] s h = refl
+bind_none (i ∷ is) (t ∷ ts) s h = absurd (⊎_elim (λ e. cc e) (λ e. cc e) h)
 
 -- one argument more
 pub fill_more : (m : Places) (ps : List Param) (es : List Expr) (ts : List Term) (p : Param) (e : Expr) (t : Term) → FillAll m ps es ts → Fills m e p.width (record { term = t; width = sound_width p.width })

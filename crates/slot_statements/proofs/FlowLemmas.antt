@@ -1,18 +1,19 @@
 -- Blocks, branches and statements one after the other.
 use Rattle.std.proofs.Common.{◌≡◌, ℕ, zero, suc, ◌≤◌, length, take, List, [], ◌∷◌, ◌++◌, Bool, true, false, if◌then◌else◌, Option, Some, None, refl, sym, ap, ◌∙◌, subst, arith, nat_eq, length-take}
+use Rattle.std.proofs.lemmas.Grind.{common_steps}
 use Rattle.std.proofs.lemmas.List.{take-take}
 use Rattle.bit_values.specs.Bits.{Word}
 use Rattle.bit_values.specs.Widths.{holds}
 use Rattle.lex_text.specs.Names.{same_path}
 use Rattle.p4_tree.specs.Tree.{Expr, Stmt, Stmts, MaybeStmt, block, choice, done, otherwise, stmts_from}
 use Rattle.p4_meaning.specs.Value.{value_of}
-use Rattle.p4_meaning.specs.Statements.{Flow, Go, Return, Exit, Run, Calls, after, application, tested_by, meaning_of_stmt, meaning_of_else, meaning_of}
+use Rattle.p4_meaning.specs.Statements.{Flow, Go, Return, Exit, Run, Ended, Calls, after, application, tested_by, meaning_of_stmt, meaning_of_else, meaning_of}
 use Rattle.slot_terms.specs.Terms.{eval}
 use Rattle.slot_terms.specs.Typed.{Typed, Gives}
 use Rattle.slot_terms.specs.Places.{Place, Places, place_at, header_number, Follows, Means}
 use Rattle.slot_statements.specs.Codes as codes
 use Rattle.slot_terms.specs.States.{State}
-use Rattle.slot_statements.specs.Codes.{Code, Codes, skip, group, branch, codes_from, behind, exec, exec_all}
+use Rattle.slot_statements.specs.Codes.{Code, Codes, group, branch, codes_from, behind, exec, exec_all}
 use Rattle.slot_statements.specs.Runs.{Ends, Does, DoAll, DoesElse, Grows}
 
 -- ---- fewer places
@@ -38,6 +39,12 @@ follows_before m n grows s y follows = record {
   bare = follows.bare;
   room = follows.room ∙ grows.size;
 }
+
+pub grows_same : (m : Places) → Grows m m
+grows_same m = record { rows = all_taken m.rows; headers = refl; size = refl }
+  where
+    all_taken : (xs : List Place) → take (length xs) xs ≡ xs
+    all_taken xs = grind (arith, common_steps)
 
 pub grows_twice : (m n k : Places) → Grows m n → Grows n k → Grows m k
 grows_twice m n k a b =
@@ -106,20 +113,21 @@ pub meaning-append : (calls : Calls) (ys : List Stmt) (st : Stmt) (y : Run) → 
 meaning-append calls [] st y = mean_one calls (meaning_of_stmt calls st y).1 (meaning_of_stmt calls st y).0
 meaning-append calls (x ∷ ys) st y = mean_step calls (meaning_of_stmt calls x y).1 (meaning_of_stmt calls x y).0 st ys (meaning-append calls ys st)
 
-then_ends :
-    (m n k : Places) (c : Code) (st : Stmt) (calls : Calls) (s : State) (f : Flow) (y : Run) (g : Flow) → Grows m n → Does n k c st → f ≡ g → Follows m s.slots s.valid y.store → (g ≡ Go → Follows n s.slots s.valid y.store)
-    → Ends m k (behind f s (exec c)) (after g y (meaning_of_stmt calls st))
-then_ends m n k c st calls s Go y Go grows does e kept grown =
-    let r = does calls s y (grown refl) in
-    record { flow = r.flow; kept = follows_before m n grows (exec c s).0 (meaning_of_stmt calls st y).0 r.kept; grown = r.grown }
-then_ends m n k c st calls s Go y Return grows does e kept grown = absurd (cc e)
-then_ends m n k c st calls s Go y Exit grows does e kept grown = absurd (cc e)
-then_ends m n k c st calls s Return y Go grows does e kept grown = absurd (cc e)
-then_ends m n k c st calls s Return y Return grows does e kept grown = record { flow = refl; kept = kept; grown = λ g. absurd (cc g) }
-then_ends m n k c st calls s Return y Exit grows does e kept grown = absurd (cc e)
-then_ends m n k c st calls s Exit y Go grows does e kept grown = absurd (cc e)
-then_ends m n k c st calls s Exit y Return grows does e kept grown = absurd (cc e)
-then_ends m n k c st calls s Exit y Exit grows does e kept grown = record { flow = refl; kept = kept; grown = λ g. absurd (cc g) }
+-- what follows, where what was before did not leave
+pub ends_then :
+    (m n k : Places) (f g : Flow) (s : State) (y : Run) (more : State → State × Flow) (means : Run → Ended) → Grows m n → (Follows n s.slots s.valid y.store → Ends n k (more s) (means y)) → f ≡ g → Follows m s.slots s.valid y.store
+    → (g ≡ Go → Follows n s.slots s.valid y.store) → Ends m k (behind f s more) (after g y means)
+ends_then m n k Go Go s y more means grows does e kept grown =
+    let r = does (grown refl) in
+    record { flow = r.flow; kept = follows_before m n grows (more s).0 (means y).0 r.kept; grown = r.grown }
+ends_then m n k Go Return s y more means grows does e kept grown = absurd (cc e)
+ends_then m n k Go Exit s y more means grows does e kept grown = absurd (cc e)
+ends_then m n k Return Go s y more means grows does e kept grown = absurd (cc e)
+ends_then m n k Return Return s y more means grows does e kept grown = record { flow = refl; kept = kept; grown = λ g. absurd (cc g) }
+ends_then m n k Return Exit s y more means grows does e kept grown = absurd (cc e)
+ends_then m n k Exit Go s y more means grows does e kept grown = absurd (cc e)
+ends_then m n k Exit Return s y more means grows does e kept grown = absurd (cc e)
+ends_then m n k Exit Exit s y more means grows does e kept grown = record { flow = refl; kept = kept; grown = λ g. absurd (cc g) }
 
 pub all_more :
     (m n k : Places) (xs : List Code) (ys : List Stmt) (c : Code) (st : Stmt) → Grows m n → DoAll m n (codes_from xs) (stmts_from ys) → Does n k c st
@@ -128,4 +136,5 @@ all_more m n k xs ys c st grows all does calls s y follows =
     let e = all calls s y follows in
     subst (λ x. Ends m k x (meaning_of calls (stmts_from (ys ++ st ∷ [])) y)) (sym (exec-append xs c s))
     (subst (λ z. Ends m k (behind (exec_all (codes_from xs) s).1 (exec_all (codes_from xs) s).0 (exec c)) z) (sym (meaning-append calls ys st y))
-    (then_ends m n k c st calls (exec_all (codes_from xs) s).0 (exec_all (codes_from xs) s).1 (meaning_of calls (stmts_from ys) y).0 (meaning_of calls (stmts_from ys) y).1 grows does e.flow e.kept e.grown))
+    (ends_then m n k (exec_all (codes_from xs) s).1 (meaning_of calls (stmts_from ys) y).1 (exec_all (codes_from xs) s).0 (meaning_of calls (stmts_from ys) y).0 (exec c) (meaning_of_stmt calls st) grows
+    (λ f. does calls (exec_all (codes_from xs) s).0 (meaning_of calls (stmts_from ys) y).0 f) e.flow e.kept e.grown))

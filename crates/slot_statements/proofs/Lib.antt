@@ -3,6 +3,7 @@ pub mod StoreLemmas
 pub mod StatementLemmas
 pub mod VarLemmas
 pub mod FlowLemmas
+pub mod KnownLemmas
 pub mod CallLemmas
 pub mod ActionLemmas
 pub mod TableLemmas

@@ -1,9 +1,10 @@
--- What callers rest on: code and what it does, that it does what statements, actions and tables mean. To be read in this
--- order.
+-- What callers rest on: code and what it does, that it does what statements, actions and tables mean, which slots variables
+-- and parameters have, and what has code. To be read in this order.
 pub mod Codes
 pub mod Runs
 pub mod Actions
 pub mod Tables
--- What serves the proofs: variables and parameters, which have the next slots.
-pub mod Starts
 pub mod Parameters
+pub mod Known
+-- What serves the proofs.
+pub mod Starts

@@ -1,11 +1,11 @@
--- Parameters of actions, which have the next slots. Read `Starts` before it.
-use Rattle.std.specs.Prelude.{◌≡◌, ℕ, ◌+◌, ◌<◌, List, [], ◌∷◌, ◌++◌, None}
+-- Parameters of actions, which have the next slots. Read `Places` of `slot_terms` before it and `Known` after it.
+use Rattle.std.specs.Prelude.{ℕ, ◌+◌, List, [], ◌∷◌, ◌++◌, None}
 use Rattle.bit_values.specs.Widths.{sound_width}
 use Rattle.p4_tree.specs.Tree.{Expr}
 use Rattle.p4_meaning.specs.Actions.{Param}
 use Rattle.slot_terms.specs.Terms.{Term}
 use Rattle.slot_terms.specs.Typed.{mask_of}
-use Rattle.slot_terms.specs.Places.{Places, Fills, place_at}
+use Rattle.slot_terms.specs.Places.{Places, Fills}
 
 -- a variable has the next slot
 abbrev pub with_row : Places → (name : List ℕ) → (width : ℕ) → Places
@@ -31,16 +31,6 @@ slots_from n (p ∷ ps) = n ∷ slots_from (n + 1) ps
 abbrev pub masked_from : ℕ → List Param → List (ℕ × ℕ)
 masked_from n [] = []
 masked_from n (p ∷ ps) = (n, mask_of (sound_width p.width)) ∷ masked_from (n + 1) ps
-
--- a name has no place yet, and there is a slot for it
-pub record IsFree (m : Places) (x : List ℕ) : Type 0 where
-  pub unknown : place_at m.rows (x ∷ []) ≡ None
-  pub room : m.next < m.size
-
--- the same of the parameters of an action, one behind the other
-abbrev pub AreFree : Places → List Param → Type 0
-AreFree m [] = Unit {0}
-AreFree m (p ∷ ps) = IsFree m p.name × AreFree (with_row m p.name (sound_width p.width)) ps
 
 -- terms give the arguments in the widths of the parameters, one by one
 abbrev pub FillAll : Places → List Param → List Expr → List Term → Type 0

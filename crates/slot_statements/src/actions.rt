@@ -1,12 +1,14 @@
 //! Actions on words, as tables run them.
 
-ghost use Rattle.std.specs.Prelude.{◌≡◌, ◌++◌, ◌∷◌, [], map, IfOk, OnOk};
+ghost use Rattle.std.specs.Prelude.{◌≡◌, ◌++◌, ◌∷◌, [], map, true, false, IfOk, IfErr, OnOk};
 ghost use Rattle.p4_parts.specs.PartsIn.{action_in, param_in};
 ghost use Rattle.slot_terms.specs.Places.{IsLaid, places_of};
+ghost use Rattle.slot_terms.specs.declared.fault.Fault.TheVariants.{Unknown};
 ghost use Rattle.p4_statements.specs.Runs.{flow_of};
 ghost use Rattle.slot_terms.specs.States.{state_of};
 ghost use Rattle.slot_statements.specs.Codes.{ended};
-ghost use Rattle.slot_statements.specs.Parameters.{AreFree, masked_from, with_params};
+ghost use Rattle.slot_statements.specs.Parameters.{masked_from, with_params};
+ghost use Rattle.slot_statements.specs.Known.{are_free, has_action};
 ghost use Rattle.slot_statements.specs.Actions.{action_code_of, bind_words, run_action, DoesAction};
 
 use crate::code::{Code, exec_all, flow_behind};
@@ -28,18 +30,12 @@ pub struct ActionCode {
 fn bind_words(params: &[(u32, u128)], words: &[Bits], s: &mut State)
     ensures { state_of s.new ≡ bind_words params.now words.now (state_of s.old) }
 {
-    match params {
-        [] => {}
-        [p, params @ ..] => match words {
-            [] => {
-                put_number(&mut s.slots, p.0, 0);
-                bind_words(params, words, s);
-            }
-            [w, words @ ..] => {
-                put_number(&mut s.slots, p.0, w.value & p.1);
-                bind_words(params, words, s);
-            }
-        },
+    let mut left = words.iter();
+    for p in params {
+        match left.next() {
+            None => put_number(&mut s.slots, p.0, 0),
+            Some(w) => put_number(&mut s.slots, p.0, w.value & p.1),
+        }
     }
 }
 
@@ -60,7 +56,6 @@ fn push_masked(slots: &mut Vec<(u32, u128)>, slot: u32, mask: u128) -> Result<()
 }
 
 /// The parameters get the next slots, which go behind others with masks of their widths.
-#[cycle(masked)]
 fn masked(
     alloc: Global,
     places: &mut Places,
@@ -68,19 +63,16 @@ fn masked(
     slots: &mut Vec<(u32, u128)>,
 ) -> Result<(), Fault>
     ensures places { OnOk result (places_of places.new ≡ with_params (places_of places.old) (map param_in params.now)) }
-    ensures free { OnOk result (AreFree (places_of places.old) (map param_in params.now)) }
+    ensures free { OnOk result (are_free (places_of places.old) (map param_in params.now) ≡ true) }
     ensures slots { OnOk result (slots.new.items ≡ slots.old.items ++ masked_from (places_of places.old).next (map param_in params.now)) }
+    ensures blames { IfErr result (λ f. f ≡ Unknown → are_free (places_of places.old) (map param_in params.now) ≡ false) }
 {
-    match params {
-        [] => Ok(()),
-        [p, params @ ..] => {
-            let width = sound_width(p.width);
-            let slot = variable_slot(alloc, places, &p.name, width)?;
-            push_masked(slots, slot, mask(width))?;
-            masked(alloc, places, params, slots)?;
-            Ok(())
-        }
+    for p in params {
+        let width = sound_width(p.width);
+        let slot = variable_slot(alloc, places, &p.name, width)?;
+        push_masked(slots, slot, mask(width))?;
     }
+    Ok(())
 }
 
 /// The code of an action on any words, with the places in sight where it runs. `Unknown` where a
@@ -89,7 +81,9 @@ fn masked(
 pub fn action_code(alloc: Global, places: &mut Places, a: &Action) -> Result<ActionCode, Fault>
     requires { IsLaid (places_of places.old) }
     ensures same { OnOk result (places_of places.new ≡ places_of places.old) }
+    ensures known { OnOk result (has_action (places_of places.old) (action_in a.now) ≡ true) }
     ensures acts { IfOk result (λ c. DoesAction (places_of places.old) (action_code_of c) (action_in a.now)) }
+    ensures blames { IfErr result (λ f. f ≡ Unknown → has_action (places_of places.old) (action_in a.now) ≡ false) }
 {
     let count = row_count(places);
     let next = places.next;

@@ -1,13 +1,15 @@
 //! The code of actions on the arguments of a call.
 
-ghost use Rattle.std.specs.Prelude.{◌≡◌, ◌++◌, ◌∷◌, [], length, map, IfOk, OnOk};
+ghost use Rattle.std.specs.Prelude.{◌≡◌, ◌++◌, ◌∷◌, [], length, map, true, false, IfOk, IfErr, OnOk};
 ghost use Rattle.p4_tree.specs.View.{expr_of};
 ghost use Rattle.p4_parts.specs.PartsIn.{action_in, param_in};
 ghost use Rattle.slot_terms.specs.Terms.{term_of};
 ghost use Rattle.slot_terms.specs.Typed.{typed_of};
 ghost use Rattle.slot_terms.specs.Places.{IsLaid, places_of};
+ghost use Rattle.slot_terms.specs.declared.fault.Fault.TheVariants.{Unknown};
 ghost use Rattle.slot_statements.specs.Codes.{act, code_of, codes_of};
-ghost use Rattle.slot_statements.specs.Parameters.{AreFree, FillAll, slots_from, with_params};
+ghost use Rattle.slot_statements.specs.Parameters.{FillAll, slots_from, with_params};
+ghost use Rattle.slot_statements.specs.Known.{are_free, are_known_args, is_known_call};
 ghost use Rattle.slot_statements.specs.Actions.{DoesCall};
 
 use crate::code::Code;
@@ -42,7 +44,9 @@ fn arguments(
     params: &[Taken],
     args: &[Expr],
 ) -> Result<Vec<Term>, Fault>
-    ensures { IfOk result (λ v. FillAll (places_of places.now) (map param_in params.now) (map expr_of args.now) (map term_of v.items)) }
+    ensures known { OnOk result (are_known_args (places_of places.now) (map param_in params.now) (map expr_of args.now) ≡ true) }
+    ensures fill { IfOk result (λ v. FillAll (places_of places.now) (map param_in params.now) (map expr_of args.now) (map term_of v.items)) }
+    ensures blames { IfErr result (λ f. f ≡ Unknown → are_known_args (places_of places.now) (map param_in params.now) (map expr_of args.now) ≡ false) }
 {
     let mut terms = Vec::new(alloc);
     if params.len() != args.len() {
@@ -56,7 +60,6 @@ fn arguments(
 }
 
 /// The parameters get the next slots, which go behind others.
-#[cycle(parameters)]
 fn parameters(
     alloc: Global,
     places: &mut Places,
@@ -64,18 +67,15 @@ fn parameters(
     slots: &mut Vec<u32>,
 ) -> Result<(), Fault>
     ensures places { OnOk result (places_of places.new ≡ with_params (places_of places.old) (map param_in params.now)) }
-    ensures free { OnOk result (AreFree (places_of places.old) (map param_in params.now)) }
+    ensures free { OnOk result (are_free (places_of places.old) (map param_in params.now) ≡ true) }
     ensures slots { OnOk result (slots.new.items ≡ slots.old.items ++ slots_from (places_of places.old).next (map param_in params.now)) }
+    ensures blames { IfErr result (λ f. f ≡ Unknown → are_free (places_of places.old) (map param_in params.now) ≡ false) }
 {
-    match params {
-        [] => Ok(()),
-        [p, params @ ..] => {
-            let slot = variable_slot(alloc, places, &p.name, sound_width(p.width))?;
-            push_slot(slots, slot)?;
-            parameters(alloc, places, params, slots)?;
-            Ok(())
-        }
+    for p in params {
+        let slot = variable_slot(alloc, places, &p.name, sound_width(p.width))?;
+        push_slot(slots, slot)?;
     }
+    Ok(())
 }
 
 /// The call of an action, of its parts.
@@ -96,7 +96,9 @@ pub fn call_code(
 ) -> Result<Code, Fault>
     requires { IsLaid (places_of places.old) }
     ensures same { OnOk result (places_of places.new ≡ places_of places.old) }
+    ensures known { OnOk result (is_known_call (places_of places.old) (action_in a.now) (map expr_of args.now) ≡ true) }
     ensures acts { IfOk result (λ c. DoesCall (places_of places.old) (code_of c) (action_in a.now) (map expr_of args.now)) }
+    ensures blames { IfErr result (λ f. f ≡ Unknown → is_known_call (places_of places.old) (action_in a.now) (map expr_of args.now) ≡ false) }
 {
     let count = row_count(places);
     let next = places.next;

@@ -50,16 +50,9 @@ pub(crate) fn flow_behind(flow: Flow) -> Flow
 fn bind(slots: &[u32], args: &[Term], s: &mut State)
     ensures { state_of s.new ≡ bind slots.now (map term_of args.now) (state_of s.old) }
 {
-    match slots {
-        [] => {}
-        [slot, slots @ ..] => match args {
-            [] => {}
-            [t, args @ ..] => {
-                let number = eval(t, &s.slots, &s.valid);
-                put_number(&mut s.slots, *slot, number);
-                bind(slots, args, s);
-            }
-        },
+    for (slot, t) in slots.iter().zip(args) {
+        let number = eval(t, &s.slots, &s.valid);
+        put_number(&mut s.slots, *slot, number);
     }
 }
 

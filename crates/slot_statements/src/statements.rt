@@ -1,6 +1,6 @@
 //! The code of statements.
 
-ghost use Rattle.std.specs.Prelude.{◌≡◌, ◌++◌, ◌∷◌, [], length, map, take, IfOk, OnOk, Some, None};
+ghost use Rattle.std.specs.Prelude.{◌≡◌, ◌++◌, ◌∷◌, [], length, map, take, true, false, not, is_none, is_some, IfOk, IfErr, OnOk, Some, None};
 ghost use Rattle.std.specs.Option.{option_map};
 ghost use Rattle.bit_values.specs.Widths.{sound_width};
 ghost use Rattle.p4_meaning.specs.Value.{width_of};
@@ -9,9 +9,11 @@ ghost use Rattle.p4_tree.specs.Tree.{assign, block, var};
 ghost use Rattle.p4_meaning.specs.Statements.{application};
 ghost use Rattle.slot_terms.specs.Places.{IsLaid, places_of};
 ghost use Rattle.slot_terms.specs.Typed.{typed_of};
+ghost use Rattle.slot_terms.specs.declared.fault.Fault.TheVariants.{Unknown};
 ghost use Rattle.slot_statements.specs.Codes.{code_of, codes_of, skip, set, branch, group};
 ghost use Rattle.slot_statements.specs.Runs.{Does, DoAll, DoesElse, Grows};
 ghost use Rattle.slot_statements.specs.Starts.{Starts, IsNew};
+ghost use Rattle.slot_statements.specs.Known.{is_free, is_full, is_known_start, is_known_target, has_else, places_behind, places_behind_all};
 
 use crate::code::Code;
 use bit_values::sound_width;
@@ -22,9 +24,10 @@ use p4_values::{path_of_one, width_of};
 use slot_terms::{Fault, Places, Typed, add_place, constant, place_at, term_in_place, typed_term};
 use std::alloc::{AllocError, Global};
 
-/// Whether a test applies no table; else it is `Unknown`.
+/// A test that applies no table; one that does is `Unknown`.
 fn plain_test(e: &Expr) -> Result<(), Fault>
-    ensures { OnOk result (application (expr_of e.now) ≡ None) }
+    ensures plain { OnOk result (application (expr_of e.now) ≡ None) }
+    ensures blames { IfErr result (λ f. f ≡ Unknown → is_none (application (expr_of e.now)) ≡ false) }
 {
     match e {
         Expr::Applied(_, _, _) => Err(Fault::Unknown),
@@ -46,7 +49,9 @@ fn set_code(slot: u32, header: Option<u32>, t: Typed) -> Code
 /// The code of an assignment. To what no statement may write it does nothing.
 fn assign_code(alloc: Global, places: &Places, path: &[Name], e: &Expr) -> Result<Code, Fault>
     requires { IsLaid (places_of places.now) }
-    ensures { IfOk result (λ c. Does (places_of places.now) (places_of places.now) (code_of c) (assign 0 path.now (expr_of e.now))) }
+    ensures known { OnOk result (is_known_target (places_of places.now) path.now (expr_of e.now) ≡ true) }
+    ensures does { IfOk result (λ c. Does (places_of places.now) (places_of places.now) (code_of c) (assign 0 path.now (expr_of e.now))) }
+    ensures blames { IfErr result (λ f. f ≡ Unknown → is_known_target (places_of places.now) path.now (expr_of e.now) ≡ false) }
 {
     if is_assignable(path) {
         match place_at(&places.rows, path) {
@@ -69,7 +74,9 @@ fn start_term(
     start: &Option<Expr>,
 ) -> Result<Typed, Fault>
     ensures width { IfOk result (λ t. (typed_of t).width ≡ sound_width (width_of ty.now)) }
+    ensures known { OnOk result (is_known_start (places_of places.now) (option_map expr_of start.now) ≡ true) }
     ensures starts { IfOk result (λ t. Starts (places_of places.now) ty.now (option_map expr_of start.now) (typed_of t)) }
+    ensures blames { IfErr result (λ f. f ≡ Unknown → is_known_start (places_of places.now) (option_map expr_of start.now) ≡ false) }
 {
     match start {
         None => Ok(constant(sound_width(width_of(ty)), 0)),
@@ -84,7 +91,9 @@ pub(crate) fn variable_slot(
     name: &Name,
     width: u8,
 ) -> Result<u32, Fault>
-    ensures { IfOk result (λ slot. IsNew (places_of places.old) (places_of places.new) name.now width slot) }
+    ensures new { IfOk result (λ slot. IsNew (places_of places.old) (places_of places.new) name.now width slot) }
+    ensures free { OnOk result (is_free (places_of places.old) name.now ≡ true) }
+    ensures full { IfErr result (λ f. f ≡ Unknown → is_full (places_of places.old) name.now ≡ true) }
 {
     let path = path_of_one(alloc, name)?;
     let slot = add_place(places, path, width, None)?;
@@ -102,7 +111,9 @@ fn variable_code(
     requires { IsLaid (places_of places.old) }
     ensures laid { OnOk result (IsLaid (places_of places.new)) }
     ensures grows { OnOk result (Grows (places_of places.old) (places_of places.new)) }
+    ensures known { OnOk result (places_behind (var 0 ty.now name.now (option_map expr_of start.now)) (places_of places.old) ≡ Some (places_of places.new)) }
     ensures does { IfOk result (λ c. Does (places_of places.old) (places_of places.new) (code_of c) (var 0 ty.now name.now (option_map expr_of start.now))) }
+    ensures blames { IfErr result (λ f. f ≡ Unknown → places_behind (var 0 ty.now name.now (option_map expr_of start.now)) (places_of places.old) ≡ None) }
 {
     let t = start_term(alloc, places, ty, start)?;
     let slot = variable_slot(alloc, places, name, sound_width(width_of(ty)))?;
@@ -156,7 +167,9 @@ pub fn stmt_code(alloc: Global, places: &mut Places, s: &Stmt) -> Result<Code, F
     requires { IsLaid (places_of places.old) }
     ensures laid { OnOk result (IsLaid (places_of places.new)) }
     ensures grows { OnOk result (Grows (places_of places.old) (places_of places.new)) }
+    ensures known { OnOk result (places_behind (stmt_of s.now) (places_of places.old) ≡ Some (places_of places.new)) }
     ensures does { IfOk result (λ c. Does (places_of places.old) (places_of places.new) (code_of c) (stmt_of s.now)) }
+    ensures blames { IfErr result (λ f. f ≡ Unknown → places_behind (stmt_of s.now) (places_of places.old) ≡ None) }
 {
     match s {
         Stmt::Nothing(_) => Ok(Code::Skip),
@@ -190,7 +203,9 @@ pub fn stmt_code(alloc: Global, places: &mut Places, s: &Stmt) -> Result<Code, F
 fn in_branch(alloc: Global, places: &mut Places, s: &Stmt) -> Result<Code, Fault>
     requires { IsLaid (places_of places.old) }
     ensures same { OnOk result (places_of places.new ≡ places_of places.old) }
+    ensures known { OnOk result (is_some (places_behind (stmt_of s.now) (places_of places.old)) ≡ true) }
     ensures does { IfOk result (λ c. Does (places_of places.old) (places_of places.old) (code_of c) (stmt_of s.now)) }
+    ensures blames { IfErr result (λ f. f ≡ Unknown → is_some (places_behind (stmt_of s.now) (places_of places.old)) ≡ false) }
 {
     let count = row_count(places);
     let next = places.next;
@@ -204,7 +219,9 @@ fn in_branch(alloc: Global, places: &mut Places, s: &Stmt) -> Result<Code, Fault
 fn in_else(alloc: Global, places: &mut Places, other: &Option<Box<Stmt>>) -> Result<Code, Fault>
     requires { IsLaid (places_of places.old) }
     ensures same { OnOk result (places_of places.new ≡ places_of places.old) }
+    ensures known { OnOk result (has_else (else_of other.now) (places_of places.old) ≡ true) }
     ensures does { IfOk result (λ c. DoesElse (places_of places.old) (code_of c) (else_of other.now)) }
+    ensures blames { IfErr result (λ f. f ≡ Unknown → has_else (else_of other.now) (places_of places.old) ≡ false) }
 {
     match other {
         None => Ok(Code::Skip),
@@ -220,7 +237,9 @@ fn in_else(alloc: Global, places: &mut Places, other: &Option<Box<Stmt>>) -> Res
 fn in_block(alloc: Global, places: &mut Places, body: &[Stmt]) -> Result<Code, Fault>
     requires { IsLaid (places_of places.old) }
     ensures same { OnOk result (places_of places.new ≡ places_of places.old) }
+    ensures known { OnOk result (is_some (places_behind_all (stmts_of body.now) (places_of places.old)) ≡ true) }
     ensures does { IfOk result (λ c. Does (places_of places.old) (places_of places.old) (code_of c) (block 0 (stmts_of body.now))) }
+    ensures blames { IfErr result (λ f. f ≡ Unknown → is_some (places_behind_all (stmts_of body.now) (places_of places.old)) ≡ false) }
 {
     let count = row_count(places);
     let next = places.next;
@@ -236,7 +255,9 @@ pub fn stmts_code(alloc: Global, places: &mut Places, list: &[Stmt]) -> Result<V
     requires { IsLaid (places_of places.old) }
     ensures laid { OnOk result (IsLaid (places_of places.new)) }
     ensures grows { OnOk result (Grows (places_of places.old) (places_of places.new)) }
+    ensures known { OnOk result (places_behind_all (stmts_of list.now) (places_of places.old) ≡ Some (places_of places.new)) }
     ensures do_all { IfOk result (λ v. DoAll (places_of places.old) (places_of places.new) (codes_of v.items) (stmts_of list.now)) }
+    ensures blames { IfErr result (λ f. f ≡ Unknown → places_behind_all (stmts_of list.now) (places_of places.old) ≡ None) }
 {
     let mut codes = Vec::new(alloc);
     for s in list {

@@ -1,16 +1,18 @@
 //! The application of a table over slots.
 
-ghost use Rattle.std.specs.Prelude.{◌≡◌, ℕ, List, ◌++◌, ◌∷◌, [], length, map, IfOk, OnOk};
+ghost use Rattle.std.specs.Prelude.{◌≡◌, ℕ, List, ◌++◌, ◌∷◌, [], length, map, true, false, IfOk, IfErr, OnOk};
 ghost use Rattle.std.specs.Option.{option_map};
 ghost use Rattle.bit_values.specs.Bits.{Word};
 ghost use Rattle.p4_parts.specs.PartsIn.{key_in};
 ghost use Rattle.p4_resolved.specs.Lent.{lent};
 ghost use Rattle.slot_terms.specs.Typed.{typed_of};
 ghost use Rattle.slot_terms.specs.Places.{places_of};
+ghost use Rattle.slot_terms.specs.declared.fault.Fault.TheVariants.{Unknown};
 ghost use Rattle.p4_statements.specs.Runs.{flow_of};
 ghost use Rattle.slot_terms.specs.States.{state_of};
 ghost use Rattle.slot_statements.specs.Codes.{ended};
 ghost use Rattle.slot_statements.specs.Actions.{action_code_of};
+ghost use Rattle.slot_statements.specs.Known.{are_known_keys};
 ghost use Rattle.slot_statements.specs.Tables.{NumberedOutcome, numbered_of, MeanKeys, key_word, run_if, applied, tested_of};
 
 use crate::actions::{ActionCode, run_action};
@@ -47,9 +49,11 @@ fn push_key(keys: &mut Vec<Typed>, t: Typed) -> Result<(), AllocError>
     Ok(())
 }
 
-/// The terms of a table's keys. `Unknown` where a path has no place.
+/// The terms of a table's keys. `Unknown` comes only where a path has no place.
 pub fn key_terms(alloc: Global, places: &Places, keys: &[Key]) -> Result<Vec<Typed>, Fault>
-    ensures { IfOk result (λ v. MeanKeys (places_of places.now) (map key_in keys.now) (map typed_of v.items)) }
+    ensures known { OnOk result (are_known_keys (places_of places.now) (map key_in keys.now) ≡ true) }
+    ensures mean { IfOk result (λ v. MeanKeys (places_of places.now) (map key_in keys.now) (map typed_of v.items)) }
+    ensures blames { IfErr result (λ f. f ≡ Unknown → are_known_keys (places_of places.now) (map key_in keys.now) ≡ false) }
 {
     let mut all = Vec::new(alloc);
     for k in keys {

@@ -32,5 +32,5 @@ returns-clause-acts c =
     (subst (λ is. DoesCall (places_of c.args.places.now) (act is (map term_of c.in_ok-terms.terms.items) (codes_of c.in_ok-body.body.items)) (action_in c.args.a.now) (map expr_of c.args.args.now)) (sym slots)
     (call_does (places_of c.args.places.now) (places_of c.stmts_code.new.places) (action_in c.args.a.now) (map expr_of c.args.args.now) (map term_of c.in_ok-terms.terms.items) (codes_of c.in_ok-body.body.items) c.requires
     (rw c.deref-2.ensures.value at c.in_ok-parameters.ensures.free)
-    (rw c.deref.ensures.value at c.in_ok-terms.ensures)
+    (rw c.deref.ensures.value at c.in_ok-terms.ensures.fill)
     (subst (λ m. DoAll m (places_of c.stmts_code.new.places) (codes_of c.in_ok-body.body.items) (stmts_of c.args.a.now.body.items)) places (rw c.deref-3.ensures.value at c.in_ok-body.ensures.do_all))))

@@ -6,6 +6,8 @@ use Rattle.slot_terms.specs.Places.{places_of}
 use Rattle.slot_statements.specs.Codes.{branch, code_of, codes_from, codes_of}
 use Rattle.slot_statements.specs.Runs.{Does, DoesElse, DoAll}
 use Rattle.slot_statements.proofs.FlowLemmas.{block_does, branch_does, else_does, choice_does, grows_twice, all_more}
+use Rattle.slot_statements.specs.Known.{places_behind_all}
+use Rattle.slot_statements.proofs.KnownLemmas.{known_more}
 use Rattle.slot_statements.proofs.TreeLemmas.{stmt_of-Block, stmt_of-Var, stmt_of-Assign, stmt_of-If, one_more, all_of}
 use Rattle.slot_statements.proofs.statements.+statements.Goals as goal
 
@@ -23,7 +25,7 @@ stmt_code-returns-in_ok-c-in-Var-clause-does t c =
 pub stmt_code-returns-in_ok-c-in-Assign-clause-does : goal.stmt_code-returns-in_ok-c-in-Assign-clause-does
 stmt_code-returns-in_ok-c-in-Assign-clause-does t c =
     subst (λ x. Does (places_of c.args.places.now) (places_of c.args.places.now) (code_of c.in_ok-c-in-Assign.c) x) (sym (ap stmt_of c.in-Assign.is ∙ stmt_of-Assign c.in-Assign.field-0 c.in-Assign.path c.in-Assign.e))
-    (rw c.deref-in-Assign.ensures.value at c.in_ok-c-in-Assign.ensures)
+    (rw c.deref-in-Assign.ensures.value at c.in_ok-c-in-Assign.ensures.does)
 
 pub stmt_code-returns-in_ok-branch_code-in-If-clause-does : goal.stmt_code-returns-in_ok-branch_code-in-If-clause-does
 stmt_code-returns-in_ok-branch_code-in-If-clause-does t c =
@@ -31,7 +33,7 @@ stmt_code-returns-in_ok-branch_code-in-If-clause-does t c =
     (subst (λ k. Does (places_of c.args.places.now) (places_of c.args.places.now) k (stmt_of c.args.s.now)) (sym c.in_ok-branch_code-in-If.ensures)
     (subst (λ x. Does (places_of c.args.places.now) (places_of c.args.places.now) (branch (typed_of c.in_ok-t-in-If.t).term (code_of c.in_ok-a-in-If.a) (code_of c.in_ok-b-in-If.b)) x) (sym (ap stmt_of c.in-If.is ∙ stmt_of-If c.in-If.field-0 c.in-If.e c.in-If.a c.in-If.b))
     (choice_does (places_of c.args.places.now) c.in-If.field-0 (expr_of c.in-If.e) (typed_of c.in_ok-t-in-If.t) (code_of c.in_ok-a-in-If.a) (code_of c.in_ok-b-in-If.b) (stmt_of c.in-If.a.value) (else_of c.in-If.b)
-    c.in_ok-plain_test-in-If.ensures c.in_ok-t-in-If.ensures.means (rw c.deref-in-If.ensures at c.in_ok-a-in-If.ensures.does)
+    c.in_ok-plain_test-in-If.ensures.plain c.in_ok-t-in-If.ensures.means (rw c.deref-in-If.ensures at c.in_ok-a-in-If.ensures.does)
     (subst (λ m. DoesElse m (code_of c.in_ok-b-in-If.b) (else_of c.in-If.b)) c.in_ok-a-in-If.ensures.same c.in_ok-b-in-If.ensures.does))))
 
 pub in_block-returns-clause-does : goal.in_block-returns-clause-does
@@ -51,6 +53,7 @@ pub stmts_code-loop-s-preserved : goal.stmts_code-loop-s-preserved
 stmts_code-loop-s-preserved t c = record {
   laid = c.in_ok-c.ensures.laid;
   grows = grows_twice (places_of c.args.places.now) (places_of c.loop-s.places) (places_of c.stmt_code.new.places) c.loop-s.invariant.grows c.in_ok-c.ensures.grows;
+  known = known_more (places_of c.loop-s.places) (places_of c.stmt_code.new.places) (places_behind_all (stmts_of c.args.list.now) (places_of c.args.places.now)) c.args.list.now c.loop-s.s-index c.s-item.result c.loop-s-test.true c.s-item.is c.in_ok-c.ensures.known c.loop-s.invariant.known;
   do_all =
       subst (λ k. DoAll (places_of c.args.places.now) (places_of c.stmt_code.new.places) (codes_from k) (stmts_of (take (c.loop-s.s-index + 1) c.args.list.now))) (sym c.in_ok-push_code.ensures)
       (subst (λ x. DoAll (places_of c.args.places.now) (places_of c.stmt_code.new.places) (codes_from (map code_of c.loop-s.codes.items ++ code_of c.in_ok-c.c ∷ [])) (stmts_from x)) (sym (one_more stmt_of c.args.list.now c.loop-s.s-index c.s-item.result c.loop-s-test.true c.s-item.is))
