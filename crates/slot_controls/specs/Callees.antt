@@ -1,0 +1,79 @@
+-- What the calls of a control stand for: the actions and tables of its program, and its headers. Read `Steps` before it,
+-- and `Tables` of the trees' meaning; `StepRuns` after it.
+use Rattle.std.specs.Prelude.{◌≡◌, ◌≢◌, ◌⊎◌, ℕ, suc, ◌≤◌, List, [], ◌∷◌, length, Some, None, if◌then◌else◌, slice_get}
+use Rattle.bit_values.specs.Bits.{Word}
+use Rattle.lex_text.specs.Names.{same_text, parent}
+use Rattle.p4_meaning.specs.Parsing.{Header}
+use Rattle.p4_meaning.specs.Statements.{Calls}
+use Rattle.p4_meaning.specs.Actions.{Action}
+use Rattle.p4_meaning.specs.Tables.{Table, Tables, table_named, calls_in}
+use Rattle.p4_statements.specs.Outcomes.{Outcome, outcome_in}
+use Rattle.slot_terms.specs.Places.{Place, Places, place_at, header_number, IsLaid}
+use Rattle.slot_statements.specs.Runs.{Grows}
+use Rattle.slot_statements.specs.Actions.{ActionCode, DoesAction}
+use Rattle.slot_statements.specs.Tables.{NumberedOutcome}
+use Rattle.slot_packets.specs.Headers.{IsHeaderAt}
+use Rattle.slot_controls.specs.Steps.{HeaderSlots}
+
+-- the actions and tables of a program, the slots of its headers by their numbers, and how many places are in sight where
+-- its actions were compiled
+pub record Callees : Type 0 where
+  pub actions : List Action
+  pub tables : List Table
+  pub headers : List HeaderSlots
+  pub rows : ℕ
+
+-- what calls do, where tables hold this
+abbrev pub calls_of : Callees → Tables → Calls
+calls_of k held = calls_in k.actions k.tables held
+
+-- how many tables stand before the first of a name
+abbrev pub table_number : List Table → List ℕ → ℕ
+table_number [] x = 0
+table_number (t ∷ ts) x = if same_text t.name x then 0 else suc (table_number ts x)
+
+-- ---- what runs fits them
+
+-- an outcome by the numbers of actions is an outcome of the trees' meaning
+pub record IsChoice (actions : List Action) (p : NumberedOutcome) (o : Outcome) : Type 0 where
+  pub action : slice_get actions p.action ≡ o.action
+  pub args : p.args ≡ o.args
+  pub hit : p.hit ≡ o.hit
+
+-- codes do what actions do, one by one
+abbrev pub DoActions : Places → List ActionCode → List Action → Type 0
+DoActions m [] [] = Unit {0}
+DoActions m [] (a ∷ as') = ⊥
+DoActions m (c ∷ cs) [] = ⊥
+DoActions m (c ∷ cs) (a ∷ as') = DoesAction m c a × DoActions m cs as'
+
+-- the header of a number and a path has its fields in these slots
+pub record IsLaidOut (m : Places) (n : ℕ) (p : List (List ℕ)) (h : HeaderSlots) : Type 0 where
+  pub header : Header
+  pub path : header.path ≡ p
+  pub named : header.path ≢ []
+  pub count : h.count ≡ length header.fields
+  pub fields : IsHeaderAt m n header h.first
+
+-- where places `base` are in sight, which are as many as the callees say: the codes of actions do what actions do, choices by
+-- the numbers of tables are the outcomes where tables hold this, and headers are laid out
+pub record Fits (base : Places) (k : Callees) (held : Tables) (chosen : ℕ → List Word → NumberedOutcome) (acts : List ActionCode) : Type 0 where
+  pub laid : IsLaid base
+  pub rows : length base.rows ≡ k.rows
+  pub actions : DoActions base acts k.actions
+  pub choices : (x : List ℕ) (t : Table) (ws : List Word) → table_named k.tables x ≡ Some t → IsChoice k.actions (chosen (table_number k.tables x) ws) (outcome_in k.actions (Some t) (held x) ws)
+  pub headers : (p : List (List ℕ)) (n : ℕ) (h : HeaderSlots) → header_number base.headers p ≡ Some n → slice_get k.headers n ≡ Some h → IsLaidOut base n p h
+
+-- ---- variables in sight
+
+-- a variable has one name, and its slot is none of those before
+pub record IsVariable (base : Places) (p : List (List ℕ)) (r : Place) : Type 0 where
+  pub header : r.header ≡ None
+  pub behind : base.next ≤ r.slot
+  pub path : parent p ≡ []
+
+-- behind places stand variables alone
+pub record AddsVariables (base m : Places) : Type 0 where
+  pub grows : Grows base m
+  pub next : base.next ≤ m.next
+  pub variables : (p : List (List ℕ)) (r : Place) → place_at m.rows p ≡ Some r → (place_at base.rows p ≡ Some r) ⊎ IsVariable base p r

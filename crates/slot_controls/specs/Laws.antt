@@ -1,0 +1,71 @@
+-- That each step does what a statement means, by what its parts do. Read `StepRuns` before it.
+use Rattle.std.specs.Prelude.{◌≡◌, ℕ, List, [], ◌∷◌, ◌++◌, Bool, Some, None, if◌then◌else◌, slice_get}
+use Rattle.p4_tree.specs.Tree.{Expr, Stmt, Stmts, MaybeStmt, block, choice, stmts_from}
+use Rattle.p4_meaning.specs.Standard.{egress_spec}
+use Rattle.p4_meaning.specs.Statements as meaning
+use Rattle.p4_meaning.specs.Statements.{application}
+use Rattle.p4_meaning.specs.Actions.{Action, action_named}
+use Rattle.slot_terms.specs.Terms.{constant}
+use Rattle.slot_terms.specs.Typed.{Typed}
+use Rattle.slot_terms.specs.Places.{Place, Places, IsLaid, Means, place_at, header_number}
+use Rattle.slot_statements.specs.Codes.{Code, skip, set}
+use Rattle.slot_statements.specs.Runs as code_runs
+use Rattle.slot_statements.specs.Runs.{Grows}
+use Rattle.slot_statements.specs.Actions.{DoesCall}
+use Rattle.slot_statements.specs.Known.{places_behind}
+use Rattle.slot_controls.specs.Steps.{Application, HeaderSlots, Test, by_term, by_table, Step, Steps, plain, group, branch, applies, makes, steps_from}
+use Rattle.slot_controls.specs.Callees.{Callees}
+use Rattle.slot_controls.specs.StepRuns.{DoesStep, DoesStepElse, DoesTested, DoesTest, DoesAct, DoAllSteps, Applies, Widens}
+
+-- code does as a step what it does
+abbrev pub CodeDoes : Type 0
+CodeDoes = (k : Callees) (m n : Places) (c : Code) (st : Stmt) → code_runs.Does m n c st → DoesStep k m n (plain c) st
+
+-- an action's call does what the action of its name does; that of none does nothing
+abbrev pub CallsDo : Type 0
+CallsDo =
+    (k : Callees) (m : Places) (x : List ℕ) (es : List Expr)
+    → ((a : Action) (c : Code) → action_named k.actions x ≡ Some a → DoesCall m c a es → DoesAct k m (plain c) (meaning.runs x es)) × (action_named k.actions x ≡ None → DoesAct k m (plain skip) (meaning.runs x es))
+
+-- the application of a table does what that of its name does; that of none does nothing
+abbrev pub ApplicationsDo : Type 0
+ApplicationsDo =
+    (k : Callees) (m : Places) (x : List ℕ) → ((a : Application) → Applies k m x (Some a) → DoesAct k m (applies a) (meaning.applies x)) × (Applies k m x None → DoesAct k m (plain skip) (meaning.applies x))
+
+-- setValid and setInvalid of a header that has a number and slots
+abbrev pub ValidityDoes : Type 0
+ValidityDoes =
+    (k : Callees) (m : Places) (p : List (List ℕ)) (n : ℕ) (h : HeaderSlots) (b : Bool) → IsLaid m → header_number m.headers p ≡ Some n → slice_get k.headers n ≡ Some h → DoesAct k m (makes n h b) (meaning.makes p b)
+
+-- mark_to_drop, where the port has a place of 9 bits
+abbrev pub DropsDo : Type 0
+DropsDo = (k : Callees) (m : Places) (r : Place) → IsLaid m → place_at m.rows egress_spec ≡ Some r → r.width ≡ 9 → DoesAct k m (plain (set r.slot r.header (constant 511))) meaning.drops
+
+-- a test of a term
+abbrev pub TermsTest : Type 0
+TermsTest = (k : Callees) (m : Places) (e : Expr) (t : Typed) → application e ≡ None → Means m e 1 t → DoesTest k m (by_term t.term) e
+
+-- a test of whether a table hits or misses; the application of none is a miss
+abbrev pub TablesTest : Type 0
+TablesTest =
+    (k : Callees) (m : Places) (x : List ℕ) (asked : Bool) (e : Expr)
+    → ((a : Application) → Applies k m x (Some a) → DoesTested k m (by_table a asked) (Some (x, asked)) e) × (Applies k m x None → DoesTested k m (by_term (constant (if asked then 0 else 1))) (Some (x, asked)) e)
+
+-- an `if`
+abbrev pub BranchesDo : Type 0
+BranchesDo =
+    (k : Callees) (m : Places) (at : ℕ) (t : Test) (e : Expr) (a b : Step) (st : Stmt) (other : MaybeStmt) → DoesTest k m t e → DoesStep k m m a st → DoesStepElse k m b other → DoesStep k m m (branch t a b) (choice at e st other)
+
+-- a block, behind which its variables are no more in sight
+abbrev pub BlocksDo : Type 0
+BlocksDo = (k : Callees) (m n : Places) (at : ℕ) (cs : Steps) (ss : Stmts) → DoAllSteps k m n cs ss → DoesStep k m m (group cs) (block at ss)
+
+-- a statement more
+abbrev pub ListsDo : Type 0
+ListsDo =
+    (k : Callees) (m n q : Places) (xs : List Step) (ys : List Stmt) (c : Step) (st : Stmt) → Grows m n → Widens m n → DoAllSteps k m n (steps_from xs) (stmts_from ys) → DoesStep k n q c st
+    → DoAllSteps k m q (steps_from (xs ++ c ∷ [])) (stmts_from (ys ++ st ∷ []))
+
+-- what has code declares variables alone
+abbrev pub CodeWidens : Type 0
+CodeWidens = (st : Stmt) (m n : Places) → places_behind st m ≡ Some n → Widens m n

@@ -1,0 +1,6 @@
+-- What callers rest on: what a control runs over slots, what its calls stand for, and that it does what its statements
+-- mean. To be read in this order.
+pub mod Steps
+pub mod Callees
+pub mod StepRuns
+pub mod Laws

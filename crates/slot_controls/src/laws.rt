@@ -1,0 +1,58 @@
+//! That steps do what statements mean. Each law is the contract of a function that does nothing.
+
+ghost use Rattle.slot_controls.specs.Laws.{ApplicationsDo, BlocksDo, BranchesDo, CallsDo, CodeDoes, CodeWidens, DropsDo, ListsDo, TablesTest, TermsTest, ValidityDoes};
+
+/// Code does as a step what it does.
+pub fn code_does()
+    ensures { CodeDoes }
+{}
+
+/// An action's call does what the action of its name does.
+pub fn calls_do()
+    ensures { CallsDo }
+{}
+
+/// The application of a table does what that of its name does.
+pub fn applications_do()
+    ensures { ApplicationsDo }
+{}
+
+/// setValid and setInvalid do what they mean.
+pub fn validity_does()
+    ensures { ValidityDoes }
+{}
+
+/// mark_to_drop does what it means.
+pub fn drops_do()
+    ensures { DropsDo }
+{}
+
+/// A term tests what its expression tests.
+pub fn terms_test()
+    ensures { TermsTest }
+{}
+
+/// An application tests what that of its name tests.
+pub fn tables_test()
+    ensures { TablesTest }
+{}
+
+/// An `if` does what it means, where its test and its branches do.
+pub fn branches_do()
+    ensures { BranchesDo }
+{}
+
+/// A block does what it means, where its statements do.
+pub fn blocks_do()
+    ensures { BlocksDo }
+{}
+
+/// Statements do what they mean, where those before and the last one do.
+pub fn lists_do()
+    ensures { ListsDo }
+{}
+
+/// Behind a statement that has code stand variables more, and nothing else.
+pub fn code_widens()
+    ensures { CodeWidens }
+{}

@@ -1,0 +1,64 @@
+//! How many keys the applications in steps have at the most.
+
+ghost use Rattle.std.specs.Prelude.{◌≡◌, ℕ, ◌≤◌, length};
+ghost use Rattle.slot_controls.specs.Steps.{application_of, step_of, steps_of, test_of, HasFewKeys, HaveFewKeys, TestHasFewKeys};
+
+use crate::step::{Application, Step, Test};
+
+/// The greater of two numbers.
+fn greater(a: usize, b: usize) -> usize
+    ensures left { a ≤ result }
+    ensures right { b ≤ result }
+    ensures least { (n : ℕ) → a ≤ n → b ≤ n → result ≤ n }
+{
+    if a < b { b } else { a }
+}
+
+/// How many keys an application has.
+fn key_count(a: &Application) -> usize
+    ensures { result ≡ length (application_of a.now).keys }
+{
+    a.keys.len()
+}
+
+/// How many keys the application in a test has.
+fn test_keys(t: &Test) -> usize
+    ensures enough { TestHasFewKeys result (test_of t.now) }
+    ensures least { (n : ℕ) → TestHasFewKeys n (test_of t.now) → result ≤ n }
+{
+    match t {
+        Test::Holds(_) => 0,
+        Test::Applied(a, _) => key_count(a),
+    }
+}
+
+/// The most keys that an application in a step has.
+#[cycle(keys)]
+fn step_keys(step: &Step) -> usize
+    ensures enough { HasFewKeys result (step_of step.now) }
+    ensures least { (n : ℕ) → HasFewKeys n (step_of step.now) → result ≤ n }
+{
+    match step {
+        Step::Plain(_) => 0,
+        Step::Group(list) => most_keys(list),
+        Step::If(t, a, b) => {
+            let branches = greater(step_keys(a), step_keys(b));
+            greater(test_keys(t), branches)
+        }
+        Step::Apply(x) => key_count(x),
+        Step::Make(_, _, _) => 0,
+    }
+}
+
+/// The most keys that an application in some steps has: so much room `run_steps` needs in its buffer.
+#[cycle(keys)]
+pub fn most_keys(list: &[Step]) -> usize
+    ensures enough { HaveFewKeys result (steps_of list.now) }
+    ensures least { (n : ℕ) → HaveFewKeys n (steps_of list.now) → result ≤ n }
+{
+    let mut most = 0;
+    for step in list {
+        most = greater(most, step_keys(step));
+    }
+    most
+}

@@ -1,0 +1,151 @@
+//! Steps, and what they do.
+
+ghost use Rattle.std.specs.Prelude.{◌≡◌, ◌≤◌, length, map};
+ghost use Rattle.p4_statements.specs.Runs.{flow_of};
+ghost use Rattle.slot_terms.specs.States.{state_of};
+ghost use Rattle.slot_statements.specs.Codes.{ended};
+ghost use Rattle.slot_statements.specs.Actions.{action_code_of};
+ghost use Rattle.slot_statements.specs.Tables.{tested_of};
+ghost use Rattle.slot_controls.specs.Steps.{application_of, apply, is_asked, run, run_all, step_of, steps_of, test_of, tested, HasFewKeys, HaveFewKeys, TestHasFewKeys};
+
+use crate::headers::HeaderSlots;
+use bit_values::Bits;
+use slot_packets::set_validity;
+use slot_statements::{ActionCode, Code, Flow, NumberedTables, apply_table, exec};
+use slot_terms::{State, Term, Typed, eval};
+
+/// The application of a table: its number, and the terms of its keys.
+#[derive(Drop)]
+pub struct Application {
+    pub table: u32,
+    pub keys: Vec<Typed>,
+}
+
+/// What an `if` tests.
+#[derive(Drop)]
+pub enum Test {
+    /// Whether a term is 1.
+    Holds(Term),
+    /// Whether the application of a table hits, or whether it misses.
+    Applied(Application, bool),
+}
+
+/// A step of a control.
+#[derive(Drop)]
+pub enum Step {
+    /// Code, in which no table is applied and no header made valid or invalid.
+    Plain(Code),
+    /// One after the other.
+    Group(Vec<Step>),
+    If(Test, Box<Step>, Box<Step>),
+    /// The application of a table.
+    Apply(Application),
+    /// The header of a number is made valid, or invalid.
+    Make(u32, HeaderSlots, bool),
+}
+
+/// Whether an application goes as it is asked for.
+fn is_asked(asked: bool, hit: bool) -> bool
+    ensures { result ≡ is_asked asked hit }
+{
+    if asked { hit } else { !hit }
+}
+
+/// Applies a table, and says how that ends and whether it was a hit. The buffer has room for its keys.
+fn apply<T: NumberedTables>(
+    tables: &T,
+    actions: &[ActionCode],
+    a: &Application,
+    buffer: &mut [Bits],
+    s: &mut State,
+) -> (Flow, bool)
+    requires { length (application_of a.now).keys ≤ length buffer.old }
+    ensures { tested_of (state_of s.new) (flow_of result.0) result.1
+        ≡ apply (T.chosen tables.now) (map action_code_of actions.now) (application_of a.now) (state_of s.old) }
+{
+    let count = a.keys.len();
+    apply_table(tables, a.table, &a.keys, actions, &mut buffer[..count], s)
+}
+
+/// How a test ends, and whether it holds.
+fn tested<T: NumberedTables>(
+    tables: &T,
+    actions: &[ActionCode],
+    test: &Test,
+    buffer: &mut [Bits],
+    s: &mut State,
+) -> (Flow, bool)
+    requires { TestHasFewKeys (length buffer.old) (test_of test.now) }
+    ensures { tested_of (state_of s.new) (flow_of result.0) result.1
+        ≡ tested (T.chosen tables.now) (map action_code_of actions.now) (test_of test.now) (state_of s.old) }
+{
+    match test {
+        Test::Holds(t) => (Flow::Go, eval(t, &s.slots, &s.valid) == 1),
+        Test::Applied(a, asked) => {
+            let (flow, hit) = apply(tables, actions, a, buffer, s);
+            (flow, is_asked(*asked, hit))
+        }
+    }
+}
+
+/// What a step does, and how it ends: by what tables choose, over the actions of the program by their
+/// numbers. The words of keys go into the buffer.
+#[cycle(run)]
+pub fn run_step<T: NumberedTables>(
+    tables: &T,
+    actions: &[ActionCode],
+    step: &Step,
+    buffer: &mut [Bits],
+    s: &mut State,
+) -> Flow
+    requires { HasFewKeys (length buffer.old) (step_of step.now) }
+    ensures { ended (state_of s.new) (flow_of result)
+        ≡ run (T.chosen tables.now) (map action_code_of actions.now) (step_of step.now) (state_of s.old) }
+{
+    match step {
+        Step::Plain(c) => exec(c, s),
+        Step::Group(list) => run_steps(tables, actions, list, buffer, s),
+        Step::If(t, a, b) => {
+            let (flow, holds) = tested(tables, actions, t, buffer, s);
+            match flow {
+                Flow::Go => {
+                    if holds {
+                        run_step(tables, actions, a, buffer, s)
+                    } else {
+                        run_step(tables, actions, b, buffer, s)
+                    }
+                }
+                Flow::Return => Flow::Return,
+                Flow::Exit => Flow::Exit,
+            }
+        }
+        Step::Apply(x) => apply(tables, actions, x, buffer, s).0,
+        Step::Make(header, slots, valid) => {
+            set_validity(s, *header, slots.first, slots.count, *valid);
+            Flow::Go
+        }
+    }
+}
+
+/// What steps do one after the other, and how they end.
+#[cycle(run)]
+pub fn run_steps<T: NumberedTables>(
+    tables: &T,
+    actions: &[ActionCode],
+    list: &[Step],
+    buffer: &mut [Bits],
+    s: &mut State,
+) -> Flow
+    requires { HaveFewKeys (length buffer.old) (steps_of list.now) }
+    ensures { ended (state_of s.new) (flow_of result)
+        ≡ run_all (T.chosen tables.now) (map action_code_of actions.now) (steps_of list.now) (state_of s.old) }
+{
+    for step in list {
+        match run_step(tables, actions, step, buffer, s) {
+            Flow::Go => {}
+            Flow::Return => return Flow::Return,
+            Flow::Exit => return Flow::Exit,
+        }
+    }
+    Flow::Go
+}
