@@ -1,0 +1,18 @@
+use Rattle.std.proofs.Common.{◌≡◌, take, drop}
+use Rattle.p4_tree.specs.View.{stmts_of}
+use Rattle.slot_terms.specs.Places.{places_of, IsLaid}
+use Rattle.slot_statements.specs.Runs.{Grows}
+use Rattle.slot_controls.specs.Steps.{steps_of}
+use Rattle.slot_control_codes.specs.Callees.{callees_of}
+use Rattle.slot_controls.specs.StepRuns.{DoAllSteps, Widens}
+use Rattle.slot_control_codes.specs.Known.{steps_behind_all}
+use Rattle.slot_control_codes.proofs.statements.+steps.Given as goal
+
+abbrev pub invariant-stmts_steps-loop-s : goal.invariant-stmts_steps-loop-s
+invariant-stmts_steps-loop-s l = record {
+  laid : IsLaid (places_of l.places);
+  grows : Grows (places_of l.fn.places) (places_of l.places);
+  widens : Widens (places_of l.fn.places) (places_of l.places);
+  known : steps_behind_all (callees_of l.k) (stmts_of (drop l.s-index l.list)) (places_of l.places) ≡ steps_behind_all (callees_of l.k) (stmts_of l.list) (places_of l.fn.places);
+  do_all : DoAllSteps (callees_of l.k) (places_of l.fn.places) (places_of l.places) (steps_of l.steps.items) (stmts_of (take l.s-index l.list));
+}
