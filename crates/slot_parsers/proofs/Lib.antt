@@ -1,0 +1,6 @@
+pub mod TakeLemmas
+pub mod StepLemmas
+pub mod TurnLemmas
+pub mod MakingLemmas
+pub mod RunLemmas
+mod Rows
