@@ -1,0 +1,2 @@
+-- Which parsers have a form over slots.
+pub mod KnownParsers
