@@ -1,0 +1,4 @@
+pub mod Closed
+pub mod Refits
+pub mod Stands
+pub mod OwnWidthsLemmas
