@@ -1,0 +1,11 @@
+pub mod Choices
+pub mod Logic
+pub mod RightNeutral
+pub mod LeftNeutral
+pub mod Drops
+pub mod KnownOperands
+pub mod Nodes
+pub mod Walked
+pub mod Answered
+pub mod Steps
+pub mod FirstAnswers
