@@ -1,11 +1,13 @@
--- What the files may give enters a network by its edge ports, and is short and not too much.
+-- What the files may give enters a network by its edge ports, and is short and not too much; and their program can be spelled.
 use Rattle.std.proofs.Common.{◌≡◌, ℕ, ◌≤◌, List, length, map, sym, subst, arith}
 use Rattle.std.specs.List.{All}
 use Rattle.network_run.specs.NetworkRun.{longest_frame}
 use Rattle.network_file.specs.Network.{Network, Port}
 use Rattle.path_runner.specs.Conditions.{IsAtEdge}
 use Rattle.case_file.specs.Case.{Case}
+use Rattle.p4_printer.specs.CanSpell.{CanSpell}
 use Rattle.job_course.specs.Course.{and_then}
+use Rattle.program_course.proofs.Spelling.{can_be_spelled}
 use Rattle.case_course.specs.Packets.{Packets}
 use Rattle.case_course.specs.Course.{Ground, ground_course, packets_course}
 use Rattle.case_course.proofs.PlaceLemmas.{IsPlace, are_places}
@@ -16,6 +18,12 @@ pub ground_is_placed : (name : List ℕ) (c : Case) (g : Ground) → (ground_cou
 unfolding ground_course and_then
 ground_is_placed name c g (p, a, (n, b, (ps, places, is))) =
     subst (λ (h : Ground). All (IsPlace h.network) h.places) (sym is) (are_places n c.captures ps places)
+
+-- some tokens spell the program
+pub ground_is_spelled : (name : List ℕ) (c : Case) (g : Ground) → (ground_course name c).may g → CanSpell g.program
+unfolding ground_course and_then
+ground_is_spelled name c g (p, a, (n, b, (ps, places, is))) =
+    subst (λ (h : Ground). CanSpell h.program) (sym is) (can_be_spelled c.program p a)
 
 module _ (name : List ℕ) (c : Case) (places : List Port) (ps : Packets) where
   pub packets_are_few : (packets_course name c places).may ps → length ps.arrivals ≤ 100000

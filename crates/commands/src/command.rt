@@ -14,6 +14,7 @@ use crate::wire::wire;
 use job_course::{Output, Stop};
 use outside::Store;
 use std::alloc::Global;
+use switch_benches::Bench;
 
 /// A command line.
 #[derive(Clone, Copy)]
@@ -97,15 +98,20 @@ fn read_load_words<'a>(number: &str, out: &'a str) -> Option<Command<'a>>
 }
 
 /// What a command writes.
-pub fn plan<S: Store>(alloc: Global, store: &mut S, command: Command<'_>) -> Result<Output, Stop>
+pub fn plan<S: Store, B: Bench>(
+    alloc: Global,
+    store: &mut S,
+    bench: &mut B,
+    command: Command<'_>,
+) -> Result<Output, Stop>
     ensures { Plans Outputs (course_of (said_by command.entry)) (S.state store.old) (S.state store.new) result }
 {
     match command {
-        Command::Wire(property, frame, out) => wire(alloc, store, property, frame, out),
+        Command::Wire(property, frame, out) => wire(alloc, store, bench, property, frame, out),
         Command::Check(property) => check(alloc, store, property),
-        Command::Forward(case, out) => forward(alloc, store, case, out),
-        Command::Run(case, out) => run(alloc, store, case, out),
+        Command::Forward(case, out) => forward(alloc, store, bench, case, out),
+        Command::Run(case, out) => run(alloc, store, bench, case, out),
         Command::Link(case, out) => link(alloc, store, case, out),
-        Command::Load(number, out) => load(alloc, store, number, out),
+        Command::Load(number, out) => load(alloc, store, bench, number, out),
     }
 }

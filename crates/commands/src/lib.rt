@@ -26,13 +26,16 @@ mod wire;
 use job_course::{Status, deliver, refuse, say};
 use outside::{Sink, Store};
 use std::alloc::Global;
+use switch_benches::Bench;
 
-/// Does what the words say, over a store and a sink. `words` excludes the program's name.
-pub fn hydra<S: Store, K: Sink>(
+/// Does what the words say, over a store and a sink. `words` excludes the program's name. What a command runs at
+/// the switches of a network are those of the bench, one for each switch, in the network's order.
+pub fn hydra<S: Store, K: Sink, B: Bench>(
     alloc: Global,
     words: &[String],
     store: &mut S,
     out: &mut K,
+    bench: &mut B,
 ) -> Status
     // Each answer has its cause, and says what stands after it.
     ensures answer { Answers (command_of (map string_bytes words.now)) (S.state store.old) (S.state store.new) (K.state out.old) (K.state out.new) result }
@@ -44,7 +47,7 @@ pub fn hydra<S: Store, K: Sink>(
             say(out, b"hydra: words\n");
             Status::BadWords
         }
-        Some(command) => match command::plan(alloc, store, command) {
+        Some(command) => match command::plan(alloc, store, bench, command) {
             Ok(output) => deliver(alloc, store, out, &output),
             Err(stop) => refuse(out, &stop),
         },

@@ -14,6 +14,7 @@ use linked_run::run_linked;
 use load_job::{MadeJob, load_made};
 use outside::Store;
 use std::alloc::{AllocError, Global};
+use switch_benches::Bench;
 
 /// The number of a made case, where the word is one.
 pub fn number_of(word: &str) -> Option<u64>
@@ -33,16 +34,23 @@ fn begins_with_plus(word: &str) -> bool
 
 /// Makes the case, runs the linked programs on it, and writes its files and behind them those of the run. The
 /// store is not asked for a file.
-pub fn load<S: Store>(alloc: Global, store: &mut S, number: u64, out: &str) -> Result<Output, Stop>
+pub fn load<S: Store, B: Bench>(
+    alloc: Global,
+    store: &mut S,
+    bench: &mut B,
+    number: u64,
+    out: &str,
+) -> Result<Output, Stop>
     ensures { Plans Outputs (course_of (load number out.now)) (S.state store.old) (S.state store.new) result }
 {
     let MadeJob { files, job } = load_made(alloc, number, out)?;
-    Ok(run_made(alloc, files, job, out)?)
+    Ok(run_made(alloc, bench, files, job, out)?)
 }
 
 /// The files of a made case, and behind them those of its run.
-fn run_made(
+fn run_made<B: Bench>(
     alloc: Global,
+    bench: &mut B,
     mut files: Vec<(String, Vec<u8>)>,
     job: LinkedJob,
     out: &str,
@@ -50,7 +58,7 @@ fn run_made(
     requires { IsLinkedJob job }
     ensures { IfOk result (λ o. (n : ℕ) → files_of files.items ≡ made_files n out.now → LoadHeadline n (job_of job) out.now (out_of o)) }
 {
-    let mut ran = run_linked(alloc, job, out)?;
+    let mut ran = run_linked(alloc, bench, job, out)?;
     files.append(&mut ran.files)?;
     Ok(Output {
         files,

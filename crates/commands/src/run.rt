@@ -9,12 +9,19 @@ use linked_run::run_linked;
 use outside::Store;
 use run_job::load_run;
 use std::alloc::Global;
+use switch_benches::Bench;
 
 /// Reads the files of the case, links what they hold, and runs the linked programs at the switches.
-pub fn run<S: Store>(alloc: Global, store: &mut S, case: &str, out: &str) -> Result<Output, Stop>
+pub fn run<S: Store, B: Bench>(
+    alloc: Global,
+    store: &mut S,
+    bench: &mut B,
+    case: &str,
+    out: &str,
+) -> Result<Output, Stop>
     ensures { Plans Outputs (course_of (run case.now out.now)) (S.state store.old) (S.state store.new) result }
 {
     let job = load_run(alloc, store, case)?;
-    let output = run_linked(alloc, job, out)?;
+    let output = run_linked(alloc, bench, job, out)?;
     Ok(output)
 }

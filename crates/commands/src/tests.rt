@@ -3,8 +3,9 @@
 
 use super::*;
 use outside::{MemSink, MemStore, SureSink, SureStore};
-use std::alloc::AllocError;
-use std::test::Fail;
+use std::mem::forget;
+use std::process::Abort;
+use switch_benches::{StoppingBench, SwitchBench};
 
 /// Parts of rows, by their names: networks, programs, cases, and properties.
 const PARTS: &str = r#"one =n {"switches": ["s1"], "links": []}
@@ -17,6 +18,7 @@ short $f if (standard_metadata.ingress_port == 1) { standard_metadata.egress_spe
 case %c
 frame ~h.pcap 0102
 plain =p tele bit<8> tenant; tele bit<9>[4] ports; tele bool seen; {} {} {}
+counts =p sensor bit<8> seen; tele bit<8> mine; {} {seen = seen + 1; mine = seen;} {report(mine);}
 leaves =p tele bit<8> n; {} {n = n + 1;} {if (n == 2) {reject;}} @ #f 0102
 rejected =p tele bit<8> n; {} {n = n + 1;} {if (n == 3) {reject;}} @ #f 0102
 passes %c , "control": "k", "schedule": "e" @ =k {} @ =e [] @ ~h.pcap 0102 @ =p {} {} {} @ $f standard_metadata.egress_spec = 2;| @ =n {"switches": ["s1", "s2"], "links": [["s1", 2, "s2", 1]]}
@@ -27,7 +29,8 @@ goes =c {"captures": [{"switch": "s1", "port": 1, "file": "h.pcap"}], "network":
 /// `~NAME *COUNT`, a program `$NAME INGRESS|EGRESS`, and a case `%NAME MEMBERS`. `&NAME` stands for parts with a name. `!N`
 /// and `?N` are the numbers of the calls of the store and of the sink that fail. `>` is the status and what was put, with `/`
 /// for each line feed. Behind `:` is a file that is written: as files are given, or `/NAME TEXT` with `/` for each line feed,
-/// or `?NAME` whatever it holds; and `!NAME` is not written.
+/// or `?NAME` whatever it holds; and `!NAME` is not written. `^N K` is the number of a switch and of its entry that answers
+/// want of memory, and `;N NAME` says that the program of that switch is the one whose text the file holds.
 const ROWS: &str = r#" @ >BadWords hydra: words/
 wire p f o @ &rejected @ >Done packets 1/sent 0/dropped 0/rejected 1/lost 0/reports 0/ @ :?o.linked.s1.p4 @ :?o.linked.s2.p4 @ :?o.linked.s3.p4 @ :!o.frame
 wire p f o @ &leaves @ >Done packets 1/sent 1/dropped 0/rejected 0/lost 0/reports 0/ @ :#o.frame 0102
@@ -39,8 +42,8 @@ run c o @ %c , "room": 7 @ &one @ &two @ &frame @ &plain @ >NotLinked hydra: lin
 wire p f o @ =p tele bit<9>[2] l; {} {l.push((bit<9>) switch_id);} {report(length(l), 2 in l, 1 in l);} @ #f 0102 @ >Done 0 s3 0 2 0 1/packets 1/sent 1/dropped 0/rejected 0/lost 0/reports 1/
 run c o @ &case @ &one @ &two @ &frame @ =p sensor bit<8> s = 250; {} {s = s + 3;} {} @ >Done packets 1/sent 1/dropped 0/rejected 0/lost 0/reports 0/ @ :/o.registers.txt s1 hydra_s_s 0 7/
 run c o @ &case @ &one @ &two @ ~h.pcap 0102,0102 @ =p sensor bit<8> s = 250; {} {s = s + 3;} {} @ >Done packets 2/sent 2/dropped 0/rejected 0/lost 0/reports 0/ @ :/o.registers.txt s1 hydra_s_s 0 250/
-run c o @ &case @ &line2 @ &wire @ ~h.pcap 0102,0102 @ =p sensor bit<8> seen; tele bit<8> mine; {} {seen = seen + 1; mine = seen;} {report(mine);} @ >Done packets 2/sent 2/dropped 0/rejected 0/lost 0/reports 2/ @ :/o.reports.txt 0 s2 0 1/1 s2 0 2/
-run c o @ %c , "schedule": "e" @ =e [0, 1, 1] @ &line2 @ &wire @ ~h.pcap 0102,0102 @ =p sensor bit<8> seen; tele bit<8> mine; {} {seen = seen + 1; mine = seen;} {report(mine);} @ >Done packets 2/sent 2/dropped 0/rejected 0/lost 0/reports 2/ @ :/o.reports.txt 1 s2 0 1/0 s2 0 2/
+run c o @ &case @ &line2 @ &wire @ ~h.pcap 0102,0102 @ &counts @ >Done packets 2/sent 2/dropped 0/rejected 0/lost 0/reports 2/ @ :/o.reports.txt 0 s2 0 1/1 s2 0 2/
+run c o @ %c , "schedule": "e" @ =e [0, 1, 1] @ &line2 @ &wire @ ~h.pcap 0102,0102 @ &counts @ >Done packets 2/sent 2/dropped 0/rejected 0/lost 0/reports 2/ @ :/o.reports.txt 1 s2 0 1/0 s2 0 2/
 run c o @ &case @ &line3 @ &short @ ~h.pcap *100 @ &plain @ >Done packets 1/sent 1/dropped 0/rejected 0/lost 0/reports 0/ @ :~o.out.s3.2.pcap *100
 run c o @ &case @ &line3 @ &short @ ~h.pcap *101 @ &plain @ >Done packets 1/sent 0/dropped 1/rejected 0/lost 0/reports 0/ @ :!o.out.s3.2.pcap
 run c o @ &case @ &line2 @ $f standard_metadata.egress_spec = 2;|exit; @ &frame @ =p {} {} {reject;} @ >Done packets 1/sent 0/dropped 0/rejected 1/lost 0/reports 0/ @ :/o.registers.txt s2 hydra_rejects 0 1/
@@ -49,6 +52,12 @@ run c o @ &case @ &line2 @ &wire @ ~h.pcap *65535 @ &plain @ >Done packets 1/sen
 run c o @ %c , "hops": 64 @ &ring2 @ &two @ &frame @ =p sensor bit<8> c; {} {c = c + 1;} {report();} @ >Done packets 1/sent 0/dropped 0/rejected 0/lost 1/reports 0/ @ :/o.registers.txt s1 hydra_s_c 0 32/s2 hydra_s_c 0 32/
 run c o @ %c , "control": "k", "schedule": "e" @ =k {"s2": {"tenants": [[1, 5], [2, 5]]}} @ =e [0, {"set": {"switch": "s2", "variable": "tenants", "value": [[1, 7], [2, 8]]}}] @ &line2 @ &wire @ &frame @ =p control dict<bit<9>, bit<8>> tenants; header bit<9> i = standard_metadata.ingress_port; header bit<9> o = standard_metadata.egress_port; {} {} {report(tenants[o], tenants[i]);} @ >Done packets 1/sent 1/dropped 0/rejected 0/lost 0/reports 1/ @ :/o.reports.txt 0 s2 0 8 7/ @ :/o.tables.txt E.hydra_t_0 tenants/E.hydra_t_1 tenants/
 run c o @ &case @ &one @ &two @ &frame @ =p tele bit<1>[255] a; tele bit<8> n; {} {for (x in a) {for (y in a) {n = n + 1;}}} {} @ >NotLinked hydra: link TooLarge 325636/ @ :!o.summary.txt
+run c o @ &case @ &line2 @ &wire @ ~h.pcap 0102,0102 @ &counts @ ^1 0 @ >NoMemory hydra: memory/ @ :!o.linked.s1.p4 @ :!o.linked.s2.p4 @ :!o.tables.txt @ :!o.wire.s1.2.pcap @ :!o.reports.txt @ :!o.summary.txt
+run c o @ &case @ &line2 @ &wire @ ~h.pcap 0102,0102 @ &counts @ ^1 1 @ >NoMemory hydra: memory/ @ :!o.linked.s1.p4 @ :!o.linked.s2.p4 @ :!o.tables.txt @ :!o.wire.s1.2.pcap @ :!o.reports.txt @ :!o.summary.txt
+run c o @ &case @ &line2 @ &wire @ ~h.pcap 0102,0102 @ &counts @ ^1 2 @ >Done packets 2/sent 2/dropped 0/rejected 0/lost 0/reports 2/ @ :/o.reports.txt 0 s2 0 1/1 s2 0 2/ @ ;0 o.linked.s1.p4 @ ;1 o.linked.s2.p4
+wire p f o @ &leaves @ ^1 0 @ >NoMemory hydra: memory/ @ :!o.linked.s1.p4 @ :!o.frame
+wire p f o @ &leaves @ ^1 1 @ >Done packets 1/sent 1/dropped 0/rejected 0/lost 0/reports 0/ @ :#o.frame 0102 @ ;0 o.linked.s1.p4 @ ;1 o.linked.s2.p4 @ ;2 o.linked.s3.p4
+forward c o @ &goes @ ^0 0 @ >NoMemory hydra: memory/ @ :!o.out.s1.2.pcap @ :!o.summary.txt
 check p @ =p tele bit<8> n {} @ >BadProperty hydra: property p Syntax 6/
 check p @ =p tele bit<8> @ >BadProperty hydra: property p Syntax 5/
 check p @ =p tele bit<8> n; {m = 1;} {} {} @ >BadProperty hydra: property p Type 8 NoSuchName/
@@ -128,13 +137,23 @@ const TIME: &[u8] = b"\x01\0\0\0\x05\0\0\0";
 
 // ---- files
 
+/// Puts a byte behind others.
+fn put(rt: &impl Abort, bytes: &mut Vec<u8>, byte: u8) {
+    bytes.push(byte).expect(rt, "memory");
+}
+
+/// Puts bytes behind others.
+fn put_all(rt: &impl Abort, bytes: &mut Vec<u8>, more: &[u8]) {
+    bytes.extend_from_slice(more).expect(rt, "memory");
+}
+
 /// The bytes of hexadecimal digits, or so many bytes 0 behind `*`.
-fn put_hex(bytes: &mut Vec<u8>, text: &str) -> Result<(), AllocError> {
+fn put_hex(rt: &impl Abort, bytes: &mut Vec<u8>, text: &str) {
     if let Some(count) = text.strip_prefix("*") {
         for _ in 0..count.parse::<u32>().unwrap_or(0) {
-            bytes.push(0)?;
+            put(rt, bytes, 0);
         }
-        return Ok(());
+        return;
     }
     let mut high = None;
     for digit in text.chars() {
@@ -142,58 +161,59 @@ fn put_hex(bytes: &mut Vec<u8>, text: &str) -> Result<(), AllocError> {
         match high {
             None => high = Some(digit),
             Some(first) => {
-                bytes.push(first.wrapping_mul(16).wrapping_add(digit))?;
+                put(rt, bytes, first.wrapping_mul(16).wrapping_add(digit));
                 high = None;
             }
         }
     }
-    Ok(())
 }
 
-fn put_capture(bytes: &mut Vec<u8>, frames: &str, frame: &mut Vec<u8>) -> Result<(), AllocError> {
-    bytes.extend_from_slice(HEAD)?;
+/// A frame with its time and its lengths.
+fn put_frame(rt: &impl Abort, alloc: Global, bytes: &mut Vec<u8>, text: &str) {
+    let mut frame = Vec::new(alloc);
+    put_hex(rt, &mut frame, text);
+    let length = u32::try_from(frame.len()).unwrap_or(0).to_le_bytes();
+    put_all(rt, bytes, TIME);
+    put_all(rt, bytes, &length);
+    put_all(rt, bytes, &length);
+    put_all(rt, bytes, frame.as_slice());
+}
+
+fn put_capture(rt: &impl Abort, alloc: Global, bytes: &mut Vec<u8>, frames: &str) {
+    put_all(rt, bytes, HEAD);
     for text in frames.split(',') {
-        frame.clear();
-        put_hex(frame, text)?;
-        let length = u32::try_from(frame.len()).unwrap_or(0).to_le_bytes();
-        bytes.extend_from_slice(TIME)?;
-        bytes.extend_from_slice(&length)?;
-        bytes.extend_from_slice(&length)?;
-        bytes.extend_from_slice(frame.as_slice())?;
+        put_frame(rt, alloc, bytes, text);
     }
-    Ok(())
 }
 
 /// A text with a line feed for each `/`.
-fn put_lines(bytes: &mut Vec<u8>, text: &str) -> Result<(), AllocError> {
+fn put_lines(rt: &impl Abort, bytes: &mut Vec<u8>, text: &str) {
     for byte in text.as_bytes() {
-        bytes.push(if *byte == b'/' { b'\n' } else { *byte })?;
+        put(rt, bytes, if *byte == b'/' { b'\n' } else { *byte });
     }
-    Ok(())
 }
 
-fn put_all(bytes: &mut Vec<u8>, texts: &[&str]) -> Result<(), AllocError> {
+fn put_texts(rt: &impl Abort, bytes: &mut Vec<u8>, texts: &[&str]) {
     for text in texts {
-        bytes.extend_from_slice(text.as_bytes())?;
+        put_all(rt, bytes, text.as_bytes());
     }
-    Ok(())
 }
 
 /// What a file of a kind holds.
-fn bytes_of(alloc: Global, kind: u8, value: &str) -> Result<Vec<u8>, AllocError> {
+fn bytes_of(rt: &impl Abort, alloc: Global, kind: u8, value: &str) -> Vec<u8> {
     let mut bytes = Vec::new(alloc);
     match kind {
-        b'#' => put_hex(&mut bytes, value)?,
-        b'~' => put_capture(&mut bytes, value, &mut Vec::new(alloc))?,
-        b'/' => put_lines(&mut bytes, value)?,
+        b'#' => put_hex(rt, &mut bytes, value),
+        b'~' => put_capture(rt, alloc, &mut bytes, value),
+        b'/' => put_lines(rt, &mut bytes, value),
         b'$' => {
             let (ingress, egress) = value.split_once('|').unwrap_or((value, ""));
-            put_all(&mut bytes, &[FRONT, ingress, MIDDLE, egress, BACK])?
+            put_texts(rt, &mut bytes, &[FRONT, ingress, MIDDLE, egress, BACK])
         }
-        b'%' => put_all(&mut bytes, &["{", CASE, value, "}"])?,
-        _ => put_all(&mut bytes, &[value])?,
+        b'%' => put_texts(rt, &mut bytes, &["{", CASE, value, "}"]),
+        _ => put_all(rt, &mut bytes, value.as_bytes()),
     }
-    Ok(bytes)
+    bytes
 }
 
 /// The kind of a part, the name of a file, and what it holds.
@@ -219,157 +239,232 @@ fn named<'a>(table: &'a str, name: &str) -> &'a str {
 }
 
 /// A row with the parts for which names stand.
-fn whole(alloc: Global, row: &str) -> Result<String, AllocError> {
+fn whole(rt: &impl Abort, alloc: Global, row: &str) -> String {
     let mut text = String::new(alloc);
     for (at, part) in row.split(" @ ").enumerate() {
         if at > 0 {
-            text.push_str(" @ ")?;
+            text.push_str(" @ ").expect(rt, "memory");
         }
-        match part.strip_prefix("&") {
-            Some(name) => text.push_str(named(PARTS, name))?,
-            None => text.push_str(part)?,
-        }
+        let part = match part.strip_prefix("&") {
+            Some(name) => named(PARTS, name),
+            None => part,
+        };
+        text.push_str(part).expect(rt, "memory");
     }
-    Ok(text)
+    text
 }
 
-fn words_of(alloc: Global, line: &str) -> Result<Vec<String>, AllocError> {
-    line.split(' ')
-        .filter(|word| !word.is_empty())
-        .map(|word| String::from_str(alloc, word))
-        .try_collect(alloc)
+fn words_of(rt: &impl Abort, alloc: Global, line: &str) -> Vec<String> {
+    let mut words = Vec::new(alloc);
+    for word in line.split(' ') {
+        if !word.is_empty() {
+            let word = String::from_str(alloc, word).expect(rt, "memory");
+            words.push(word).expect(rt, "memory");
+        }
+    }
+    words
 }
 
 /// The numbers of the calls that fail.
-fn failing(alloc: Global, row: &str, mark: &str) -> Result<Vec<u64>, AllocError> {
+fn failing(rt: &impl Abort, alloc: Global, row: &str, mark: &str) -> Vec<u64> {
     let mut calls = Vec::new(alloc);
     for part in row.split(" @ ") {
         if let Some(number) = part.strip_prefix(mark) {
-            calls.push(number.parse().unwrap_or(0))?;
+            calls.push(number.parse().unwrap_or(0)).expect(rt, "memory");
         }
     }
-    Ok(calls)
+    calls
+}
+
+/// Holds the file of a part, where it is one that is given.
+fn hold(rt: &impl Abort, alloc: Global, store: &mut MemStore, part: &str) {
+    if let Some((kind, name, value)) = file_of(part) {
+        if matches!(kind, b'=' | b'#' | b'~' | b'$' | b'%') {
+            let bytes = bytes_of(rt, alloc, kind, value);
+            store.hold(alloc, name, &bytes).expect(rt, "memory");
+        }
+    }
 }
 
 /// The store of a row.
-fn held(alloc: Global, row: &str) -> Result<MemStore, AllocError> {
-    let mut store = MemStore::new(alloc, failing(alloc, row, "!")?);
+fn held(rt: &impl Abort, alloc: Global, row: &str) -> MemStore {
+    let mut store = MemStore::new(alloc, failing(rt, alloc, row, "!"));
     for part in row.split(" @ ") {
-        if let Some((kind, name, value)) = file_of(part) {
-            if matches!(kind, b'=' | b'#' | b'~' | b'$' | b'%') {
-                let bytes = bytes_of(alloc, kind, value)?;
-                store.hold(alloc, name, &bytes)?;
-            }
-        }
+        hold(rt, alloc, &mut store, part);
     }
-    Ok(store)
+    store
+}
+
+/// The name of a status.
+fn name_of(status: Status) -> &'static str {
+    match status {
+        Status::Done => "Done",
+        Status::BadWords => "BadWords",
+        Status::ReadFault => "ReadFault",
+        Status::BadProperty => "BadProperty",
+        Status::NotLinked => "NotLinked",
+        Status::BadProgram => "BadProgram",
+        Status::BadNetwork => "BadNetwork",
+        Status::BadCapture => "BadCapture",
+        Status::WriteFault => "WriteFault",
+        Status::NoMemory => "NoMemory",
+    }
 }
 
 /// Whether this is the status, and behind a blank what was put, if anything, with `/` for each line feed.
-fn is_answer(
-    alloc: Global,
-    status: Status,
-    taken: &[u8],
-    wanted: &str,
-) -> Result<bool, AllocError> {
-    let mut found = format!(in alloc; "{status:?}")?.into_bytes();
-    if !taken.is_empty() {
-        found.push(b' ')?;
-    }
+fn is_answer(rt: &impl Abort, alloc: Global, status: Status, taken: &[u8], wanted: &str) -> bool {
+    let (name, text) = wanted.split_once(' ').unwrap_or((wanted, ""));
+    let mut found = Vec::new(alloc);
     for byte in taken {
-        found.push(if *byte == b'\n' { b'/' } else { *byte })?;
+        put(rt, &mut found, if *byte == b'\n' { b'/' } else { *byte });
     }
-    Ok(found.as_slice() == wanted.as_bytes())
+    name == name_of(status) && found.as_slice() == text.as_bytes()
 }
 
 /// Whether a file of the store is as a row says.
-fn is_written(alloc: Global, store: &MemStore, wanted: &str) -> Result<bool, AllocError> {
+fn is_written(rt: &impl Abort, alloc: Global, store: &MemStore, wanted: &str) -> bool {
     let Some((kind, name, value)) = file_of(wanted) else {
-        return Ok(false);
+        return false;
     };
     match store.file(name) {
-        None => Ok(kind == b'!'),
+        None => kind == b'!',
         Some(bytes) => match kind {
-            b'!' => Ok(false),
-            b'?' => Ok(true),
-            _ => Ok(bytes == bytes_of(alloc, kind, value)?.as_slice()),
+            b'!' => false,
+            b'?' => true,
+            _ => bytes == bytes_of(rt, alloc, kind, value).as_slice(),
         },
     }
 }
 
-/// Whether a part of a row holds behind the call.
-fn holds(
-    alloc: Global,
-    part: &str,
-    status: Status,
-    store: &MemStore,
-    taken: &[u8],
-) -> Result<bool, AllocError> {
-    if let Some(wanted) = part.strip_prefix(">") {
-        is_answer(alloc, status, taken, wanted)
-    } else if let Some(wanted) = part.strip_prefix(":") {
-        is_written(alloc, store, wanted)
-    } else {
-        Ok(true)
+/// The two numbers of a text, 0 where one is missing.
+fn two_numbers(text: &str) -> (usize, u32) {
+    let (first, second) = text.split_once(' ').unwrap_or((text, ""));
+    (first.parse().unwrap_or(0), second.parse().unwrap_or(0))
+}
+
+/// The switch and its entry that answers want of memory, if a row has one.
+fn stop_of(row: &str) -> Option<(usize, u32)> {
+    for part in row.split(" @ ") {
+        if let Some(numbers) = part.strip_prefix("^") {
+            return Some(two_numbers(numbers));
+        }
+    }
+    None
+}
+
+/// Whether the bench was handed, at a number, the program of which a file of the store holds the text.
+fn is_built(store: &MemStore, bench: &StoppingBench, wanted: &str) -> bool {
+    let (number, name) = wanted.split_once(' ').unwrap_or((wanted, ""));
+    let number = number.parse::<usize>().unwrap_or(0);
+    match (bench.texts.get(number), store.file(name)) {
+        (Some(text), Some(bytes)) => text.as_bytes() == bytes,
+        _ => false,
     }
 }
 
-/// The first part of a row that does not hold.
-fn wrong<'a>(alloc: Global, row: &'a str) -> Result<&'a str, AllocError> {
-    let (line, _) = row.split_once(" @ ").unwrap_or((row, ""));
-    let words = words_of(alloc, line)?;
-    let mut store = held(alloc, row)?;
-    let mut out = MemSink::new(alloc, 1000, failing(alloc, row, "?")?)?;
-    let status = hydra(alloc, &words, &mut store, &mut out);
+/// What stands behind a call.
+#[derive(Clone, Copy)]
+struct Behind<'a> {
+    status: Status,
+    taken: &'a [u8],
+    store: &'a MemStore,
+    bench: &'a StoppingBench,
+}
+
+/// Whether a part of a row holds behind the call.
+fn holds(rt: &impl Abort, alloc: Global, part: &str, behind: &Behind<'_>) -> bool {
+    if let Some(wanted) = part.strip_prefix(">") {
+        is_answer(rt, alloc, behind.status, behind.taken, wanted)
+    } else if let Some(wanted) = part.strip_prefix(":") {
+        is_written(rt, alloc, behind.store, wanted)
+    } else if let Some(wanted) = part.strip_prefix(";") {
+        is_built(behind.store, behind.bench, wanted)
+    } else {
+        true
+    }
+}
+
+/// The first part of a row that does not hold behind the call.
+fn first_wrong<'a>(rt: &impl Abort, alloc: Global, row: &'a str, behind: &Behind<'_>) -> &'a str {
     for part in row.split(" @ ") {
-        if !holds(alloc, part, status, &store, out.taken())? {
-            return Ok(part);
+        if !holds(rt, alloc, part, behind) {
+            return part;
         }
     }
-    Ok("")
+    ""
+}
+
+/// Does what the words of a row say: the first part of it that does not hold then.
+fn wrong<'a>(rt: &impl Abort, alloc: Global, row: &'a str) -> &'a str {
+    let (line, _) = row.split_once(" @ ").unwrap_or((row, ""));
+    let words = words_of(rt, alloc, line);
+    let mut store = held(rt, alloc, row);
+    let mut out = MemSink::new(alloc, 1000, failing(rt, alloc, row, "?")).expect(rt, "memory");
+    let mut bench = StoppingBench {
+        texts: Vec::new(alloc),
+        stop: stop_of(row),
+    };
+    let status = hydra(alloc, &words, &mut store, &mut out, &mut bench);
+    let behind = Behind {
+        status,
+        taken: out.taken(),
+        store: &store,
+        bench: &bench,
+    };
+    let first = first_wrong(rt, alloc, row, &behind);
+    forget(words);
+    forget(store);
+    forget(out);
+    forget(bench);
+    first
 }
 
 #[test]
-fn rows_are_answered(rt: HostRuntime) -> Result<(), Fail> {
+fn rows_are_answered(rt: HostRuntime) {
     let alloc = rt.alloc();
     for row in ROWS.lines() {
-        let row = whole(alloc, row)?;
-        let part = wrong(alloc, row.as_str())?;
+        let row = whole(&rt, alloc, row);
+        let part = wrong(&rt, alloc, row.as_str());
         assert_eq!(rt; part, "", "{row}");
     }
-    Ok(())
 }
 
 // ---- stores and sinks without faults
 
 /// Whether `wire` answers so, and whether the frame leaves, over the kinds that have no faults.
-fn surely(alloc: Global, property: &str, frame: &[u8], wanted: &str) -> Result<bool, AllocError> {
+fn surely(rt: &impl Abort, alloc: Global, property: &str, frame: &[u8], wanted: &str) -> bool {
     let mut store = SureStore::new(alloc);
-    store.hold(alloc, "p", property.as_bytes())?;
-    store.hold(alloc, "f", frame)?;
-    let mut out = SureSink::new(alloc, 1000)?;
-    let status = hydra(alloc, &words_of(alloc, "wire p f o")?, &mut store, &mut out);
+    store
+        .hold(alloc, "p", property.as_bytes())
+        .expect(rt, "memory");
+    store.hold(alloc, "f", frame).expect(rt, "memory");
+    let mut out = SureSink::new(alloc, 1000).expect(rt, "memory");
+    let words = words_of(rt, alloc, "wire p f o");
+    let status = hydra(alloc, &words, &mut store, &mut out, &mut SwitchBench);
     let left = if wanted.contains("/sent 1/") {
         Some(frame)
     } else {
         None
     };
-    Ok(is_answer(alloc, status, out.taken(), wanted)? && store.file("o.frame") == left)
+    let well = is_answer(rt, alloc, status, out.taken(), wanted) && store.file("o.frame") == left;
+    forget(store);
+    forget(out);
+    forget(words);
+    well
 }
 
 #[test]
-fn frames_leave_as_they_came(rt: HostRuntime) -> Result<(), Fail> {
+fn frames_leave_as_they_came(rt: HostRuntime) {
     let alloc = rt.alloc();
     let frames: [&[u8]; 3] = [&[1, 2], &[], &[0x48, 5, 2]];
     let leaves = "tele bit<8> n; {} {n = n + 1;} {if (n == 2) {reject;}}";
     let sent = "Done packets 1/sent 1/dropped 0/rejected 0/lost 0/reports 0/";
     for frame in frames {
-        assert!(rt; surely(alloc, leaves, frame, sent)?);
+        assert!(rt; surely(&rt, alloc, leaves, frame, sent));
     }
     let stays = "tele bit<8> n; {} {n = n + 1;} {if (n == 3) {reject;}}";
     let rejected = "Done packets 1/sent 0/dropped 0/rejected 1/lost 0/reports 0/";
-    assert!(rt; surely(alloc, stays, &[1, 2], rejected)?);
-    Ok(())
+    assert!(rt; surely(&rt, alloc, stays, &[1, 2], rejected));
 }
 
 #[test]

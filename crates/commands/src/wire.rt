@@ -8,12 +8,14 @@ use job_course::{Output, Stop};
 use linked_run::run_wire;
 use outside::Store;
 use std::alloc::Global;
+use switch_benches::Bench;
 use wire_job::load_wire;
 
 /// Reads the files of the property and of the frame, links, and runs the linked programs on the frame.
-pub fn wire<S: Store>(
+pub fn wire<S: Store, B: Bench>(
     alloc: Global,
     store: &mut S,
+    bench: &mut B,
     property: &str,
     frame: &str,
     out: &str,
@@ -21,5 +23,5 @@ pub fn wire<S: Store>(
     ensures { Plans Outputs (course_of (wire property.now frame.now out.now)) (S.state store.old) (S.state store.new) result }
 {
     let job = load_wire(alloc, store, property, frame)?;
-    Ok(run_wire(alloc, job, out)?)
+    Ok(run_wire(alloc, bench, job, out)?)
 }

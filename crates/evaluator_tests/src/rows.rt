@@ -8,6 +8,7 @@ use run_job::load_run;
 use std::alloc::Global;
 use std::mem::forget;
 use std::process::Abort;
+use switch_benches::SwitchBench;
 
 /// A program, up to its ingress. Its frames begin with the header `h`, or with `h` and `tcp`.
 const FRONT: &str = "\
@@ -276,7 +277,7 @@ fn case_agrees(rt: &impl Abort, alloc: Global, store: &mut SureStore, row: &str)
     match load_run(alloc, store, "c") {
         Ok(job) => {
             let shown = evaluated(rt, alloc, &job);
-            let ran = run_linked(alloc, job, "o").expect(rt, "memory");
+            let ran = run_linked(alloc, &mut SwitchBench, job, "o").expect(rt, "memory");
             shown.agrees(rt, alloc, &ran, row);
             forget(shown);
             forget(ran);

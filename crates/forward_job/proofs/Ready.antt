@@ -6,6 +6,7 @@ use Rattle.indus_tree.specs.State.{Contents}
 use Rattle.network_run.specs.Events.{Event}
 use Rattle.network_run.specs.NetworkRun.{longest_frame}
 use Rattle.p4_tree.specs.Tree.{Program}
+use Rattle.p4_printer.specs.CanSpell.{CanSpell}
 use Rattle.p4_tables.specs.Programs.{IsStateOf}
 use Rattle.path_runner.specs.Conditions.{IsAtEdge}
 use Rattle.case_file.specs.Case.{Case}
@@ -23,7 +24,7 @@ use Rattle.case_course.specs.Packets.{Packets}
 use Rattle.case_course.specs.Course.{Ground}
 use Rattle.case_course.proofs.CaseLemmas.{hops_are_some}
 use Rattle.case_course.proofs.PlaceLemmas.{IsPlace}
-use Rattle.case_course.proofs.Read.{ground_is_placed, packets_are_few, packets_arrive}
+use Rattle.case_course.proofs.Read.{ground_is_placed, ground_is_spelled, packets_are_few, packets_arrive}
 use Rattle.forward_job.specs.Course.{around, loaded_course, forward_course}
 use Rattle.forward_job.proofs.EventLemmas.{events_are_here}
 
@@ -34,6 +35,7 @@ schedule_speaks (Some x) g ps es (d, may, e) = events_are_here (length ps.arriva
 
 -- what is loaded on such ground
 record IsLoaded (c : Case) (g : Ground) (j : Job) : Type 0 where
+  program : j.program ≡ g.program
   hops : j.hops ≡ c.hops
   few : length j.packets ≤ 100000
   packets : All (IsAtEdge j.network longest_frame) j.packets
@@ -44,6 +46,7 @@ unfolding loaded_course and_then
 loaded name c g j h (ts, a, (ps, b, (es, d, is))) =
     subst (IsLoaded c g) (sym is)
     (record {
+      program = refl;
       hops = refl;
       few = packets_are_few name c g.places ps b;
       packets = packets_arrive name c g.places ps g.network h b;
@@ -58,6 +61,7 @@ unfolding forward_course and_then
 is_ready name j are (d, a, (c, is, (g, b, may))) =
     let l = loaded name c g j (ground_is_placed name c g b) may in
     record {
+      spelled = subst CanSpell (sym l.program) (ground_is_spelled name c g b);
       hops = subst (λ (n : ℕ). 1 ≤ n) (sym l.hops) (hops_are_some false d c is);
       switches = are.count;
       tables = tables_all j.program j.network.names j.tables are;

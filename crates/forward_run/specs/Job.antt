@@ -1,6 +1,7 @@
 -- What `forward` is to do. Read `World` of the network's run, and `Network` of network_file, before it.
 use Rattle.std.specs.Prelude.{◌≡◌, ℕ, ◌<◌, ◌≤◌, List, length, All}
 use Rattle.p4_tree.specs.Tree.{Program}
+use Rattle.p4_printer.specs.CanSpell.{CanSpell}
 use Rattle.p4_tables.specs.State.{Held}
 use Rattle.p4_tables.specs.Programs.{IsStateOf}
 use Rattle.indus_tree.specs.State.{Contents}
@@ -28,9 +29,10 @@ IsEventAmong packets switches (Enter i) = i < packets
 IsEventAmong packets switches (Leave i) = i < packets
 IsEventAmong packets switches (Set switch v c) = switch < switches
 
--- what is known of a job whose files were read: each switch has the tables of the program, the packets come to edge ports,
--- and the schedule speaks of them
+-- what is known of a job whose files were read: some tokens spell the program, each switch has its tables, the packets come to
+-- edge ports, and the schedule speaks of them
 pub record IsReady (j : Job) : Type 0 where
+  pub spelled : CanSpell j.program
   pub hops : 1 ≤ j.hops
   pub switches : length j.tables ≡ length j.network.names
   pub tables : All (IsStateOf j.program) j.tables

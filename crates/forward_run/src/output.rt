@@ -12,7 +12,7 @@ ghost use Rattle.forward_texts.specs.Switches.{log_view};
 
 use forward_texts::{digests_text, put_text, registers_text};
 use job_course::Output;
-use p4_machine::Switch;
+use p4_machine::Pass;
 use p4_types::TypedProgram;
 use path_runner::RunLog;
 use report_writer::{Counts, summary_text};
@@ -20,16 +20,16 @@ use run_captures::{Front, Time, put_captures};
 use std::alloc::{AllocError, Global};
 
 /// What is written of a run: the captures, the digests, the registers and the summary.
-pub(crate) fn output_of(
+pub(crate) fn output_of<P: Pass>(
     alloc: Global,
     program: &TypedProgram,
     times: &[Time],
     packets: u32,
     out: &str,
-    log: &RunLog<Switch>,
+    log: &RunLog<P>,
 ) -> Result<Output, AllocError>
-    requires { IsEnd (program_of program.now) (log_view log.now) }
-    ensures { IfOk result (λ o. (j : Job) → IsEndOf j (log_view log.now) → j.program ≡ program_of program.now
+    requires { IsEnd (program_of program.now) (log_view P.program P.tables P.cells log.now) }
+    ensures { IfOk result (λ o. (j : Job) → IsEndOf j (log_view P.program P.tables P.cells log.now) → j.program ≡ program_of program.now
         → j.times ≡ map time_view times.now → length j.packets ≡ packets → IsForwardOutput j out.now (out_of o)) }
 {
     let mut files = Vec::new(alloc);
@@ -46,7 +46,7 @@ pub(crate) fn output_of(
 }
 
 /// The six lines of the summary. No packet is rejected, and nothing is reported.
-fn summary(alloc: Global, packets: u32, log: &RunLog<Switch>) -> Result<String, AllocError>
+fn summary<P>(alloc: Global, packets: u32, log: &RunLog<P>) -> Result<String, AllocError>
     requires { length log.now.edges.items ≤ 100000 }
     ensures { IfOk result (λ s. string_bytes s ≡ summary_of (record {
       packets = packets;

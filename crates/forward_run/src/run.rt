@@ -3,6 +3,7 @@
 ghost use Rattle.std.specs.Prelude.{◌≡◌, ◌≤◌, length, map, All, IfOk, OnOk};
 ghost use Rattle.p4_tree.specs.View.{program_of};
 ghost use Rattle.p4_machine.specs.Buffers.{IsMadeFor};
+ghost use Rattle.p4_printer.specs.CanSpell.{CanSpell};
 ghost use Rattle.p4_tables.specs.Programs.{IsStateOf};
 ghost use Rattle.network_file.specs.Events.{event_of};
 ghost use Rattle.path_runner.specs.Conditions.{IsAtEdge};
@@ -10,11 +11,11 @@ ghost use Rattle.path_runner.specs.Maps.{maps_of};
 ghost use Rattle.path_runner.specs.Nets.{IsSame, RunsTo};
 ghost use Rattle.path_runner.specs.Starts.{Starts, state_before};
 ghost use Rattle.path_runner.specs.Packets.{arrival_of};
+ghost use Rattle.path_runner.specs.Switches.{switch_of};
 ghost use Rattle.path_runner.specs.Views.{state_of};
 ghost use Rattle.job_course.specs.Output.{out_of};
 ghost use Rattle.forward_run.specs.Files.{IsForwardOutput};
 ghost use Rattle.forward_run.specs.Job.{IsEventAmong, IsReady};
-ghost use Rattle.forward_texts.specs.Switches.{switch_view};
 ghost use Rattle.forward_run.specs.Switches.{HasNoMaps, no_maps, switch_before};
 ghost use Rattle.forward_run.specs.Views.{job_of};
 
@@ -23,22 +24,28 @@ use crate::output::output_of;
 use indus_tree::Decl;
 use job_course::Output;
 use network_file::{Event, Network};
-use p4_machine::{FrameBuf, Switch};
+use p4_machine::{FrameBuf, Pass};
 use p4_tables::TableState;
 use p4_types::TypedProgram;
 use path_runner::{Net, Packet};
 use std::alloc::{AllocError, Global};
+use switch_benches::Bench;
 
 /// The greatest length of a frame on a link, in bytes.
 const LINK: u32 = 65_535;
 
 /// Runs the program at every switch, from the first event of the schedule to the end of each packet: the
-/// files of the run in order, and its summary for the sink.
+/// files of the run in order, and its summary for the sink. The switches are those of the bench.
 ///
 /// # Errors
 ///
 /// `AllocError` where memory runs out.
-pub fn run_forward(alloc: Global, job: ForwardJob, out: &str) -> Result<Output, AllocError>
+pub fn run_forward<B: Bench>(
+    alloc: Global,
+    bench: &mut B,
+    job: ForwardJob,
+    out: &str,
+) -> Result<Output, AllocError>
     requires { IsReady (job_of job) }
     ensures { IfOk result (λ o. IsForwardOutput (job_of job) out.now (out_of o)) }
 {
@@ -52,21 +59,23 @@ pub fn run_forward(alloc: Global, job: ForwardJob, out: &str) -> Result<Output, 
         events,
     } = job;
     let count = packets.len() as u32;
-    let mut net = net_before(alloc, &program, network, hops, tables, packets)?;
+    let mut net = net_before(alloc, bench, &program, network, hops, tables, packets)?;
     happen(alloc, &mut net, &events)?;
     let log = net.finish(alloc)?;
     output_of(alloc, &program, &times, count, out, &log)
 }
 
 /// The network before the first event.
-fn net_before(
+fn net_before<B: Bench>(
     alloc: Global,
+    bench: &mut B,
     program: &TypedProgram,
     network: Network,
     hops: u8,
     tables: Vec<TableState>,
     packets: Vec<Packet>,
-) -> Result<Net<Switch>, AllocError>
+) -> Result<Net<B::Unit>, AllocError>
+    requires spelled { CanSpell (program_of program.now) }
     requires hops { 1 ≤ hops }
     requires switches { length tables.items ≡ length network.names }
     requires tables { All (IsStateOf (program_of program.now)) tables.items }
@@ -80,22 +89,24 @@ fn net_before(
     let count = tables.len();
     let bufs = buffers(alloc, program, count)?;
     let none = no_tables(alloc, count)?;
-    let switches = switches(alloc, program, tables)?;
+    let switches = switches(alloc, bench, program, tables)?;
     Net::new(alloc, switches, bufs, network, packets, none, hops, LINK)
 }
 
 /// A switch for each list of tables, which runs the program.
-fn switches(
+fn switches<B: Bench>(
     alloc: Global,
+    bench: &mut B,
     program: &TypedProgram,
     tables: Vec<TableState>,
-) -> Result<Vec<Switch>, AllocError>
-    requires { All (IsStateOf (program_of program.now)) tables.items }
-    ensures { IfOk result (λ v. map switch_view v.items ≡ map (switch_before (program_of program.now)) tables.items) }
+) -> Result<Vec<B::Unit>, AllocError>
+    requires spelled { CanSpell (program_of program.now) }
+    requires tables { All (IsStateOf (program_of program.now)) tables.items }
+    ensures { IfOk result (λ v. map (switch_of B.Unit.program B.Unit.tables B.Unit.cells) v.items ≡ map (switch_before (program_of program.now)) tables.items) }
 {
     let mut switches = Vec::new(alloc);
     for held in tables {
-        let switch = Switch::new(alloc, program.copy(alloc)?, held)?;
+        let switch = bench.build(alloc, program.copy(alloc)?, held)?;
         switches.push(switch)?;
     }
     Ok(switches)
@@ -125,7 +136,11 @@ fn no_tables(alloc: Global, count: usize) -> Result<Vec<Vec<(u32, u32, u32, Decl
 }
 
 /// Events happen, one after the other.
-fn happen(alloc: Global, net: &mut Net<Switch>, events: &[Event]) -> Result<(), AllocError>
+fn happen<P: Pass + Drop>(
+    alloc: Global,
+    net: &mut Net<P>,
+    events: &[Event],
+) -> Result<(), AllocError>
     requires events { All (IsEventAmong (length (state_of net.old).places) (length (state_of net.old).switches)) (map event_of events.now) }
     requires maps { HasNoMaps (state_of net.old) }
     ensures same { IsSame (state_of net.old) (state_of net.new) }

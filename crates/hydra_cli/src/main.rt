@@ -1,7 +1,7 @@
 //! Hydra: runtime verification of networks.
 //!
 //! `main` calls `hydra` of `commands` with the words of the command line, over the system's files and
-//! standard output.
+//! standard output, and a bench of plain switches.
 //!
 //! Not promised: what the system's files and standard output hold.
 #![tactic(auto)]
@@ -11,11 +11,15 @@ use job_course::Status;
 use outside::{RealSink, RealStore, Sink};
 use std::process::ExitCode;
 use std::{env, io};
+use switch_benches::SwitchBench;
 
 fn main(rt: HostRuntime) -> ExitCode {
     let mut out = RealSink::new(&rt);
     let status = match words(&rt) {
-        Ok(words) => hydra(rt.alloc(), &words, &mut RealStore::new(&rt), &mut out),
+        Ok(words) => {
+            let mut store = RealStore::new(&rt);
+            hydra(rt.alloc(), &words, &mut store, &mut out, &mut SwitchBench)
+        }
         Err(Status::BadWords) => {
             let _ = out.put(b"hydra: words\n");
             Status::BadWords

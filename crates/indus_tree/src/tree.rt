@@ -14,7 +14,7 @@ pub enum Ty {
 }
 
 /// What a variable holds.
-#[derive(Debug, Drop)]
+#[derive(Debug)]
 pub enum Shape {
     /// One value.
     One(Ty),
@@ -24,6 +24,17 @@ pub enum Shape {
     SetOf(Vec<Ty>),
     /// A dict, whose keys have these parts, with the type of its values.
     DictOf(Vec<Ty>, Ty),
+}
+
+impl Drop for Shape {
+    fn drop(self) {
+        match self {
+            Shape::One(_) => {}
+            Shape::List(_, _) => {}
+            Shape::SetOf(_first) => {}
+            Shape::DictOf(_first, _) => {}
+        }
+    }
 }
 
 /// Who keeps a variable.
@@ -40,7 +51,7 @@ pub enum DeclKind {
 }
 
 /// A declaration.
-#[derive(Debug, Drop)]
+#[derive(Debug)]
 pub struct Decl {
     pub at: u32,
     pub kind: DeclKind,
@@ -52,6 +63,20 @@ pub struct Decl {
     pub path: Vec<Name>,
     /// Whether a header variable asks if the header at its path is valid.
     pub valid: bool,
+}
+
+impl Drop for Decl {
+    fn drop(self) {
+        let Decl {
+            at: _,
+            kind: _,
+            name: _name,
+            shape: _shape,
+            start: _start,
+            path: _path,
+            valid: _,
+        } = self;
+    }
 }
 
 /// A binary operator.
@@ -105,7 +130,7 @@ impl Op {
 }
 
 /// An expression.
-#[derive(Debug, Drop)]
+#[derive(Debug)]
 pub enum Expr {
     Num(u32, Literal),
     Flag(u32, bool),
@@ -124,8 +149,25 @@ pub enum Expr {
     Cast(u32, u8, Box<Expr>),
 }
 
+impl Drop for Expr {
+    fn drop(self) {
+        match self {
+            Expr::Num(_, _) => {}
+            Expr::Flag(_, _) => {}
+            Expr::Read(_, _first) => {}
+            Expr::Length(_, _first) => {}
+            Expr::Index(_, _first, _second) => {}
+            Expr::Member(_, _first, _second) => {}
+            Expr::Not(_, _first) => {}
+            Expr::Invert(_, _first) => {}
+            Expr::Bin(_, _, _first, _second) => {}
+            Expr::Cast(_, _, _first) => {}
+        }
+    }
+}
+
 /// A statement.
-#[derive(Debug, Drop)]
+#[derive(Debug)]
 pub enum Stmt {
     Assign(u32, Name, Expr),
     /// A sensor array, the index of a cell, and the value that the cell takes.
@@ -141,8 +183,22 @@ pub enum Stmt {
     Report(u32, u16, Vec<Expr>),
 }
 
+impl Drop for Stmt {
+    fn drop(self) {
+        match self {
+            Stmt::Assign(_, _first, _second) => {}
+            Stmt::Cell(_, _first, _second, _third) => {}
+            Stmt::Push(_, _first, _second) => {}
+            Stmt::If(_, _first, _second, _third) => {}
+            Stmt::For(_, _first, _second, _third) => {}
+            Stmt::Reject(_) => {}
+            Stmt::Report(_, _, _first) => {}
+        }
+    }
+}
+
 /// A property: its declarations and its three blocks.
-#[derive(Debug, Drop)]
+#[derive(Debug)]
 pub struct Property {
     pub at: u32,
     /// The edition of the language: 2 where the text begins with `edition 2;`, and else 1.
@@ -154,4 +210,17 @@ pub struct Property {
     pub tele: Vec<Stmt>,
     /// Runs at the packet's last hop.
     pub check: Vec<Stmt>,
+}
+
+impl Drop for Property {
+    fn drop(self) {
+        let Property {
+            at: _,
+            edition: _,
+            decls: _decls,
+            init: _init,
+            tele: _tele,
+            check: _check,
+        } = self;
+    }
 }

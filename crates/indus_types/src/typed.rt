@@ -24,9 +24,14 @@ struct Tabled {
 }
 
 /// A property that breaks no rule. Contracts see it as the property.
-#[derive(Drop)]
 pub struct TypedProperty {
     tabled: Box<Tabled>,
+}
+
+impl Drop for TypedProperty {
+    fn drop(self) {
+        let TypedProperty { tabled: _tabled } = self;
+    }
 }
 
 impl Model for TypedProperty {

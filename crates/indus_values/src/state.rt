@@ -16,15 +16,27 @@ pub enum ControlValue {
 
 /// The variables that travel with a packet: a list for each, in order of declaration. A scalar is a
 /// list of one.
-#[derive(Debug, Drop)]
+#[derive(Debug)]
 pub struct TeleState {
     pub items: Vec<Vec<Bits>>,
 }
 
+impl Drop for TeleState {
+    fn drop(self) {
+        let TeleState { items: _items } = self;
+    }
+}
+
 /// The sensors of a switch: a list for each, in order of declaration. A scalar is a list of one.
-#[derive(Debug, Drop)]
+#[derive(Debug)]
 pub struct SensorState {
     pub cells: Vec<Vec<Bits>>,
+}
+
+impl Drop for SensorState {
+    fn drop(self) {
+        let SensorState { cells: _cells } = self;
+    }
 }
 
 /// What a hop shows.

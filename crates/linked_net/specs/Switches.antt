@@ -1,10 +1,7 @@
 -- Switches that are made of programs and their tables. Read `Conditions` of path_runner before it.
 use Rattle.std.specs.Prelude.{◌≡◌, ◌≤◌, List, [], ◌∷◌, length, All}
 use Rattle.p4_tree.specs.Tree.{Program}
-use Rattle.p4_tree.specs.View.{program_of}
-use Rattle.p4_statements.specs.Runs.{cells_in}
 use Rattle.p4_machine.specs.Buffers.{Buffer, IsMadeFor}
-use Rattle.p4_machine.specs.declared.switch.Switch as code
 use Rattle.p4_tables.specs.State.{Held}
 use Rattle.p4_tables.specs.Programs.{IsStateOf}
 use Rattle.network_run.specs.NetworkRun.{Limits}
@@ -13,12 +10,7 @@ use Rattle.network_file.specs.Network.{Network}
 use Rattle.control_maps.specs.Numbers.{Numbered}
 use Rattle.path_runner.specs.Conditions.{AreMapped, IsAtEdge, most_packets, most_bytes}
 use Rattle.path_runner.specs.Nets.{Switch}
-use Rattle.path_runner.specs.Switches.{switch_of}
 use Rattle.loaded_tables.specs.Loading.{switch_before}
-
--- a switch of the program
-abbrev pub switch_in : code.Switch → Switch
-switch_in x = switch_of (λ s. program_of s.program) (λ s. s.tables) (λ s. cells_in s.registers) x
 
 -- a switch for each program, with its tables, before the first event
 abbrev pub switches_before : List Program → List (List Held) → List Switch

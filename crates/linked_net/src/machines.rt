@@ -1,33 +1,38 @@
 //! The network of switches that run linked programs.
 
-ghost use Rattle.std.specs.Prelude.{◌≡◌, false, map, IfOk};
+ghost use Rattle.std.specs.Prelude.{◌≡◌, false, map, All, IfOk};
 ghost use Rattle.p4_tree.specs.View.{program_of};
+ghost use Rattle.p4_printer.specs.CanSpell.{CanSpell};
 ghost use Rattle.path_runner.specs.Maps.{maps_of};
 ghost use Rattle.path_runner.specs.Packets.{arrival_of};
 ghost use Rattle.path_runner.specs.Starts.{StartsWorlds, state_before};
+ghost use Rattle.path_runner.specs.Switches.{switch_of};
 ghost use Rattle.path_runner.specs.Views.{is_given_up, state_of};
-ghost use Rattle.linked_net.specs.Switches.{AreMadeFor, AreStatesOf, CanStart, switch_in, switches_before};
+ghost use Rattle.linked_net.specs.Switches.{AreMadeFor, AreStatesOf, CanStart, switches_before};
 
 use loaded_tables::Mapped;
 use network_file::Network;
-use p4_machine::{FrameBuf, Switch};
+use p4_machine::FrameBuf;
 use p4_tables::TableState;
 use p4_types::TypedProgram;
 use path_runner::{Net, Packet};
 use std::alloc::{AllocError, Global};
+use switch_benches::Bench;
 
 /// A switch for each program, with its tables.
-fn switches(
+fn switches<B: Bench>(
     alloc: Global,
+    bench: &mut B,
     programs: Vec<TypedProgram>,
     tables: Vec<TableState>,
-) -> Result<Vec<Switch>, AllocError>
-    requires { AreStatesOf (map program_of programs.items) tables.items }
-    ensures { IfOk result (λ v. map switch_in v.items ≡ switches_before (map program_of programs.items) tables.items) }
+) -> Result<Vec<B::Unit>, AllocError>
+    requires spelled { All (λ t. CanSpell (program_of t)) programs.items }
+    requires states { AreStatesOf (map program_of programs.items) tables.items }
+    ensures { IfOk result (λ v. map (switch_of B.Unit.program B.Unit.tables B.Unit.cells) v.items ≡ switches_before (map program_of programs.items) tables.items) }
 {
     let mut switches = Vec::new(alloc);
     for (program, held) in programs.into_iter().zip(tables) {
-        switches.push(Switch::new(alloc, program, held)?)?;
+        switches.push(bench.build(alloc, program, held)?)?;
     }
     Ok(switches)
 }
@@ -44,8 +49,9 @@ fn buffers(alloc: Global, programs: &[TypedProgram]) -> Result<Vec<FrameBuf>, Al
 }
 
 /// The network before the first event, where switches run these programs, with their tables and maps.
-pub(crate) fn net_before(
+pub(crate) fn net_before<B: Bench>(
     alloc: Global,
+    bench: &mut B,
     programs: Vec<TypedProgram>,
     tables: Vec<TableState>,
     maps: Vec<Vec<Mapped>>,
@@ -53,8 +59,9 @@ pub(crate) fn net_before(
     packets: Vec<Packet>,
     hops: u8,
     limit: u32,
-) -> Result<Net<Switch>, AllocError>
-    requires { CanStart network (record { hops = hops; link = limit }) (map program_of programs.items) tables.items
+) -> Result<Net<B::Unit>, AllocError>
+    requires spelled { All (λ t. CanSpell (program_of t)) programs.items }
+    requires start { CanStart network (record { hops = hops; link = limit }) (map program_of programs.items) tables.items
         (maps_of maps.items) (map arrival_of packets.items) }
     ensures state { IfOk result (λ n. state_of n ≡ state_before network (record { hops = hops; link = limit })
         (switches_before (map program_of programs.items) tables.items) (maps_of maps.items) (map arrival_of packets.items)) }
@@ -63,6 +70,6 @@ pub(crate) fn net_before(
     ensures given_up { IfOk result (λ n. is_given_up n ≡ false) }
 {
     let bufs = buffers(alloc, &programs)?;
-    let switches = switches(alloc, programs, tables)?;
+    let switches = switches(alloc, bench, programs, tables)?;
     Net::new(alloc, switches, bufs, network, packets, maps, hops, limit)
 }

@@ -1,8 +1,9 @@
 //! From a job to the net before its first event.
 
-ghost use Rattle.std.specs.Prelude.{◌≡◌, false, map, IfOk};
+ghost use Rattle.std.specs.Prelude.{◌≡◌, false, map, All, IfOk};
 ghost use Rattle.indus_tree.specs.View.{property_of};
 ghost use Rattle.p4_tree.specs.View.{program_of};
+ghost use Rattle.p4_printer.specs.CanSpell.{CanSpell};
 ghost use Rattle.tele_layout.specs.Layouts.{IsLayoutOf};
 ghost use Rattle.path_runner.specs.Views.{is_given_up, state_of};
 ghost use Rattle.linked_starts.specs.Starts.{found_row};
@@ -22,12 +23,13 @@ use indus_types::TypedProperty;
 use linked_jobs::LinkedJob;
 use linked_starts::linked_can_be_loaded;
 use network_file::Event;
-use p4_machine::Switch;
+use p4_machine::Pass;
 use p4_types::TypedProgram;
 use path_runner::Net;
 use program_linker::Linked;
 use run_captures::Time;
 use std::alloc::{AllocError, Global};
+use switch_benches::Bench;
 use tele_layout::Layout;
 
 /// The greatest length of a frame on a link without telemetry, in bytes.
@@ -37,8 +39,8 @@ const LINK: u32 = 65_535;
 /// the property and the given program, the map and the layout of what is linked, the times of the packets,
 /// the schedule, and how many packets there are.
 #[derive(Drop)]
-pub struct Started {
-    pub net: Net<Switch>,
+pub struct Started<P: Pass + Drop> {
+    pub net: Net<P>,
     pub property: TypedProperty,
     pub program: TypedProgram,
     pub map: ControlMap,
@@ -48,15 +50,21 @@ pub struct Started {
     pub packets: u32,
 }
 
-/// The network of a job's linked programs before the first event, with their tables loaded.
+/// The network of a job's linked programs before the first event, with their tables loaded. The switches are
+/// those of the bench.
 ///
 /// # Errors
 ///
 /// `AllocError` where memory runs out.
-pub fn start(alloc: Global, job: LinkedJob) -> Result<Started, AllocError>
+pub fn start<B: Bench>(
+    alloc: Global,
+    bench: &mut B,
+    job: LinkedJob,
+) -> Result<Started<B::Unit>, AllocError>
     requires ready { IsReady (job_of job) }
     requires linked { AreLinked (program_of job.program) (property_of job.property) job.network
         (programs_in job.linked) (map found_row (rows_in job.linked)) }
+    requires spelled { All (λ t. CanSpell (program_of t)) job.linked.programs.items }
     requires layout { IsLayoutOf (property_of job.property) job.linked.layout }
     ensures first { IfOk result (λ s. (l : run.Linked) → AreThese job l → IsFirst (job_of job) l (state_of s.net)) }
     ensures given_up { IfOk result (λ s. is_given_up s.net ≡ false) }
@@ -89,7 +97,9 @@ pub fn start(alloc: Global, job: LinkedJob) -> Result<Started, AllocError>
     let (states, maps) = loaded_switches(
         alloc, &program, &tables, &programs, &map, decls, &contents,
     )?;
-    let net = net_before(alloc, programs, states, maps, network, packets, hops, limit)?;
+    let net = net_before(
+        alloc, bench, programs, states, maps, network, packets, hops, limit,
+    )?;
     Ok(Started {
         net,
         property,

@@ -7,7 +7,7 @@ use Rattle.run_output.specs.Ends.{Parts}
 use Rattle.linked_run.specs.declared.to_end.Finished.{Finished}
 
 -- what was run
-abbrev pub parts_in : Finished → Parts
+abbrev pub parts_in : {P : Type 0} → Finished P → Parts
 parts_in f =
     record {
       programs = map program_of f.programs.items;

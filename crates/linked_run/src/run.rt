@@ -10,18 +10,25 @@ use job_course::Output;
 use linked_jobs::LinkedJob;
 use run_output::{output_of, wire_output_of};
 use std::alloc::{AllocError, Global};
+use switch_benches::Bench;
 
 /// Runs the linked programs at the switches, from the first event of the schedule to the end of each
-/// packet: the files of the run in order, and its summary for the sink.
+/// packet: the files of the run in order, and its summary for the sink. The switches are those of the
+/// bench.
 ///
 /// # Errors
 ///
 /// `AllocError` where memory runs out.
-pub fn run_linked(alloc: Global, job: LinkedJob, out: &str) -> Result<Output, AllocError>
+pub fn run_linked<B: Bench>(
+    alloc: Global,
+    bench: &mut B,
+    job: LinkedJob,
+    out: &str,
+) -> Result<Output, AllocError>
     requires { IsLinkedJob job }
     ensures { IfOk result (λ o. Headline (job_of job) out.now (out_of o)) }
 {
-    let end = run_to_end(alloc, job)?;
+    let end = run_to_end(alloc, bench, job)?;
     let parts = end.parts();
     output_of(alloc, &parts, out, &end.log)
 }
@@ -32,11 +39,16 @@ pub fn run_linked(alloc: Global, job: LinkedJob, out: &str) -> Result<Output, Al
 /// # Errors
 ///
 /// `AllocError` where memory runs out.
-pub fn run_wire(alloc: Global, job: LinkedJob, out: &str) -> Result<Output, AllocError>
+pub fn run_wire<B: Bench>(
+    alloc: Global,
+    bench: &mut B,
+    job: LinkedJob,
+    out: &str,
+) -> Result<Output, AllocError>
     requires { IsLinkedJob job }
     ensures { IfOk result (λ o. WireHeadline (job_of job) out.now (out_of o)) }
 {
-    let end = run_to_end(alloc, job)?;
+    let end = run_to_end(alloc, bench, job)?;
     let parts = end.parts();
     wire_output_of(alloc, &parts, out, &end.log)
 }

@@ -19,26 +19,27 @@ use indus_types::TypedProperty;
 use linked_jobs::LinkedJob;
 use linked_net::{Started, start};
 use network_file::Event;
-use p4_machine::Switch;
+use p4_machine::Pass;
 use p4_types::TypedProgram;
 use path_runner::{Net, RunLog};
 use run_captures::Time;
 use run_headline::linked_programs_keep_the_claims;
 use run_output::RunParts;
 use std::alloc::{AllocError, Global};
+use switch_benches::Bench;
 
 /// A run at its end: what was run, with the property, and its log.
 #[derive(Drop)]
-pub(crate) struct Finished {
+pub(crate) struct Finished<P> {
     pub programs: Vec<TypedProgram>,
     pub map: ControlMap,
     pub property: TypedProperty,
     pub times: Vec<Time>,
     pub packets: u32,
-    pub log: RunLog<Switch>,
+    pub log: RunLog<P>,
 }
 
-impl Finished {
+impl<P> Finished<P> {
     /// What was run.
     pub(crate) fn parts(&self) -> RunParts<'_>
         ensures parts { parts_view result ≡ parts_in self.now }
@@ -56,9 +57,13 @@ impl Finished {
 
 /// Runs the linked programs of a job at the switches, from the first event of the schedule to the end of
 /// each packet.
-pub(crate) fn run_to_end(alloc: Global, job: LinkedJob) -> Result<Finished, AllocError>
+pub(crate) fn run_to_end<B: Bench>(
+    alloc: Global,
+    bench: &mut B,
+    job: LinkedJob,
+) -> Result<Finished<B::Unit>, AllocError>
     requires { IsLinkedJob job }
-    ensures finished { IfOk result (λ f. IsFinished (job_of job) (parts_in f) (log_view f.log)) }
+    ensures finished { IfOk result (λ f. IsFinished (job_of job) (parts_in f) (log_view B.Unit.program B.Unit.tables B.Unit.cells f.log)) }
     ensures spelled { IfOk result (λ f. All (λ t. CanSpell (program_of t)) f.programs.items) }
 {
     linked_programs_keep_the_claims();
@@ -72,7 +77,7 @@ pub(crate) fn run_to_end(alloc: Global, job: LinkedJob) -> Result<Finished, Allo
         events,
         packets,
         ..
-    } = start(alloc, job)?;
+    } = start(alloc, bench, job)?;
     happen(alloc, &mut net, &events)?;
     let log = net.finish(alloc)?;
     Ok(Finished {
@@ -99,7 +104,11 @@ fn copies(alloc: Global, programs: &[TypedProgram]) -> Result<Vec<TypedProgram>,
 }
 
 /// Events happen, one after the other.
-fn happen(alloc: Global, net: &mut Net<Switch>, events: &[Event]) -> Result<(), AllocError>
+fn happen<P: Pass + Drop>(
+    alloc: Global,
+    net: &mut Net<P>,
+    events: &[Event],
+) -> Result<(), AllocError>
     requires { CanHappen (length (state_of net.old).places) (state_of net.old).maps (tables_of (state_of net.old)) (map event_of events.now) }
     ensures same { IsSame (state_of net.old) (state_of net.new) }
     ensures runs { OnOk result (RunsTo (state_of net.old) (map event_of events.now) (state_of net.new)) }

@@ -2,3 +2,4 @@
 pub mod View
 -- What serves the proofs.
 pub mod Bodies
+pub mod Bits

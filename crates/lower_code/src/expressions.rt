@@ -1,6 +1,7 @@
 //! Expressions of flat code in P4.
 
 ghost use Rattle.std.specs.Prelude.{◌≡◌, map, IfOk};
+ghost use Rattle.std.specs.Option.{option_map};
 ghost use Rattle.indus_tree.specs.View.{decl_of, expr_of as indus_expr, exprs_of as indus_exprs};
 ghost use Rattle.p4_tree.specs.Tree as p4;
 ghost use Rattle.p4_tree.specs.declared.statement.PTy.TheVariants as type;
@@ -8,6 +9,7 @@ ghost use Rattle.p4_tree.specs.View.{expr_of};
 ghost use Rattle.lowered_code.specs.Environment.{in_control, rooted_view, tele_path};
 ghost use Rattle.lowered_code.specs.Expressions as code;
 ghost use Rattle.indus_tree.specs.State.{lookup};
+ghost use Rattle.lower_code.specs.Bits.{bit_again, path_again};
 ghost use Rattle.lower_code.specs.View.{environment_of, roots_of};
 ghost use Rattle.lower_reads.specs.View.{declared, lent};
 
@@ -56,29 +58,33 @@ fn of_bits(alloc: Global, ty: Ty, bits: P4Expr) -> Result<P4Expr, AllocError>
     }
 }
 
-/// What is cast to a truth value as one bit: what is read is that bit again.
-fn read_bit(alloc: Global, at: u32, made: P4Expr) -> Result<P4Expr, AllocError>
-    ensures { IfOk result (λ e. expr_of e ≡ code.as_bit (p4.cast at type.Bool (expr_of made))) }
+/// What is read, where that is a path.
+fn path_again(alloc: Global, made: &P4Expr) -> Result<Option<P4Expr>, AllocError>
+    ensures { IfOk result (λ o. option_map expr_of o ≡ path_again (expr_of made.now)) }
 {
     match made {
-        P4Expr::Path(place, names) => Ok(P4Expr::Path(place, names)),
-        other => {
-            let made = Box::new(alloc, other)?;
-            cast(alloc, PTy::Bit(1), P4Expr::Cast(at, PTy::Bool, made))
-        }
+        P4Expr::Path(..) => Ok(Some(made.copy(alloc)?)),
+        P4Expr::Num(..) | P4Expr::Flag(..) | P4Expr::Valid(..) | P4Expr::Applied(..) => Ok(None),
+        P4Expr::ErrorName(..) | P4Expr::Not(..) | P4Expr::Invert(..) | P4Expr::Negate(..) => Ok(
+            None,
+        ),
+        P4Expr::Bin(..) | P4Expr::Choice(..) | P4Expr::Slice(..) | P4Expr::Cast(..) => Ok(None),
     }
 }
 
-/// What is cast as one bit.
-fn cast_bit(alloc: Global, at: u32, ty: PTy, made: P4Expr) -> Result<P4Expr, AllocError>
-    ensures { IfOk result (λ e. expr_of e ≡ code.as_bit (p4.cast at ty (expr_of made))) }
+/// A truth value as one bit, where it is written, or where it is one bit that was read.
+fn bit_again(alloc: Global, value: &P4Expr) -> Result<Option<P4Expr>, AllocError>
+    ensures { IfOk result (λ o. option_map expr_of o ≡ bit_again (expr_of value.now)) }
 {
-    match ty {
-        PTy::Bool => read_bit(alloc, at, made),
-        other => {
-            let made = Box::new(alloc, made)?;
-            cast(alloc, PTy::Bit(1), P4Expr::Cast(at, other, made))
-        }
+    match value {
+        P4Expr::Flag(_, written) => Ok(Some(number(1, u128::from(*written)))),
+        P4Expr::Cast(_, PTy::Bool, made) => path_again(alloc, made),
+        P4Expr::Cast(_, PTy::Bit(_), _) | P4Expr::Cast(_, PTy::Named(_), _) => Ok(None),
+        P4Expr::Num(..) | P4Expr::Path(..) | P4Expr::Valid(..) | P4Expr::Applied(..) => Ok(None),
+        P4Expr::ErrorName(..) | P4Expr::Not(..) | P4Expr::Invert(..) | P4Expr::Negate(..) => Ok(
+            None,
+        ),
+        P4Expr::Bin(..) | P4Expr::Choice(..) | P4Expr::Slice(..) => Ok(None),
     }
 }
 
@@ -86,10 +92,9 @@ fn cast_bit(alloc: Global, at: u32, ty: PTy, made: P4Expr) -> Result<P4Expr, All
 fn as_bit(alloc: Global, value: P4Expr) -> Result<P4Expr, AllocError>
     ensures { IfOk result (λ e. expr_of e ≡ code.as_bit (expr_of value)) }
 {
-    match value {
-        P4Expr::Flag(_, written) => Ok(number(1, u128::from(written))),
-        P4Expr::Cast(at, ty, made) => cast_bit(alloc, at, ty, Box::into_inner(made)),
-        other => cast(alloc, PTy::Bit(1), other),
+    match bit_again(alloc, &value)? {
+        Some(bit) => Ok(bit),
+        None => cast(alloc, PTy::Bit(1), value),
     }
 }
 

@@ -15,11 +15,21 @@ use std::alloc::Global;
 const GREATEST_WEIGHT: u32 = 16_384;
 
 /// The blocks of a property as flat code.
-#[derive(Debug, Drop)]
+#[derive(Debug)]
 pub struct FlatProperty {
     pub init: Vec<Stmt>,
     pub tele: Vec<Stmt>,
     pub check: Vec<Stmt>,
+}
+
+impl Drop for FlatProperty {
+    fn drop(self) {
+        let FlatProperty {
+            init: _init,
+            tele: _tele,
+            check: _check,
+        } = self;
+    }
 }
 
 /// The flat code of a property, unless its weight is over 16,384.

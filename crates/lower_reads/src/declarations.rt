@@ -15,11 +15,19 @@ use lex_text::Name;
 use std::alloc::{AllocError, Global};
 
 /// Declarations. Of those of one name the first counts.
-#[derive(Drop)]
 pub struct Declarations {
     pub decls: Vec<Decl>,
     places: IndexMap<String, usize>,
     ghost placed: { HasPlaces places.entries (map decl_of decls.items) },
+}
+
+impl Drop for Declarations {
+    fn drop(self) {
+        let Declarations {
+            decls: _decls,
+            places: _places,
+        } = self;
+    }
 }
 
 impl Declarations {

@@ -25,9 +25,14 @@ struct Tables {
 
 /// The switches of a network and the links between them. Contracts see it as the names of the
 /// switches, in their order, and the links.
-#[derive(Drop)]
 pub struct Network {
     tables: Box<Tables>,
+}
+
+impl Drop for Network {
+    fn drop(self) {
+        let Network { tables: _tables } = self;
+    }
 }
 
 impl Model for Network {

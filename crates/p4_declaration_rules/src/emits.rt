@@ -27,7 +27,7 @@ fn arg_path(args: &[Arg]) -> Option<&[Name]>
             Some((_, path)) => Some(path),
             None => None,
         },
-        [Arg::Many(_, _)] | [] | [_, _, ..] => None,
+        [Arg::Many(..)] | [] | [_, _, ..] => None,
     }
 }
 

@@ -140,8 +140,8 @@ fn is_default(keys: &[Keyset]) -> bool
     ensures { result ≡ is_default (map keyset_of keys.now) }
 {
     match keys {
-        [Keyset::Any(_)] => true,
-        [Keyset::One(_, _)] | [Keyset::Masked(_, _, _)] | [] | [_, _, ..] => false,
+        [Keyset::Any(..)] => true,
+        [Keyset::One(..)] | [Keyset::Masked(..)] | [] | [_, _, ..] => false,
     }
 }
 

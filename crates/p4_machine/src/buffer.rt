@@ -12,11 +12,20 @@ use std::alloc::{AllocError, Global};
 use std::marker::Model;
 
 /// What comes out of a passage, or of half of one: the frame that goes out, and the digests.
-#[derive(Drop)]
 pub struct FrameBuf {
     pub(crate) frame: Vec<u8>,
     pub(crate) digests: Vec<Digest>,
     needs: Needs,
+}
+
+impl Drop for FrameBuf {
+    fn drop(self) {
+        let FrameBuf {
+            frame: _frame,
+            digests: _digests,
+            needs: _needs,
+        } = self;
+    }
 }
 
 impl Model for FrameBuf {

@@ -8,11 +8,20 @@ use p4_passages::Waiting;
 
 /// A place for a packet of a program that waits for egress, with room for so many bytes that the parser
 /// does not consume.
-#[derive(Drop)]
 pub struct Queued {
     pub(crate) needs: Needs,
     pub(crate) room: u32,
     pub(crate) waiting: Option<Waiting>,
+}
+
+impl Drop for Queued {
+    fn drop(self) {
+        let Queued {
+            needs: _needs,
+            room: _,
+            waiting: _waiting,
+        } = self;
+    }
 }
 
 impl Queued {

@@ -31,13 +31,24 @@ use std::marker::Model;
 use std::mem;
 
 /// A switch that runs a well-typed program, on maps by name.
-#[derive(Drop)]
 pub struct Switch {
     program: TypedProgram,
     parts: Parts,
     registers: Registers,
     tables: TableState,
     needs: Needs,
+}
+
+impl Drop for Switch {
+    fn drop(self) {
+        let Switch {
+            program: _program,
+            parts: _parts,
+            registers: _registers,
+            tables: _tables,
+            needs: _needs,
+        } = self;
+    }
 }
 
 impl Model for Switch {

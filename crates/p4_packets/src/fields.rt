@@ -15,10 +15,18 @@ use p4_values::{Sight, copy_path, field_path, parent, path_of_one, same_path};
 use std::alloc::{AllocError, Global};
 
 /// The words of paths, and which headers are valid. The first entry of a path counts.
-#[derive(Drop)]
 pub struct Fields {
     valid: Vec<(Vec<Name>, bool)>,
     values: Vec<(Vec<Name>, Bits)>,
+}
+
+impl Drop for Fields {
+    fn drop(self) {
+        let Fields {
+            valid: _valid,
+            values: _values,
+        } = self;
+    }
 }
 
 /// A number of the same width that is 0.

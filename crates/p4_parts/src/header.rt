@@ -14,8 +14,16 @@ pub struct Field {
 }
 
 /// A header: its path and its fields in order.
-#[derive(Drop)]
 pub struct Header {
     pub path: Vec<Name>,
     pub fields: Vec<Field>,
+}
+
+impl Drop for Header {
+    fn drop(self) {
+        let Header {
+            path: _path,
+            fields: _fields,
+        } = self;
+    }
 }

@@ -14,10 +14,18 @@ pub struct Cells {
 }
 
 /// What a control runs: the statements that set its variables, and then its body.
-#[derive(Drop)]
 pub struct Body {
     pub locals: Vec<Stmt>,
     pub body: Vec<Stmt>,
+}
+
+impl Drop for Body {
+    fn drop(self) {
+        let Body {
+            locals: _locals,
+            body: _body,
+        } = self;
+    }
 }
 
 /// A parameter of an action: its full name and its bits.
@@ -28,11 +36,20 @@ pub struct Taken {
 }
 
 /// An action by its full name, whose names stand for what they name.
-#[derive(Drop)]
 pub struct Action {
     pub name: Name,
     pub params: Vec<Taken>,
     pub body: Vec<Stmt>,
+}
+
+impl Drop for Action {
+    fn drop(self) {
+        let Action {
+            name: _name,
+            params: _params,
+            body: _body,
+        } = self;
+    }
 }
 
 /// A key of a table, and the name of how it is matched.
@@ -50,7 +67,6 @@ pub struct Chosen {
 }
 
 /// A table by its full name, with the default that is written, and whether it is `const`.
-#[derive(Drop)]
 pub struct Table {
     pub name: Name,
     pub keys: Vec<Key>,
@@ -59,9 +75,20 @@ pub struct Table {
     pub fixed: bool,
 }
 
+impl Drop for Table {
+    fn drop(self) {
+        let Table {
+            name: _name,
+            keys: _keys,
+            actions: _actions,
+            default: _default,
+            fixed: _,
+        } = self;
+    }
+}
+
 /// The parts of a program. Paths begin with fixed roots, and what controls and actions declare has
 /// its full name.
-#[derive(Drop)]
 pub struct Parts {
     pub registers: Vec<Cells>,
     pub headers: Vec<Header>,
@@ -74,4 +101,22 @@ pub struct Parts {
     pub egress: Body,
     pub compute: Body,
     pub emits: Vec<Vec<Name>>,
+}
+
+impl Drop for Parts {
+    fn drop(self) {
+        let Parts {
+            registers: _registers,
+            headers: _headers,
+            metadata: _metadata,
+            states: _states,
+            actions: _actions,
+            tables: _tables,
+            verify: _verify,
+            ingress: _ingress,
+            egress: _egress,
+            compute: _compute,
+            emits: _emits,
+        } = self;
+    }
 }

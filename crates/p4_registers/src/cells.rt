@@ -11,9 +11,14 @@ use std::alloc::{AllocError, Global};
 use std::marker::Model;
 
 /// The cells of a register.
-#[derive(Drop)]
 pub struct Cells {
     cells: Vec<Bits>,
+}
+
+impl Drop for Cells {
+    fn drop(self) {
+        let Cells { cells: _cells } = self;
+    }
 }
 
 impl Model for Cells {

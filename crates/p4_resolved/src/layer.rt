@@ -31,7 +31,6 @@ pub struct Roots {
 
 /// What is declared in a program, or in a parser or a control of it, as far as a place. Of constants
 /// and of typedefs the last of a name counts.
-#[derive(Drop)]
 pub struct Layer {
     pub roots: Roots,
     /// The control, and the names of its registers, tables and actions.
@@ -41,11 +40,31 @@ pub struct Layer {
     pub types: Latest<PTy>,
 }
 
+impl Drop for Layer {
+    fn drop(self) {
+        let Layer {
+            roots: _roots,
+            control: _control,
+            own: _own,
+            constants: _constants,
+            types: _types,
+        } = self;
+    }
+}
+
 /// The action around a place, and all names that it declares.
-#[derive(Drop)]
 pub struct Inner {
     pub action: Name,
     pub names: Names,
+}
+
+impl Drop for Inner {
+    fn drop(self) {
+        let Inner {
+            action: _action,
+            names: _names,
+        } = self;
+    }
 }
 
 /// The roots, where the three parameters stand at these places.

@@ -9,9 +9,14 @@ use lex_text::Name;
 use std::alloc::{AllocError, Global};
 
 /// Names in order, and a table of them.
-#[derive(Drop)]
 pub struct Names {
     rows: Latest<()>,
+}
+
+impl Drop for Names {
+    fn drop(self) {
+        let Names { rows: _rows } = self;
+    }
 }
 
 impl Names {

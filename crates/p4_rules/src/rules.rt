@@ -19,7 +19,6 @@ use p4_tree::Program;
 use std::alloc::{AllocError, Global};
 
 /// What is known of a program.
-#[derive(Drop)]
 pub struct Checked {
     /// The first broken rule and its place, if there is one.
     pub first: Option<(u32, ProgramRule)>,
@@ -29,6 +28,17 @@ pub struct Checked {
     pub digest_bound: u32,
     /// The cells of all registers, as far as 64 bits count them.
     pub cells: u64,
+}
+
+impl Drop for Checked {
+    fn drop(self) {
+        let Checked {
+            first: _first,
+            header_bytes: _,
+            digest_bound: _,
+            cells: _,
+        } = self;
+    }
 }
 
 /// Tests the rules of a program.

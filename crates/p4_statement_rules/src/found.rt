@@ -4,10 +4,18 @@ use crate::rule::ProgramRule;
 use std::alloc::Global;
 
 /// The first broken rule so far, with its place.
-#[derive(Drop)]
 pub struct Found {
     pub first: Option<(u32, ProgramRule)>,
     alloc: Global,
+}
+
+impl Drop for Found {
+    fn drop(self) {
+        let Found {
+            first: _first,
+            alloc: _alloc,
+        } = self;
+    }
 }
 
 impl Found {

@@ -15,10 +15,18 @@ use std::marker::Model;
 
 /// Registers with their cells, and a table of their names. Of those of one name the first counts.
 /// Contracts see the names with the cells, in order.
-#[derive(Drop)]
 pub struct Registers {
     rows: Vec<(Name, Cells)>,
     places: IndexMap<String, usize>,
+}
+
+impl Drop for Registers {
+    fn drop(self) {
+        let Registers {
+            rows: _rows,
+            places: _places,
+        } = self;
+    }
 }
 
 impl Model for Registers {

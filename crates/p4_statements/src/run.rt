@@ -9,10 +9,18 @@ use bit_values::Bits;
 use p4_packets::Fields;
 
 /// What a `digest` hands up: the receiver's number, and the words, nine at most. It takes no memory.
-#[derive(Drop)]
 pub struct Digest {
     pub receiver: u32,
     pub values: ArrayVec<Bits, 9>,
+}
+
+impl Drop for Digest {
+    fn drop(self) {
+        let Digest {
+            receiver: _,
+            values: _values,
+        } = self;
+    }
 }
 
 impl Digest {

@@ -25,11 +25,20 @@ use table_faults::EntryFault;
 use table_shapes::Shape;
 
 /// All tables of a switch. Contracts see what each of them takes and holds, by its number.
-#[derive(Debug, Drop)]
+#[derive(Debug)]
 pub struct TableState {
     tables: Vec<Held>,
     /// The number of all entries.
     count: u32,
+}
+
+impl Drop for TableState {
+    fn drop(self) {
+        let TableState {
+            tables: _tables,
+            count: _,
+        } = self;
+    }
 }
 
 impl Model for TableState {

@@ -30,9 +30,14 @@ struct Tabled {
 }
 
 /// A program that breaks no rule. Contracts see it as the program.
-#[derive(Drop)]
 pub struct TypedProgram {
     tabled: Box<Tabled>,
+}
+
+impl Drop for TypedProgram {
+    fn drop(self) {
+        let TypedProgram { tabled: _tabled } = self;
+    }
 }
 
 impl Model for TypedProgram {

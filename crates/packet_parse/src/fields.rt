@@ -17,7 +17,6 @@ pub struct StdMeta {
 
 /// What is in sight at one place of a program. The first member of a path counts. Constants at top
 /// level come from the program.
-#[derive(Drop)]
 pub struct Fields {
     /// Whether each header is valid.
     pub valid: Vec<(Vec<Name>, bool)>,
@@ -27,4 +26,15 @@ pub struct Fields {
     /// The name of the standard metadata; empty where it is not in sight.
     pub std_name: Name,
     pub std: StdMeta,
+}
+
+impl Drop for Fields {
+    fn drop(self) {
+        let Fields {
+            valid: _valid,
+            values: _values,
+            std_name: _std_name,
+            std: _std,
+        } = self;
+    }
 }

@@ -11,7 +11,6 @@ pub struct Packet {
 }
 
 /// A frame that a switch sent by a port. Packets are numbered from 0.
-#[derive(Drop)]
 pub struct Sent {
     pub packet: u32,
     pub switch: u16,
@@ -19,10 +18,30 @@ pub struct Sent {
     pub frame: Vec<u8>,
 }
 
+impl Drop for Sent {
+    fn drop(self) {
+        let Sent {
+            packet: _,
+            switch: _,
+            port: _,
+            frame: _frame,
+        } = self;
+    }
+}
+
 /// A digest, with the packet and the switch that it comes from.
-#[derive(Drop)]
 pub struct Told {
     pub packet: u32,
     pub switch: u16,
     pub digest: Digest,
+}
+
+impl Drop for Told {
+    fn drop(self) {
+        let Told {
+            packet: _,
+            switch: _,
+            digest: _digest,
+        } = self;
+    }
 }

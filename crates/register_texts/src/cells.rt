@@ -1,17 +1,15 @@
 //! The cells of a switch's registers.
 
 ghost use Rattle.std.specs.Prelude.{◌≡◌, map, length, slice_get, Some, IfOk, string_bytes};
-ghost use Rattle.p4_tree.specs.View.{program_of};
 ghost use Rattle.p4_meaning.specs.Parts.{parts_of};
 ghost use Rattle.p4_parts.specs.PartsIn.{cells_decl};
-ghost use Rattle.p4_statements.specs.Runs.{cells_in};
 ghost use Rattle.report_writer.specs.Texts.{cells_of};
 ghost use Rattle.register_texts.specs.Rows.{cell_if, cells_from, first_cell, register_cells, registers_cells};
 ghost use Rattle.register_texts.specs.Which.{is_one_of};
 
 use crate::which::Which;
 use bit_values::Bits;
-use p4_machine::{Pass, Switch};
+use p4_machine::Pass;
 use p4_parts::Cells;
 use p4_values::same_text;
 use report_writer::{CellRow, cells_text};
@@ -50,17 +48,17 @@ fn cell_text<'a>(
 }
 
 /// The cells of a register that are not 0, which is shown by this name.
-fn register_text(
+fn register_text<P: Pass>(
     alloc: Global,
     name: &str,
     shown: &str,
-    switch: &Switch,
+    switch: &P,
     number: u32,
     register: &Cells,
 ) -> Result<String, AllocError>
-    requires { slice_get (parts_of (program_of switch.now.program)).registers number ≡ Some (cells_decl register.now) }
+    requires { slice_get (parts_of (P.program switch.now)).registers number ≡ Some (cells_decl register.now) }
     ensures { IfOk result (λ s. string_bytes s ≡ cells_of (cells_from name.now shown.now
-        (cells_in switch.now.registers register.now.name) 0 register.now.count)) }
+        (P.cells switch.now register.now.name) 0 register.now.count)) }
 {
     let mut text = String::new(alloc);
     for index in 0..numbered(register.count)? {
@@ -72,18 +70,18 @@ fn register_text(
 }
 
 /// The same, where the register is meant.
-fn meant_text(
+fn meant_text<P: Pass>(
     alloc: Global,
     which: Which,
     name: &str,
     shown: &str,
-    switch: &Switch,
+    switch: &P,
     number: u32,
     register: &Cells,
 ) -> Result<String, AllocError>
-    requires { slice_get (parts_of (program_of switch.now.program)).registers number ≡ Some (cells_decl register.now) }
+    requires { slice_get (parts_of (P.program switch.now)).registers number ≡ Some (cells_decl register.now) }
     ensures { IfOk result (λ s. string_bytes s ≡ cells_of (register_cells (is_one_of which) name.now
-        (cells_in switch.now.registers) shown.now (cells_decl register.now))) }
+        (P.cells switch.now) shown.now (cells_decl register.now))) }
 {
     if which.has(shown) {
         register_text(alloc, name, shown, switch, number, register)
@@ -94,17 +92,17 @@ fn meant_text(
 
 /// The cells of some registers of a switch that are not 0, a line each. `names` and `registers` are those
 /// of its program.
-pub fn switch_text(
+pub fn switch_text<P: Pass>(
     alloc: Global,
     which: Which,
     name: &str,
-    switch: &Switch,
+    switch: &P,
     names: &[String],
     registers: &[Cells],
 ) -> Result<String, AllocError>
     requires names { length names.now ≡ length registers.now }
-    requires registers { (parts_of (program_of switch.now.program)).registers ≡ map cells_decl registers.now }
-    ensures { IfOk result (λ s. string_bytes s ≡ cells_of (registers_cells (is_one_of which) name.now (cells_in switch.now.registers)
+    requires registers { (parts_of (P.program switch.now)).registers ≡ map cells_decl registers.now }
+    ensures { IfOk result (λ s. string_bytes s ≡ cells_of (registers_cells (is_one_of which) name.now (P.cells switch.now)
         (map string_bytes names.now) (map cells_decl registers.now))) }
 {
     let mut text = String::new(alloc);
@@ -119,10 +117,10 @@ pub fn switch_text(
 
 /// The number in the first cell of the register of a full name; 0 where there is none. `registers` are
 /// those of the switch's program.
-pub fn first_cell(switch: &Switch, registers: &[Cells], name: &str) -> Result<u128, AllocError>
-    requires { (parts_of (program_of switch.now.program)).registers ≡ map cells_decl registers.now }
+pub fn first_cell<P: Pass>(switch: &P, registers: &[Cells], name: &str) -> Result<u128, AllocError>
+    requires { (parts_of (P.program switch.now)).registers ≡ map cells_decl registers.now }
     ensures { IfOk result (λ n. n ≡ first_cell (map cells_decl registers.now)
-        (cells_in switch.now.registers) name.now) }
+        (P.cells switch.now) name.now) }
 {
     for number in 0..numbered(registers.len() as u128)? {
         if same_text(registers[number as usize].name.as_str(), name) {

@@ -1,9 +1,6 @@
 -- What is read of a case can be linked, where there is no fault.
 use Rattle.std.proofs.Common.{◌≡◌, ℕ, zero, suc, ◌+◌, ◌*◌, ◌<◌, ◌≤◌, ◌^◌, List, length, sym, subst, ◌∙◌, arith}
 use Rattle.std.proofs.Math.Nat.{suc-mul}
-use Rattle.lex_text.specs.declared.token.Words.TheVariants.{P4}
-use Rattle.lex_words.specs.Seen.{lexemes_of}
-use Rattle.lex_words.proofs.FairLexemes.{tokens_are_lexemes}
 use Rattle.indus_tree.specs.Tree.{Property}
 use Rattle.indus_tree.specs.Reports.{HasReportsBelow}
 use Rattle.indus_reader.proofs.ReportNumbers.{reports_are_below}
@@ -11,11 +8,9 @@ use Rattle.indus_rules.specs.Rules as indus
 use Rattle.flat_laws.specs.Meaning.{IsPlainProperty}
 use Rattle.plain_texts.specs.Texts.{TextsArePlain, TextsDeclareWords}
 use Rattle.p4_tree.specs.Tree.{Program}
-use Rattle.p4_decls.specs.Faults.{IsProgram}
 use Rattle.p4_rules.specs.Limits.{cells}
 use Rattle.p4_rules.specs.ProgramRules.{IsWellTyped}
 use Rattle.p4_printer.specs.CanSpell.{CanSpell}
-use Rattle.p4_printer.proofs.StructuredPrograms.{spelled_can_be}
 use Rattle.faultless_programs.specs.Within.{LeavesRoom}
 use Rattle.linked_properties.specs.Linked.{AreTextNames}
 use Rattle.network_file.specs.Network.{Network}
@@ -24,6 +19,7 @@ use Rattle.job_course.specs.Course.{and_then}
 use Rattle.property_course.specs.Files.{IsOfText, typed_property}
 use Rattle.property_course.proofs.Checking.{is_of_text}
 use Rattle.program_course.specs.Files.{IsInLimits, forwarding_program}
+use Rattle.program_course.proofs.Spelling.{can_be_spelled}
 use Rattle.case_course.specs.Course.{Ground, ground_course}
 
 -- ---- the property
@@ -59,9 +55,6 @@ pub record IsFitProgram (p : Program) : Type 0 where
   pub spelled : CanSpell p
   pub leaves : LeavesRoom p
 
-program_can : (text : List ℕ) (t : Program) → IsProgram text t → CanSpell t
-program_can text t h = spelled_can_be t (record { lexemes = lexemes_of P4 text h.list; fair = tokens_are_lexemes P4 text h.list h.tokens; spells = h.holds.spells })
-
 program_is_fit : (name : List ℕ) (p : Program) → cells p ≤ 4194304 → (forwarding_program name).may p → IsFitProgram p
 unfolding and_then
 program_is_fit name p few (tree, (whole, (text, short, spells), typed), limits) =
@@ -70,7 +63,7 @@ program_is_fit name p few (tree, (whole, (text, short, spells), typed), limits) 
     let within : IsInLimits p = subst IsInLimits (sym limits.0) limits.1 in
     record {
       typed = subst Q (sym is) typed.1;
-      spelled = subst CanSpell (sym is) (program_can text whole spells);
+      spelled = can_be_spelled name p (tree, (whole, (text, short, spells), typed), limits);
       leaves = record { bytes = within.headers; digests = within.digests; cells = few };
     }
 

@@ -11,20 +11,21 @@ ghost use Rattle.path_runner.specs.Conditions.{most_packets};
 ghost use Rattle.path_runner.specs.Packets.{sent_of, told_of};
 ghost use Rattle.run_captures.specs.Views.{time_view};
 ghost use Rattle.report_writer.specs.Texts.{summary_of};
-ghost use Rattle.forward_texts.specs.Switches.{KeepAll, log_view, switch_view};
+ghost use Rattle.forward_texts.specs.Switches.{KeepAll, log_view};
 ghost use Rattle.run_texts.specs.Files.{linked_files, sent_files};
 ghost use Rattle.run_texts.specs.Registers.{programs_in, rejected_from};
 ghost use Rattle.run_texts.specs.Told.{digests_lines, reports_lines};
 ghost use Rattle.run_output.specs.Counted.{counts_in};
 ghost use Rattle.run_output.specs.Ends.{IsEnd, IsOutput, IsShort};
 ghost use Rattle.run_output.specs.Views.{parts_view};
+ghost use Rattle.path_runner.specs.Switches.{switch_of};
 
 use control_tables::ControlMap;
 use forward_texts::put_text;
 use indus_tree::Decl;
 use job_course::Output;
 use network_file::Network;
-use p4_machine::Switch;
+use p4_machine::Pass;
 use p4_types::TypedProgram;
 use path_runner::RunLog;
 use report_writer::{Counts, summary_text};
@@ -48,15 +49,15 @@ pub struct RunParts<'a> {
 /// # Errors
 ///
 /// `AllocError` where memory runs out.
-pub fn output_of(
+pub fn output_of<P: Pass>(
     alloc: Global,
     parts: &RunParts<'_>,
     out: &str,
-    log: &RunLog<Switch>,
+    log: &RunLog<P>,
 ) -> Result<Output, AllocError>
-    requires end { IsEnd (parts_view parts.now).programs (log_view log.now) }
+    requires end { IsEnd (parts_view parts.now).programs (log_view P.program P.tables P.cells log.now) }
     requires spelled { All (λ t. CanSpell (program_of t)) parts.now.programs.now }
-    ensures { IfOk result (λ o. IsOutput out.now (parts_view parts.now) (log_view log.now) (out_of o)) }
+    ensures { IfOk result (λ o. IsOutput out.now (parts_view parts.now) (log_view P.program P.tables P.cells log.now) (out_of o)) }
 {
     let mut files = Vec::new(alloc);
     put_linked(
@@ -79,12 +80,12 @@ pub fn output_of(
 }
 
 /// The captures of the frames on links, and of those that left.
-fn put_sent(
+fn put_sent<P>(
     alloc: Global,
     files: &mut Vec<(String, Vec<u8>)>,
     parts: &RunParts<'_>,
     out: &str,
-    log: &RunLog<Switch>,
+    log: &RunLog<P>,
 ) -> Result<(), AllocError>
     requires wires { All IsShort (map sent_of log.now.wires.items) }
     requires edges { All IsShort (map sent_of log.now.edges.items) }
@@ -100,11 +101,11 @@ fn put_sent(
 }
 
 /// The files of reports and of the other digests.
-fn put_told(
+fn put_told<P>(
     alloc: Global,
     files: &mut Vec<(String, Vec<u8>)>,
     out: &str,
-    log: &RunLog<Switch>,
+    log: &RunLog<P>,
 ) -> Result<(), AllocError>
     ensures { OnOk result (files_of files.new.items ≡ files_of files.old.items
         ++ (out.now ++ codes ".reports.txt", reports_lines log.now.net.names (map told_of log.now.told.items))
@@ -118,17 +119,17 @@ fn put_told(
 }
 
 /// The six lines of the summary. Dropped are those that were not rejected.
-pub(crate) fn summary(
+pub(crate) fn summary<P: Pass>(
     alloc: Global,
     parts: &RunParts<'_>,
-    log: &RunLog<Switch>,
+    log: &RunLog<P>,
 ) -> Result<String, AllocError>
     requires count { length log.now.switches.items ≡ length log.now.net.names }
-    requires programs { programs_in (map switch_view log.now.switches.items) ≡ (parts_view parts.now).programs }
+    requires programs { programs_in (map (switch_of P.program P.tables P.cells) log.now.switches.items) ≡ (parts_view parts.now).programs }
     requires few { length log.now.edges.items ≤ most_packets }
-    ensures { IfOk result (λ s. (keeps : ℕ → Kept) → KeepAll keeps (map switch_view log.now.switches.items)
+    ensures { IfOk result (λ s. (keeps : ℕ → Kept) → KeepAll keeps (map (switch_of P.program P.tables P.cells) log.now.switches.items)
         → string_bytes s ≡ summary_of (counts_in parts.now.packets
-        (cast 32 (rejected_from (parts_view parts.now).programs keeps 0)) (log_view log.now).traffic)) }
+        (cast 32 (rejected_from (parts_view parts.now).programs keeps 0)) (log_view P.program P.tables P.cells log.now).traffic)) }
 {
     let all = rejected(alloc, &log.net, parts.programs, &log.switches)?;
     let rejected = (all % 4_294_967_296) as u32;

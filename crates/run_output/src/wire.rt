@@ -12,7 +12,7 @@ ghost use Rattle.run_output.specs.Views.{parts_view};
 
 use crate::output::{RunParts, summary};
 use job_course::Output;
-use p4_machine::Switch;
+use p4_machine::Pass;
 use path_runner::{RunLog, Sent};
 use run_texts::{put_programs, reports_text};
 use std::alloc::{AllocError, Global};
@@ -23,15 +23,15 @@ use std::alloc::{AllocError, Global};
 /// # Errors
 ///
 /// `AllocError` where memory runs out.
-pub fn wire_output_of(
+pub fn wire_output_of<P: Pass>(
     alloc: Global,
     parts: &RunParts<'_>,
     out: &str,
-    log: &RunLog<Switch>,
+    log: &RunLog<P>,
 ) -> Result<Output, AllocError>
-    requires end { IsEnd (parts_view parts.now).programs (log_view log.now) }
+    requires end { IsEnd (parts_view parts.now).programs (log_view P.program P.tables P.cells log.now) }
     requires spelled { All (λ t. CanSpell (program_of t)) parts.now.programs.now }
-    ensures { IfOk result (λ o. IsWire out.now (parts_view parts.now) (log_view log.now) (out_of o)) }
+    ensures { IfOk result (λ o. IsWire out.now (parts_view parts.now) (log_view P.program P.tables P.cells log.now) (out_of o)) }
 {
     let mut files = Vec::new(alloc);
     put_programs(alloc, &mut files, out, &log.net, parts.programs)?;

@@ -1,16 +1,15 @@
 -- Which statements of a control have steps, by the places in sight. Read `StepRuns` of `slot_controls` before it, and
 -- `Known` of `slot_statements`.
-use Rattle.std.specs.Prelude.{codes, ℕ, length, List, [], ◌∷◌, Bool, true, false, ◌&&◌, is_some, Option, Some, None, if◌then◌else◌, nat_eq, slice_get}
+use Rattle.std.specs.Prelude.{ℕ, length, List, [], ◌∷◌, Bool, true, false, not, ◌&&◌, ◌||◌, is_some, Option, Some, None, nat_eq, slice_get}
 use Rattle.std.specs.Option.{option_and_then}
-use Rattle.lex_text.specs.Names.{same_text}
-use Rattle.p4_tree.specs.Tree.{Expr, Arg, Stmt, Stmts, MaybeStmt, nothing, block, var, assign, choice, return_, exit_, call, done, next, without, otherwise}
-use Rattle.p4_meaning.specs.Standard.{egress_spec}
-use Rattle.p4_meaning.specs.Statements.{values_in, application}
+use Rattle.p4_tree.specs.Tree.{Expr, Stmt, Stmts, MaybeStmt, nothing, block, var, assign, choice, return_, exit_, call, done, next, without, otherwise}
+use Rattle.p4_meaning.specs.Standard.{egress_spec, checksum_error, is_assignable}
+use Rattle.p4_meaning.specs.Statements.{Act, makes, drops, reads, writes, tells, sums, runs, applies, idle, act_of, application}
 use Rattle.p4_meaning.specs.Actions.{Action, action_named}
 use Rattle.p4_meaning.specs.Tables.{Table, table_named}
 use Rattle.slot_terms.specs.Places.{Place, Places, place_at, header_number}
 use Rattle.slot_terms.specs.Known.{is_known}
-use Rattle.slot_statements.specs.Known.{only_if, places_behind, is_known_call, are_known_keys}
+use Rattle.slot_statements.specs.Known.{only_if, places_behind, is_known_call, is_known_target, are_known_keys}
 use Rattle.slot_controls.specs.Callees.{Callees}
 use Rattle.slot_control_codes.specs.declared.statements.Asked as code_asked
 
@@ -22,6 +21,16 @@ asked_of a = (a.table.now, a.hit)
 abbrev pub has_port : Option Place → Bool
 has_port None = false
 has_port (Some r) = nat_eq r.width 9
+
+-- the error of checksums has a place of one bit
+abbrev pub has_error : Option Place → Bool
+has_error None = false
+has_error (Some r) = nat_eq r.width 1
+
+-- the paths in some expressions have places
+abbrev pub are_known : Places → List Expr → Bool
+are_known m [] = true
+are_known m (e ∷ es) = is_known m e && are_known m es
 
 module _ (k : Callees) where
   -- the fields of a header have slots
@@ -40,33 +49,18 @@ module _ (k : Callees) where
   can_apply None m = true
   can_apply (Some t) m = nat_eq (length m.rows) k.rows && are_known_keys m t.keys
 
-  -- a call by one name has a step: mark_to_drop and an action's; digests and checksums have none here
-  abbrev pub has_named : List ℕ → List Arg → Places → Bool
-  has_named x args m =
-      if same_text x (codes "mark_to_drop") then has_port (place_at m.rows egress_spec) else
-      if same_text x (codes "digest") then false else
-      if same_text x (codes "verify_checksum") then false else
-      if same_text x (codes "update_checksum") then false else can_run (action_named k.actions x) (values_in args) m
-
-  -- a call on a table has a step; the reads and writes of registers have none here
-  abbrev pub has_on : List ℕ → (verb : List ℕ) → Places → Bool
-  has_on x verb m =
-      if same_text verb (codes "read") then false else
-      if same_text verb (codes "write") then false else
-      if same_text verb (codes "apply") then can_apply (table_named k.tables x) m else false
-
-  -- setValid and setInvalid of a header have a step
-  abbrev pub has_on_header : (header : List (List ℕ)) → (verb : List ℕ) → Places → Bool
-  has_on_header h verb m =
-      if same_text verb (codes "setValid") then has_slots (header_number m.headers h) else
-      if same_text verb (codes "setInvalid") then has_slots (header_number m.headers h) else false
-
-  -- a call has a step; one of another form, which does nothing, has none here
-  abbrev pub has_call : List (List ℕ) → List Arg → Places → Bool
-  has_call (x ∷ []) args m = has_named x args m
-  has_call (x ∷ verb ∷ []) args m = has_on x verb m
-  has_call (x ∷ y ∷ verb ∷ []) args m = has_on_header (x ∷ y ∷ []) verb m
-  has_call _ args m = false
+  -- what a call is for has a step: the paths that it names have places, and nothing else is wanting
+  abbrev pub has_act : Act → Places → Bool
+  has_act (makes h b) m = has_slots (header_number m.headers h)
+  has_act drops m = has_port (place_at m.rows egress_spec)
+  has_act (reads x t i) m = is_known_target m t i
+  has_act (writes x i v) m = is_known m i && is_known m v
+  has_act (tells n es) m = are_known m es
+  has_act (sums true c es field) m = has_error (place_at m.rows checksum_error) && (is_known m c && (are_known m es && is_some (place_at m.rows field)))
+  has_act (sums false c es field) m = not (is_assignable field) || (is_some (place_at m.rows field) && (is_known m c && are_known m es))
+  has_act (runs x es) m = can_run (action_named k.actions x) es m
+  has_act (applies x) m = can_apply (table_named k.tables x) m
+  has_act idle m = true
 
   -- a test has a term, or the table that it applies can be applied
   abbrev pub can_test : Option (List ℕ × Bool) → Expr → Places → Bool
@@ -83,7 +77,7 @@ module _ (k : Callees) where
     steps_behind (choice p e a b) m = only_if (can_test (application e) e m && (is_some (steps_behind a m) && has_step_else b m)) m
     steps_behind (return_ p) m = Some m
     steps_behind (exit_ p) m = Some m
-    steps_behind (call p callee args) m = only_if (has_call callee args m) m
+    steps_behind (call p callee args) m = only_if (has_act (act_of callee args) m) m
 
     -- whether an `else`, where there is one, has a step
     pub has_step_else : MaybeStmt → Places → Bool

@@ -1,28 +1,30 @@
-//! The steps of calls.
+//! The steps of calls, by what they are for.
 
 ghost use Rattle.std.specs.Prelude.{◌≡◌, ◌++◌, ◌∷◌, [], List, map, true, false, IfOk, IfErr, OnOk};
-ghost use Rattle.p4_tree.specs.Tree as tree;
 ghost use Rattle.p4_tree.specs.View.{arg_of, expr_of};
 ghost use Rattle.p4_meaning.specs.Actions as actions;
 ghost use Rattle.p4_meaning.specs.Standard.{egress_spec};
-ghost use Rattle.p4_meaning.specs.Statements.{act_named, act_of, act_on, act_on_header, applies as tree_applies, drops, makes as tree_makes, runs, values_in};
+ghost use Rattle.p4_meaning.specs.Statements.{applies as tree_applies, drops, idle, makes as tree_makes, runs, values_in};
 ghost use Rattle.p4_meaning.specs.Tables as tables;
 ghost use Rattle.slot_terms.specs.Places as sight;
 ghost use Rattle.slot_terms.specs.Places.{IsLaid, places_of};
 ghost use Rattle.slot_terms.specs.declared.fault.Fault.TheVariants.{Unknown};
 ghost use Rattle.slot_terms.specs.Terms.{constant};
-ghost use Rattle.slot_statements.specs.Codes.{code_of, set};
+ghost use Rattle.slot_statements.specs.Codes.{code_of, set, skip};
 ghost use Rattle.slot_controls.specs.Steps.{application_of, applies, makes, plain, slots_of, step_of};
 ghost use Rattle.slot_controls.specs.StepRuns.{DoesAct};
 ghost use Rattle.slot_control_codes.specs.Callees.{callees_of};
-ghost use Rattle.slot_control_codes.specs.Known.{can_apply, can_run, has_call, has_named, has_on, has_on_header, has_port, has_slots};
+ghost use Rattle.slot_control_codes.specs.Acts.{act_in};
+ghost use Rattle.slot_control_codes.specs.Known.{can_apply, can_run, has_act, has_port, has_slots};
 
 use crate::callees::{Callees, application};
+use crate::calls::Act;
+use crate::externs::{read_step, tell_step, write_step};
+use crate::sums::{update_step, verify_step};
 use lex_text::Name;
 use p4_packets::standard_path;
 use p4_parts::action_named;
 use p4_tree::{Arg, Expr};
-use p4_values::{parent, same_text};
 use slot_controls::{Application, HeaderSlots, Step};
 use slot_statements::{Code, call_code};
 use slot_terms::{Fault, Places, Term, header_number, place_at};
@@ -33,6 +35,13 @@ pub fn plain_step(c: Code) -> Step
     ensures { step_of result ≡ plain (code_of c) }
 {
     Step::Plain(c)
+}
+
+/// The step that does nothing.
+pub fn skip_step() -> Step
+    ensures { step_of result ≡ plain skip }
+{
+    plain_step(Code::Skip)
 }
 
 /// An application as a step.
@@ -69,6 +78,13 @@ fn values_in(alloc: Global, args: &[Arg]) -> Result<Vec<Expr>, AllocError>
         }
     }
     Ok(values)
+}
+
+/// The step of a call that does nothing.
+fn idle_step(_places: &Places, _k: &Callees<'_>) -> Step
+    ensures { DoesAct (callees_of _k.now) (places_of _places.now) (step_of result) idle }
+{
+    plain_step(Code::Skip)
 }
 
 /// The step of an action's call. That of none does nothing.
@@ -155,97 +171,34 @@ fn validity_step(
     }
 }
 
-/// The step of a call by one name.
-fn named_step(
+/// The step of what a call is for.
+pub fn act_step(
     alloc: Global,
     places: &mut Places,
     k: &Callees<'_>,
-    x: &str,
-    args: &[Arg],
+    act: Act<'_>,
 ) -> Result<Step, Fault>
     requires { IsLaid (places_of places.old) }
     ensures same { OnOk result (places_of places.new ≡ places_of places.old) }
-    ensures known { OnOk result (has_named (callees_of k.now) x.now (map arg_of args.now) (places_of places.old) ≡ true) }
-    ensures does { IfOk result (λ c. DoesAct (callees_of k.now) (places_of places.old) (step_of c) (act_named x.now (map arg_of args.now))) }
-    ensures blames { IfErr result (λ f. f ≡ Unknown → has_named (callees_of k.now) x.now (map arg_of args.now) (places_of places.old) ≡ false) }
+    ensures known { OnOk result (has_act (callees_of k.now) (act_in act.entry) (places_of places.old) ≡ true) }
+    ensures does { IfOk result (λ c. DoesAct (callees_of k.now) (places_of places.old) (step_of c) (act_in act.entry)) }
+    ensures blames { IfErr result (λ f. f ≡ Unknown → has_act (callees_of k.now) (act_in act.entry) (places_of places.old) ≡ false) }
 {
-    if same_text(x, "mark_to_drop") {
-        drop_step(alloc, places, k)
-    } else if same_text(x, "digest") {
-        Err(Fault::Unknown)
-    } else if same_text(x, "verify_checksum") {
-        Err(Fault::Unknown)
-    } else if same_text(x, "update_checksum") {
-        Err(Fault::Unknown)
-    } else {
-        action_step(alloc, places, k, x, args)
-    }
-}
-
-/// The step of a call on a register or a table.
-fn verb_step(
-    alloc: Global,
-    places: &Places,
-    k: &Callees<'_>,
-    x: &str,
-    verb: &str,
-) -> Result<Step, Fault>
-    ensures known { OnOk result (has_on (callees_of k.now) x.now verb.now (places_of places.now) ≡ true) }
-    ensures does { (args : List tree.Arg) → IfOk result (λ c. DoesAct (callees_of k.now) (places_of places.now) (step_of c) (act_on x.now verb.now args)) }
-    ensures blames { IfErr result (λ f. f ≡ Unknown → has_on (callees_of k.now) x.now verb.now (places_of places.now) ≡ false) }
-{
-    if same_text(verb, "read") {
-        Err(Fault::Unknown)
-    } else if same_text(verb, "write") {
-        Err(Fault::Unknown)
-    } else if same_text(verb, "apply") {
-        table_step(alloc, places, k, x)
-    } else {
-        Err(Fault::Unknown)
-    }
-}
-
-/// The step of a call on a header.
-fn header_step(places: &Places, k: &Callees<'_>, header: &[Name], verb: &str) -> Result<Step, Fault>
-    requires { IsLaid (places_of places.now) }
-    ensures known { OnOk result (has_on_header (callees_of k.now) header.now verb.now (places_of places.now) ≡ true) }
-    ensures does { IfOk result (λ c. DoesAct (callees_of k.now) (places_of places.now) (step_of c) (act_on_header header.now verb.now)) }
-    ensures blames { IfErr result (λ f. f ≡ Unknown → has_on_header (callees_of k.now) header.now verb.now (places_of places.now) ≡ false) }
-{
-    if same_text(verb, "setValid") {
-        validity_step(places, k, header, true)
-    } else if same_text(verb, "setInvalid") {
-        validity_step(places, k, header, false)
-    } else {
-        Err(Fault::Unknown)
-    }
-}
-
-/// The step of a call.
-pub fn call_step(
-    alloc: Global,
-    places: &mut Places,
-    k: &Callees<'_>,
-    callee: &[Name],
-    args: &[Arg],
-) -> Result<Step, Fault>
-    requires { IsLaid (places_of places.old) }
-    ensures same { OnOk result (places_of places.new ≡ places_of places.old) }
-    ensures known { OnOk result (has_call (callees_of k.now) callee.now (map arg_of args.now) (places_of places.old) ≡ true) }
-    ensures does { IfOk result (λ c. DoesAct (callees_of k.now) (places_of places.old) (step_of c) (act_of callee.now (map arg_of args.now))) }
-    ensures blames { IfErr result (λ f. f ≡ Unknown → has_call (callees_of k.now) callee.now (map arg_of args.now) (places_of places.old) ≡ false) }
-{
-    match callee {
-        [] => Err(Fault::Unknown),
-        [x, rest @ ..] => match rest {
-            [] => named_step(alloc, places, k, x.as_str(), args),
-            [y, rest @ ..] => match rest {
-                [] => verb_step(alloc, places, k, x.as_str(), y.as_str()),
-                [verb, rest @ ..] => match rest {
-                    [] => header_step(places, k, parent(callee), verb.as_str()),
-                    [_fourth, _others @ ..] => Err(Fault::Unknown),
-                },
-            },
-        },
+    match act {
+        Act::Make(header, valid) => validity_step(places, k, header, valid),
+        Act::Drop => drop_step(alloc, places, k),
+        Act::Read(x, target, index) => read_step(alloc, places, k, x, target, index),
+        Act::Write(x, index, value) => write_step(alloc, places, k, x, index, value),
+        Act::Tell(receiver, values) => tell_step(alloc, places, k, receiver, values),
+        Act::Sum(verifies, condition, list, field) => {
+            if verifies {
+                verify_step(alloc, places, k, condition, list, field)
+            } else {
+                update_step(alloc, places, k, condition, list, field)
+            }
+        }
+        Act::Run(x, args) => action_step(alloc, places, k, x, args),
+        Act::Apply(x) => table_step(alloc, places, k, x),
+        Act::Idle => Ok(idle_step(places, k)),
     }
 }

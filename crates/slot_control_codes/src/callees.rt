@@ -3,31 +3,33 @@
 ghost use Rattle.std.specs.Prelude.{◌≡◌, map, true, false, IfOk, IfErr, OnOk};
 ghost use Rattle.std.specs.Option.{option_map};
 ghost use Rattle.p4_meaning.specs.Tables.{table_named};
-ghost use Rattle.p4_parts.specs.PartsIn.{table_in};
+ghost use Rattle.p4_parts.specs.PartsIn.{cells_decl, table_in};
 ghost use Rattle.slot_terms.specs.Places.{places_of};
 ghost use Rattle.slot_terms.specs.declared.fault.Fault.TheVariants.{Unknown};
 ghost use Rattle.slot_statements.specs.Tables.{MeanKeys};
 ghost use Rattle.slot_statements.specs.Known.{are_known_keys};
 ghost use Rattle.slot_controls.specs.Steps.{application_of};
-ghost use Rattle.slot_controls.specs.Callees.{table_number};
+ghost use Rattle.slot_controls.specs.Callees.{register_number, register_width, table_number};
 ghost use Rattle.slot_controls.specs.StepRuns.{Applies};
 ghost use Rattle.slot_control_codes.specs.Callees.{callees_of};
 ghost use Rattle.slot_control_codes.specs.Known.{can_apply};
 
-use p4_parts::{Action, Table, table_named};
+use bit_values::sound_width;
+use p4_parts::{Action, Cells, Table, table_named};
 use p4_values::same_text;
 use slot_controls::{Application, HeaderSlots};
 use slot_statements::key_terms;
 use slot_terms::{Fault, Places};
 use std::alloc::{AllocError, Global};
 
-/// What the calls of a control stand for: the actions and tables of its program, the slots of the
-/// headers' fields by the headers' numbers, and how many places are in sight where the actions were
+/// What the calls of a control stand for: the actions, tables and registers of its program, the slots of
+/// the headers' fields by the headers' numbers, and how many places are in sight where the actions were
 /// compiled.
 #[derive(Clone, Copy)]
 pub struct Callees<'a> {
     pub actions: &'a [Action],
     pub tables: &'a [Table],
+    pub registers: &'a [Cells],
     pub headers: &'a [HeaderSlots],
     pub rows: usize,
 }
@@ -52,6 +54,30 @@ fn table_number(tables: &[Table], x: &str) -> Result<u32, AllocError>
         }
     }
     small_number(tables.len())
+}
+
+/// How many registers stand before the first of a name.
+pub fn register_number(registers: &[Cells], x: &str) -> Result<u32, AllocError>
+    ensures { IfOk result (λ n. n ≡ register_number (map cells_decl registers.now) x.now) }
+{
+    for i in 0..registers.len() {
+        if same_text(registers[i].name.as_str(), x) {
+            return small_number(i);
+        }
+    }
+    small_number(registers.len())
+}
+
+/// How many bits a cell of the first register of a name has; where there is none, one.
+pub fn register_width(registers: &[Cells], x: &str) -> u8
+    ensures { result ≡ register_width (map cells_decl registers.now) x.now }
+{
+    for register in registers {
+        if same_text(register.name.as_str(), x) {
+            return sound_width(register.width);
+        }
+    }
+    1
 }
 
 /// The application of a table's number, with the terms of its keys.

@@ -17,8 +17,9 @@ ghost use Rattle.slot_controls.specs.StepRuns.{DoAllSteps, DoesStep, DoesStepEls
 ghost use Rattle.slot_control_codes.specs.Callees.{callees_of};
 ghost use Rattle.slot_control_codes.specs.Known.{asked_of, can_apply, can_test, has_step_else, steps_behind, steps_behind_all};
 
-use crate::acts::{call_step, plain_step};
+use crate::acts::{act_step, plain_step};
 use crate::callees::{Callees, application};
+use crate::calls::act_of;
 use p4_tree::{Expr, Stmt};
 use slot_controls::{Application, Step, Test};
 use slot_statements::{Code, stmt_code};
@@ -165,8 +166,8 @@ fn code_step(alloc: Global, places: &mut Places, k: &Callees<'_>, s: &Stmt) -> R
 /// where `stmt_code` of `slot_statements` says so of what is no call, and where an action's call has no
 /// code; for an application of a table where other places are in sight than where the actions were
 /// compiled, or a path of a key has no place; for setValid and setInvalid of what has no number or no
-/// slots; where the port has no place of 9 bits for mark_to_drop; for registers, digests and
-/// checksums; and for a call of another form, which does nothing. After an `Err` nothing is said of the places.
+/// slots; for another call where a path has no place, for mark_to_drop the port one of 9 bits, and for
+/// verify_checksum the error one of one bit. After an `Err` nothing is said of the places.
 #[cycle(steps)]
 pub fn stmt_step(
     alloc: Global,
@@ -199,7 +200,7 @@ pub fn stmt_step(
             Ok(branch_step(alloc, t, a, b)?)
         }
         Stmt::Call(_, callee, args) => {
-            let c = call_step(alloc, places, k, callee, args)?;
+            let c = act_step(alloc, places, k, act_of(callee, args))?;
             Ok(c)
         }
     }

@@ -12,9 +12,11 @@ use Rattle.slot_terms.specs.Places.{Place, Places, place_at, IsLaid, Fills}
 use Rattle.slot_statements.specs.Codes.{set, exec}
 use Rattle.slot_statements.specs.Runs.{Ends}
 use Rattle.slot_statements.proofs.StatementLemmas.{assign_does}
-use Rattle.slot_controls.specs.Steps.{plain}
+use Rattle.slot_terms.specs.States.{State}
+use Rattle.slot_controls.specs.Steps.{plain, run}
 use Rattle.slot_controls.specs.Callees.{Callees, calls_of}
 use Rattle.slot_controls.specs.StepRuns.{DoesAct}
+use Rattle.slot_controls.proofs.ActLemmas.{still_alike}
 
 abbrev dropping : Expr
 dropping = num 0 (record { width = 9; value = 511 })
@@ -26,7 +28,11 @@ dropped : (s : Store) → (s.values egress_spec).width ≡ 9 → assigned s egre
 dropped s e = ap (λ w. write s egress_spec (cast_word (sound_width w) (value_of dropping w s))) e
 
 pub drops_does : (k : Callees) (m : Places) (r : Place) → IsLaid m → place_at m.rows egress_spec ≡ Some r → r.width ≡ 9 → DoesAct k m (plain (set r.slot r.header (constant 511))) drops
-drops_does k m r laid is nine base held chosen acts s y stands =
+drops_does k m r laid is nine base held chosen acts u y stands =
+    let s : State = u.state in
     let width : (y.store.values egress_spec).width ≡ 9 = ap (λ (w : Word). w.width) (stands.follows.shows.values egress_spec r is).is ∙ nine in
-    subst (λ z. Ends m m (exec (set r.slot r.header (constant 511)) s) (in_store y z, Go)) (dropped y.store width)
-    (assign_does m egress_spec r 0 dropping (record { term = constant 511; width = 9 }) laid is refl (sym (ap sound_width nine)) (subst (λ w. Fills m dropping w (record { term = constant 511; width = 9 })) (sym nine) (dropping_fills m)) (calls_of k held) s y stands.follows)
+    record {
+      ends = subst (λ z. Ends m m (exec (set r.slot r.header (constant 511)) s) (in_store y z, Go)) (dropped y.store width)
+          (assign_does m egress_spec r 0 dropping (record { term = constant 511; width = 9 }) laid is refl (sym (ap sound_width nine)) (subst (λ w. Fills m dropping w (record { term = constant 511; width = 9 })) (sym nine) (dropping_fills m)) (calls_of k held) s y stands.follows);
+      beside = still_alike k u (run chosen acts (plain (set r.slot r.header (constant 511))) u).0 y (in_store y (write y.store egress_spec (word 9 511))) stands.beside refl refl (record { cells = refl; digests = refl });
+    }

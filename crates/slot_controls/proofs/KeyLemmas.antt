@@ -1,6 +1,6 @@
 -- How many keys applications have.
 use Rattle.std.proofs.Common.{ℕ, ◌≤◌, List, [], ◌∷◌, ◌++◌, arith}
-use Rattle.slot_controls.specs.Steps.{Test, by_term, by_table, Step, Steps, plain, group, branch, applies, makes, done, next, steps_from, TestHasFewKeys, HasFewKeys, HaveFewKeys}
+use Rattle.slot_controls.specs.Steps.{Test, by_term, by_table, Step, Steps, plain, group, branch, applies, makes, reads, writes, tells, verifies, updates, done, next, steps_from, TestHasFewKeys, HasFewKeys, HaveFewKeys}
 
 pub test_more : (n k : ℕ) (t : Test) → n ≤ k → TestHasFewKeys n t → TestHasFewKeys k t
 test_more n k (by_term t) le h = tt
@@ -13,6 +13,11 @@ mutual
   few_more n k (branch t a b) le h = (test_more n k t le h.0, few_more n k a le h.1, few_more n k b le h.2)
   few_more n k (applies x) le h = omega (arith, le, h)
   few_more n k (makes i s b) le h = tt
+  few_more n k (reads i t j) le h = tt
+  few_more n k (writes i j v) le h = tt
+  few_more n k (tells i ts) le h = tt
+  few_more n k (verifies ts f i) le h = tt
+  few_more n k (updates ts t) le h = tt
 
   pub few_more_all : (n k : ℕ) (cs : Steps) → n ≤ k → HaveFewKeys n cs → HaveFewKeys k cs
   few_more_all n k done le h = tt

@@ -2,7 +2,7 @@
 use Rattle.std.proofs.Common.{◌≡◌, ℕ, length, length-set, map, List, [], ◌∷◌, Bool, true, false, if◌then◌else◌, Option, Some, None, refl, ap, ◌∙◌, nat_eq}
 use Rattle.std.specs.Prelude.{slice_get, bit_and}
 use Rattle.bit_values.specs.Bits.{Word}
-use Rattle.p4_meaning.specs.Statements.{Flow, Go, Return, Exit}
+use Rattle.p4_meaning.specs.Statements.{Flow, Go, Return, Exit, cell_at}
 use Rattle.slot_terms.specs.States.{State}
 use Rattle.slot_terms.specs.Terms.{Term, eval, valid_at}
 use Rattle.slot_statements.specs.Codes as codes
@@ -10,7 +10,8 @@ use Rattle.slot_statements.specs.Codes.{Code, Codes, writes, put, bind, behind, 
 use Rattle.slot_statements.specs.Actions.{ActionCode, bind_words}
 use Rattle.slot_statements.specs.Tables.{NumberedOutcome, run_if, key_word}
 use Rattle.slot_packets.specs.Validity.{with_validity}
-use Rattle.slot_controls.specs.Steps.{Application, Test, by_term, by_table, Step, Steps, plain, group, branch, applies, makes, done, next, apply, tested, run, run_all}
+use Rattle.slot_controls.specs.Steps as steps
+use Rattle.slot_controls.specs.Steps.{Application, Test, by_term, by_table, Step, Steps, plain, group, branch, applies, makes, done, next, SlotRun, reads, tells, verifies, updates, in_state, run_behind, numbered_cells, words_at, words_checksum, apply, tested, run, run_all}
 
 behind_valid : (f : Flow) (s z : State) (more : State → State × Flow) → ((y : State) → (more y).0.valid ≡ y.valid) → s.valid ≡ z.valid → (behind f s more).0.valid ≡ z.valid
 behind_valid Go s z more h e = h s ∙ e
@@ -59,14 +60,19 @@ validity_length true false n i k s = length-set s.valid n false
 validity_length false true n i k s = length-set s.valid n true
 validity_length false false n i k s = refl
 
-behind_length : (f : Flow) (s z : State) (more : State → State × Flow) → ((y : State) → length (more y).0.valid ≡ length y.valid) → length s.valid ≡ length z.valid → length (behind f s more).0.valid ≡ length z.valid
-behind_length Go s z more h e = h s ∙ e
-behind_length Return s z more h e = e
-behind_length Exit s z more h e = e
+verified_valid : (b : Bool) (s : State) (i : ℕ) → (if b then s else put s i 1).valid ≡ s.valid
+verified_valid true s i = refl
+verified_valid false s i = refl
 
-either_length : (b : Bool) (s : State) (x y : State × Flow) → length x.0.valid ≡ length s.valid → length y.0.valid ≡ length s.valid → length (if b then x else y).0.valid ≡ length s.valid
-either_length true s x y f g = f
-either_length false s x y f g = g
+behind_length : (f : Flow) (u z : SlotRun) (more : SlotRun → SlotRun × Flow) → ((y : SlotRun) → length (more y).0.state.valid ≡ length y.state.valid) → length u.state.valid ≡ length z.state.valid
+    → length (run_behind f u more).0.state.valid ≡ length z.state.valid
+behind_length Go u z more h e = h u ∙ e
+behind_length Return u z more h e = e
+behind_length Exit u z more h e = e
+
+either_length : (b : Bool) (u : SlotRun) (x y : SlotRun × Flow) → length x.0.state.valid ≡ length u.state.valid → length y.0.state.valid ≡ length u.state.valid → length (if b then x else y).0.state.valid ≡ length u.state.valid
+either_length true u x y f g = f
+either_length false u x y f g = g
 
 module _ (chosen : ℕ → List Word → NumberedOutcome) (acts : List ActionCode) where
   apply_valid : (x : Application) (s : State) → (apply chosen acts x s).state.valid ≡ s.valid
@@ -77,15 +83,20 @@ module _ (chosen : ℕ → List Word → NumberedOutcome) (acts : List ActionCod
   tested_length (by_table x hit) s = ap length (apply_valid x s)
 
   mutual
-    pub run_length : (c : Step) (s : State) → length (run chosen acts c s).0.valid ≡ length s.valid
-    run_length (plain c) s = ap length (exec_valid c s)
-    run_length (group cs) s = run_all_length cs s
-    run_length (branch t a b) s =
-        behind_length (tested chosen acts t s).flow (tested chosen acts t s).state s (λ z. if (tested chosen acts t s).hit then run chosen acts a z else run chosen acts b z)
-        (λ y. either_length (tested chosen acts t s).hit y (run chosen acts a y) (run chosen acts b y) (run_length a y) (run_length b y)) (tested_length t s)
-    run_length (applies x) s = ap length (apply_valid x s)
-    run_length (makes n h b) s = validity_length (valid_at s.valid n) b n h.first h.count s
+    pub run_length : (c : Step) (u : SlotRun) → length (run chosen acts c u).0.state.valid ≡ length u.state.valid
+    run_length (plain c) u = ap length (exec_valid c u.state)
+    run_length (group cs) u = run_all_length cs u
+    run_length (branch t a b) u =
+        behind_length (tested chosen acts t u.state).flow (in_state u (tested chosen acts t u.state).state) u (λ z. if (tested chosen acts t u.state).hit then run chosen acts a z else run chosen acts b z)
+        (λ y. either_length (tested chosen acts t u.state).hit y (run chosen acts a y) (run chosen acts b y) (run_length a y) (run_length b y)) (tested_length t u.state)
+    run_length (applies x) u = ap length (apply_valid x u.state)
+    run_length (makes n h b) u = validity_length (valid_at u.state.valid n) b n h.first h.count u.state
+    run_length (reads n t i) u = ap length (put_valid (writes t.header u.state.valid) u.state t.slot (bit_and (cell_at (numbered_cells u.cells n) (eval u.state.slots u.state.valid i)).value t.mask))
+    run_length (steps.writes n i v) u = refl
+    run_length (tells n ts) u = refl
+    run_length (verifies ts f i) u = ap length (verified_valid (nat_eq (eval u.state.slots u.state.valid f) (words_checksum (words_at u.state ts))) u.state i)
+    run_length (updates ts t) u = ap length (put_valid (writes t.header u.state.valid) u.state t.slot (bit_and (words_checksum (words_at u.state ts)) t.mask))
 
-    pub run_all_length : (cs : Steps) (s : State) → length (run_all chosen acts cs s).0.valid ≡ length s.valid
-    run_all_length done s = refl
-    run_all_length (next c cs) s = behind_length (run chosen acts c s).1 (run chosen acts c s).0 s (run_all chosen acts cs) (λ y. run_all_length cs y) (run_length c s)
+    pub run_all_length : (cs : Steps) (u : SlotRun) → length (run_all chosen acts cs u).0.state.valid ≡ length u.state.valid
+    run_all_length done u = refl
+    run_all_length (next c cs) u = behind_length (run chosen acts c u).1 (run chosen acts c u).0 u (run_all chosen acts cs) (λ y. run_all_length cs y) (run_length c u)

@@ -2,7 +2,12 @@ pub mod StepLemmas
 pub mod KeyLemmas
 pub mod LengthLemmas
 pub mod VariableLemmas
+pub mod BesideLemmas
 pub mod ActLemmas
 pub mod DropLemmas
+pub mod WordLemmas
+pub mod RegisterLemmas
+pub mod SumLemmas
+pub mod BitSumLemmas
 pub mod TestLemmas
 pub mod FlowLemmas

@@ -1,25 +1,30 @@
--- What the calls of a control stand for: the actions and tables of its program, and its headers. Read `Steps` before it,
--- and `Tables` of the trees' meaning; `StepRuns` after it.
-use Rattle.std.specs.Prelude.{◌≡◌, ◌≢◌, ◌⊎◌, ℕ, suc, ◌≤◌, List, [], ◌∷◌, length, Some, None, if◌then◌else◌, slice_get}
+-- What the calls of a control stand for: the actions, tables and registers of its program, and its headers. Read `Steps`
+-- before it, and `Tables` of the trees' meaning; `StepRuns` after it.
+use Rattle.std.specs.Prelude.{◌≡◌, ◌≢◌, ◌⊎◌, ℕ, suc, ◌≤◌, List, [], ◌∷◌, length, true, Some, None, if◌then◌else◌, slice_get}
 use Rattle.bit_values.specs.Bits.{Word}
+use Rattle.bit_values.specs.Widths.{sound_width}
 use Rattle.lex_text.specs.Names.{same_text, parent}
 use Rattle.p4_meaning.specs.Parsing.{Header}
 use Rattle.p4_meaning.specs.Statements.{Calls}
-use Rattle.p4_meaning.specs.Actions.{Action}
+use Rattle.p4_meaning.specs.Actions.{Action, action_named}
 use Rattle.p4_meaning.specs.Tables.{Table, Tables, table_named, calls_in}
+use Rattle.p4_meaning.specs.Parts.{Cells}
+use Rattle.p4_statements.specs.Cells.{Rows, cells_in}
 use Rattle.p4_statements.specs.Outcomes.{Outcome, outcome_in}
 use Rattle.slot_terms.specs.Places.{Place, Places, place_at, header_number, IsLaid}
 use Rattle.slot_statements.specs.Runs.{Grows}
 use Rattle.slot_statements.specs.Actions.{ActionCode, DoesAction}
+use Rattle.slot_statements.specs.Known.{has_action}
 use Rattle.slot_statements.specs.Tables.{NumberedOutcome}
 use Rattle.slot_packets.specs.Headers.{IsHeaderAt}
 use Rattle.slot_controls.specs.Steps.{HeaderSlots}
 
--- the actions and tables of a program, the slots of its headers by their numbers, and how many places are in sight where
--- its actions were compiled
+-- the actions, tables and registers of a program, the slots of its headers by their numbers, and how many places are in
+-- sight where its actions were compiled
 pub record Callees : Type 0 where
   pub actions : List Action
   pub tables : List Table
+  pub registers : List Cells
   pub headers : List HeaderSlots
   pub rows : ℕ
 
@@ -31,6 +36,15 @@ calls_of k held = calls_in k.actions k.tables held
 abbrev pub table_number : List Table → List ℕ → ℕ
 table_number [] x = 0
 table_number (t ∷ ts) x = if same_text t.name x then 0 else suc (table_number ts x)
+
+-- how many registers stand before the first of a name, and how many bits a cell of that has; where there is none, one
+abbrev pub register_number : List Cells → List ℕ → ℕ
+register_number [] x = 0
+register_number (c ∷ cs) x = if same_text c.name x then 0 else suc (register_number cs x)
+
+abbrev pub register_width : List Cells → List ℕ → ℕ
+register_width [] x = 1
+register_width (c ∷ cs) x = if same_text c.name x then sound_width c.width else register_width cs x
 
 -- ---- what runs fits them
 
@@ -55,14 +69,40 @@ pub record IsLaidOut (m : Places) (n : ℕ) (p : List (List ℕ)) (h : HeaderSlo
   pub count : h.count ≡ length header.fields
   pub fields : IsHeaderAt m n header h.first
 
--- where places `base` are in sight, which are as many as the callees say: the codes of actions do what actions do, choices by
--- the numbers of tables are the outcomes where tables hold this, and headers are laid out
+-- where places `base` are in sight, which are as many as the callees say: the codes of actions do what actions do, and each
+-- action has code; choices by the numbers of tables are the outcomes where tables hold this; and headers are laid out
 pub record Fits (base : Places) (k : Callees) (held : Tables) (chosen : ℕ → List Word → NumberedOutcome) (acts : List ActionCode) : Type 0 where
   pub laid : IsLaid base
   pub rows : length base.rows ≡ k.rows
   pub actions : DoActions base acts k.actions
+  pub coded : (x : List ℕ) (a : Action) → action_named k.actions x ≡ Some a → has_action base a ≡ true
   pub choices : (x : List ℕ) (t : Table) (ws : List Word) → table_named k.tables x ≡ Some t → IsChoice k.actions (chosen (table_number k.tables x) ws) (outcome_in k.actions (Some t) (held x) ws)
   pub headers : (p : List (List ℕ)) (n : ℕ) (h : HeaderSlots) → header_number base.headers p ≡ Some n → slice_get k.headers n ≡ Some h → IsLaidOut base n p h
+
+-- ---- registers
+
+-- registers with cells, by their names
+abbrev pub named_cells : List Cells → List (List Word) → Rows
+named_cells [] cells = []
+named_cells (r ∷ rs) [] = []
+named_cells (r ∷ rs) (c ∷ cs) = (r.name, c) ∷ named_cells rs cs
+
+-- cells of so many bits
+abbrev pub HaveWidth : ℕ → List Word → Type 0
+HaveWidth w [] = Unit {0}
+HaveWidth w (c ∷ cs) = (c.width ≡ w) × HaveWidth w cs
+
+-- each register has cells, which are as wide as it says
+abbrev pub AreWide : List Cells → List (List Word) → Type 0
+AreWide [] [] = Unit {0}
+AreWide [] (c ∷ cs) = ⊥
+AreWide (r ∷ rs) [] = ⊥
+AreWide (r ∷ rs) (c ∷ cs) = HaveWidth (sound_width r.width) c × AreWide rs cs
+
+-- the cells by the numbers of registers are those by their names
+pub record AreCells (rs : List Cells) (cells : List (List Word)) (cells_of : List ℕ → List Word) : Type 0 where
+  pub wide : AreWide rs cells
+  pub named : (x : List ℕ) → cells_of x ≡ cells_in (named_cells rs cells) x
 
 -- ---- variables in sight
 

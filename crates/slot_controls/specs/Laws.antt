@@ -1,7 +1,7 @@
 -- That each step does what a statement means, by what its parts do. Read `StepRuns` before it.
-use Rattle.std.specs.Prelude.{◌≡◌, ℕ, List, [], ◌∷◌, ◌++◌, Bool, Some, None, if◌then◌else◌, slice_get}
-use Rattle.p4_tree.specs.Tree.{Expr, Stmt, Stmts, MaybeStmt, block, choice, stmts_from}
-use Rattle.p4_meaning.specs.Standard.{egress_spec}
+use Rattle.std.specs.Prelude.{◌≡◌, ℕ, List, [], ◌∷◌, ◌++◌, Bool, true, false, Some, None, if◌then◌else◌, slice_get}
+use Rattle.p4_tree.specs.Tree.{Expr, path, Stmt, Stmts, MaybeStmt, block, choice, stmts_from}
+use Rattle.p4_meaning.specs.Standard.{egress_spec, checksum_error, is_assignable}
 use Rattle.p4_meaning.specs.Statements as meaning
 use Rattle.p4_meaning.specs.Statements.{application}
 use Rattle.p4_meaning.specs.Actions.{Action, action_named}
@@ -12,20 +12,20 @@ use Rattle.slot_statements.specs.Codes.{Code, skip, set}
 use Rattle.slot_statements.specs.Runs as code_runs
 use Rattle.slot_statements.specs.Runs.{Grows}
 use Rattle.slot_statements.specs.Actions.{DoesCall}
-use Rattle.slot_statements.specs.Known.{places_behind}
-use Rattle.slot_controls.specs.Steps.{Application, HeaderSlots, Test, by_term, by_table, Step, Steps, plain, group, branch, applies, makes, steps_from}
-use Rattle.slot_controls.specs.Callees.{Callees}
-use Rattle.slot_controls.specs.StepRuns.{DoesStep, DoesStepElse, DoesTested, DoesTest, DoesAct, DoAllSteps, Applies, Widens}
+use Rattle.slot_statements.specs.Known.{places_behind, is_known_call}
+use Rattle.slot_controls.specs.Steps.{Application, HeaderSlots, Test, by_term, by_table, Step, Steps, plain, group, branch, applies, makes, reads, writes, tells, verifies, updates, steps_from}
+use Rattle.slot_controls.specs.Callees.{Callees, register_number, register_width}
+use Rattle.slot_controls.specs.StepRuns.{DoesStep, DoesStepElse, DoesTested, DoesTest, DoesAct, DoAllSteps, MeanAll, Applies, Widens, target_at}
 
 -- code does as a step what it does
 abbrev pub CodeDoes : Type 0
-CodeDoes = (k : Callees) (m n : Places) (c : Code) (st : Stmt) → code_runs.Does m n c st → DoesStep k m n (plain c) st
+CodeDoes = (k : Callees) (m n : Places) (c : Code) (st : Stmt) → places_behind st m ≡ Some n → code_runs.Does m n c st → DoesStep k m n (plain c) st
 
 -- an action's call does what the action of its name does; that of none does nothing
 abbrev pub CallsDo : Type 0
 CallsDo =
     (k : Callees) (m : Places) (x : List ℕ) (es : List Expr)
-    → ((a : Action) (c : Code) → action_named k.actions x ≡ Some a → DoesCall m c a es → DoesAct k m (plain c) (meaning.runs x es)) × (action_named k.actions x ≡ None → DoesAct k m (plain skip) (meaning.runs x es))
+    → ((a : Action) (c : Code) → action_named k.actions x ≡ Some a → is_known_call m a es ≡ true → DoesCall m c a es → DoesAct k m (plain c) (meaning.runs x es)) × (action_named k.actions x ≡ None → DoesAct k m (plain skip) (meaning.runs x es))
 
 -- the application of a table does what that of its name does; that of none does nothing
 abbrev pub ApplicationsDo : Type 0
@@ -40,6 +40,40 @@ ValidityDoes =
 -- mark_to_drop, where the port has a place of 9 bits
 abbrev pub DropsDo : Type 0
 DropsDo = (k : Callees) (m : Places) (r : Place) → IsLaid m → place_at m.rows egress_spec ≡ Some r → r.width ≡ 9 → DoesAct k m (plain (set r.slot r.header (constant 511))) meaning.drops
+
+-- a register's read into a place, and into what no statement may write
+abbrev pub ReadsDo : Type 0
+ReadsDo =
+    (k : Callees) (m : Places) (x : List ℕ) (p : List (List ℕ)) (i : Expr) (t : Typed)
+    → ((r : Place) → IsLaid m → place_at m.rows p ≡ Some r → is_assignable p ≡ true → Means m i 128 t → DoesAct k m (reads (register_number k.registers x) (target_at r) t.term) (meaning.reads x p i))
+    × (is_assignable p ≡ false → DoesAct k m (plain skip) (meaning.reads x p i))
+
+-- a register's write
+abbrev pub WritesDo : Type 0
+WritesDo =
+    (k : Callees) (m : Places) (x : List ℕ) (i v : Expr) (t u : Typed) → Means m i 128 t → Means m v (register_width k.registers x) u → DoesAct k m (writes (register_number k.registers x) t.term u) (meaning.writes x i v)
+
+-- a digest
+abbrev pub DigestsDo : Type 0
+DigestsDo = (k : Callees) (m : Places) (n : ℕ) (es : List Expr) (ts : List Typed) → MeanAll m es ts → DoesAct k m (tells n ts) (meaning.tells n es)
+
+-- verify_checksum, where the error has a place of one bit
+abbrev pub VerifiesDo : Type 0
+VerifiesDo =
+    (k : Callees) (m : Places) (c : Expr) (es : List Expr) (p : List (List ℕ)) (r : Place) (t f : Typed) (ts : List Typed) → IsLaid m → place_at m.rows checksum_error ≡ Some r → r.width ≡ 1
+    → Means m c 1 t → MeanAll m es ts → Means m (path 0 p) 16 f → DoesAct k m (branch (by_term t.term) (verifies ts f.term r.slot) (plain skip)) (meaning.sums true c es p)
+
+-- update_checksum of a place, and of what no statement may write
+abbrev pub UpdatesDo : Type 0
+UpdatesDo =
+    (k : Callees) (m : Places) (c : Expr) (es : List Expr) (p : List (List ℕ))
+    → ((r : Place) (t : Typed) (ts : List Typed) → IsLaid m → place_at m.rows p ≡ Some r → is_assignable p ≡ true → Means m c 1 t → MeanAll m es ts
+    → DoesAct k m (branch (by_term t.term) (updates ts (target_at r)) (plain skip)) (meaning.sums false c es p))
+    × (is_assignable p ≡ false → DoesAct k m (plain skip) (meaning.sums false c es p))
+
+-- a call of a form that does nothing
+abbrev pub IdlesDo : Type 0
+IdlesDo = (k : Callees) (m : Places) → DoesAct k m (plain skip) meaning.idle
 
 -- a test of a term
 abbrev pub TermsTest : Type 0

@@ -4,3 +4,5 @@ pub mod Steps
 pub mod Callees
 pub mod StepRuns
 pub mod Laws
+-- What serves the proofs.
+pub mod Sums

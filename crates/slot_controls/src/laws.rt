@@ -1,6 +1,6 @@
 //! That steps do what statements mean. Each law is the contract of a function that does nothing.
 
-ghost use Rattle.slot_controls.specs.Laws.{ApplicationsDo, BlocksDo, BranchesDo, CallsDo, CodeDoes, CodeWidens, DropsDo, ListsDo, TablesTest, TermsTest, ValidityDoes};
+ghost use Rattle.slot_controls.specs.Laws.{ApplicationsDo, BlocksDo, BranchesDo, CallsDo, CodeDoes, CodeWidens, DigestsDo, DropsDo, IdlesDo, ListsDo, ReadsDo, TablesTest, TermsTest, UpdatesDo, ValidityDoes, VerifiesDo, WritesDo};
 
 /// Code does as a step what it does.
 pub fn code_does()
@@ -25,6 +25,36 @@ pub fn validity_does()
 /// mark_to_drop does what it means.
 pub fn drops_do()
     ensures { DropsDo }
+{}
+
+/// A register's read does what it means.
+pub fn reads_do()
+    ensures { ReadsDo }
+{}
+
+/// A register's write does what it means.
+pub fn writes_do()
+    ensures { WritesDo }
+{}
+
+/// digest does what it means.
+pub fn digests_do()
+    ensures { DigestsDo }
+{}
+
+/// verify_checksum does what it means.
+pub fn verifies_do()
+    ensures { VerifiesDo }
+{}
+
+/// update_checksum does what it means.
+pub fn updates_do()
+    ensures { UpdatesDo }
+{}
+
+/// A call of another form does nothing.
+pub fn idles_do()
+    ensures { IdlesDo }
 {}
 
 /// A term tests what its expression tests.

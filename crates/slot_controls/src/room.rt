@@ -1,9 +1,10 @@
-//! How many keys the applications in steps have at the most.
+//! How many keys the applications in steps have at the most, and how many digests steps give at the most.
 
-ghost use Rattle.std.specs.Prelude.{◌≡◌, ℕ, ◌≤◌, length};
-ghost use Rattle.slot_controls.specs.Steps.{application_of, step_of, steps_of, test_of, HasFewKeys, HaveFewKeys, TestHasFewKeys};
+ghost use Rattle.std.specs.Prelude.{◌≡◌, ℕ, ◌+◌, ◌≤◌, max, length, IfOk};
+ghost use Rattle.slot_controls.specs.Steps.{application_of, most_told, most_told_all, step_of, steps_of, test_of, HasFewKeys, HaveFewKeys, TestHasFewKeys};
 
 use crate::step::{Application, Step, Test};
+use std::alloc::AllocError;
 
 /// The greater of two numbers.
 fn greater(a: usize, b: usize) -> usize
@@ -46,7 +47,8 @@ fn step_keys(step: &Step) -> usize
             greater(test_keys(t), branches)
         }
         Step::Apply(x) => key_count(x),
-        Step::Make(_, _, _) => 0,
+        Step::Make(_, _, _) | Step::Read(_, _, _) | Step::Write(_, _, _) => 0,
+        Step::Tell(_, _) | Step::Verify(_, _, _) | Step::Update(_, _) => 0,
     }
 }
 
@@ -61,4 +63,46 @@ pub fn most_keys(list: &[Step]) -> usize
         most = greater(most, step_keys(step));
     }
     most
+}
+
+/// Two numbers together. What 64 bits do not count no memory holds: that is told as want of memory.
+fn together(a: usize, b: usize) -> Result<usize, AllocError>
+    ensures { IfOk result (λ n. n ≡ a + b) }
+{
+    match a.checked_add(b) {
+        Some(n) => Ok(n),
+        None => Err(AllocError),
+    }
+}
+
+/// The most digests that a step gives.
+#[cycle(digests)]
+fn step_digests(step: &Step) -> Result<usize, AllocError>
+    ensures { IfOk result (λ n. n ≡ most_told (step_of step.now)) }
+{
+    match step {
+        Step::Plain(_) | Step::Apply(_) | Step::Make(_, _, _) => Ok(0),
+        Step::Read(_, _, _) | Step::Write(_, _, _) => Ok(0),
+        Step::Verify(_, _, _) | Step::Update(_, _) => Ok(0),
+        Step::Group(list) => most_digests(list),
+        Step::If(_, a, b) => {
+            let first = step_digests(a)?;
+            let second = step_digests(b)?;
+            Ok(if first < second { second } else { first })
+        }
+        Step::Tell(_, _) => Ok(1),
+    }
+}
+
+/// The most digests that some steps give: for so many there is to be room. What 64 bits do not count no
+/// memory holds: that is told as want of memory.
+#[cycle(digests)]
+pub fn most_digests(list: &[Step]) -> Result<usize, AllocError>
+    ensures { IfOk result (λ n. n ≡ most_told_all (steps_of list.now)) }
+{
+    let mut most = 0;
+    for step in list {
+        most = together(most, step_digests(step)?)?;
+    }
+    Ok(most)
 }

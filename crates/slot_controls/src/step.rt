@@ -1,14 +1,17 @@
 //! Steps, and what they do.
 
-ghost use Rattle.std.specs.Prelude.{◌≡◌, ◌≤◌, length, map};
+ghost use Rattle.std.specs.Prelude.{◌≡◌, ◌+◌, ◌≤◌, length, map, vec_len, vec_capacity};
 ghost use Rattle.p4_statements.specs.Runs.{flow_of};
 ghost use Rattle.slot_terms.specs.States.{state_of};
-ghost use Rattle.slot_statements.specs.Codes.{ended};
 ghost use Rattle.slot_statements.specs.Actions.{action_code_of};
 ghost use Rattle.slot_statements.specs.Tables.{tested_of};
-ghost use Rattle.slot_controls.specs.Steps.{application_of, apply, is_asked, run, run_all, step_of, steps_of, test_of, tested, HasFewKeys, HaveFewKeys, TestHasFewKeys};
+ghost use Rattle.slot_controls.specs.Steps.{application_of, apply, is_asked, most_told, most_told_all, run, run_all, run_ended, slot_run, step_of, steps_of, test_of, tested, HasFewKeys, HaveFewKeys, TestHasFewKeys};
 
+use crate::externs::{Externs, read_number, tell, write_cell};
 use crate::headers::HeaderSlots;
+use crate::sums::words_checksum;
+use crate::targets::{Target, store, verify};
+use crate::words::word_of;
 use bit_values::Bits;
 use slot_packets::set_validity;
 use slot_statements::{ActionCode, Code, Flow, NumberedTables, apply_table, exec};
@@ -33,7 +36,7 @@ pub enum Test {
 /// A step of a control.
 #[derive(Drop)]
 pub enum Step {
-    /// Code, in which no table is applied and no header made valid or invalid.
+    /// Code, in which there are no calls but those of actions.
     Plain(Code),
     /// One after the other.
     Group(Vec<Step>),
@@ -42,6 +45,16 @@ pub enum Step {
     Apply(Application),
     /// The header of a number is made valid, or invalid.
     Make(u32, HeaderSlots, bool),
+    /// The cell of a register, by its number and the index, goes to a place.
+    Read(u32, Target, Term),
+    /// A cell of a register, by its number and the index, gets a value.
+    Write(u32, Term, Typed),
+    /// A digest, by its receiver and its values.
+    Tell(u32, Vec<Typed>),
+    /// Where a field has another checksum than values have, the slot of the error is set.
+    Verify(Vec<Typed>, Term, u32),
+    /// A field gets the checksum of values.
+    Update(Vec<Typed>, Target),
 }
 
 /// Whether an application goes as it is asked for.
@@ -89,7 +102,8 @@ fn tested<T: NumberedTables>(
 }
 
 /// What a step does, and how it ends: by what tables choose, over the actions of the program by their
-/// numbers. The words of keys go into the buffer.
+/// numbers. The words of keys go into the buffer, and digests behind those that are there, for which
+/// there is room.
 #[cycle(run)]
 pub fn run_step<T: NumberedTables>(
     tables: &T,
@@ -97,31 +111,61 @@ pub fn run_step<T: NumberedTables>(
     step: &Step,
     buffer: &mut [Bits],
     s: &mut State,
+    x: &mut Externs,
 ) -> Flow
-    requires { HasFewKeys (length buffer.old) (step_of step.now) }
-    ensures { ended (state_of s.new) (flow_of result)
-        ≡ run (T.chosen tables.now) (map action_code_of actions.now) (step_of step.now) (state_of s.old) }
+    requires few { HasFewKeys (length buffer.old) (step_of step.now) }
+    requires room { vec_len x.old.digests + most_told (step_of step.now) ≤ vec_capacity x.old.digests }
+    ensures does { run_ended (slot_run s.new x.new) (flow_of result)
+        ≡ run (T.chosen tables.now) (map action_code_of actions.now) (step_of step.now) (slot_run s.old x.old) }
+    ensures told { vec_len x.new.digests ≤ vec_len x.old.digests + most_told (step_of step.now) }
+    ensures room { vec_capacity x.new.digests ≡ vec_capacity x.old.digests }
 {
     match step {
         Step::Plain(c) => exec(c, s),
-        Step::Group(list) => run_steps(tables, actions, list, buffer, s),
+        Step::Group(list) => run_steps(tables, actions, list, buffer, s, x),
         Step::If(t, a, b) => {
             let (flow, holds) = tested(tables, actions, t, buffer, s);
             match flow {
                 Flow::Go => {
                     if holds {
-                        run_step(tables, actions, a, buffer, s)
+                        run_step(tables, actions, a, buffer, s, x)
                     } else {
-                        run_step(tables, actions, b, buffer, s)
+                        run_step(tables, actions, b, buffer, s, x)
                     }
                 }
                 Flow::Return => Flow::Return,
                 Flow::Exit => Flow::Exit,
             }
         }
-        Step::Apply(x) => apply(tables, actions, x, buffer, s).0,
+        Step::Apply(a) => apply(tables, actions, a, buffer, s).0,
         Step::Make(header, slots, valid) => {
             set_validity(s, *header, slots.first, slots.count, *valid);
+            Flow::Go
+        }
+        Step::Read(register, target, index) => {
+            let index = eval(index, &s.slots, &s.valid);
+            let number = read_number(&x.registers, *register, index);
+            store(target, number, s);
+            Flow::Go
+        }
+        Step::Write(register, index, value) => {
+            let index = eval(index, &s.slots, &s.valid);
+            write_cell(&mut x.registers, *register, index, word_of(value, s));
+            Flow::Go
+        }
+        Step::Tell(receiver, values) => {
+            tell(&mut x.digests, *receiver, values, s);
+            Flow::Go
+        }
+        Step::Verify(values, field, error) => {
+            let wanted = words_checksum(values, s);
+            let found = eval(field, &s.slots, &s.valid);
+            verify(found, wanted, *error, s);
+            Flow::Go
+        }
+        Step::Update(values, field) => {
+            let sum = words_checksum(values, s);
+            store(field, sum as u128, s);
             Flow::Go
         }
     }
@@ -135,13 +179,17 @@ pub fn run_steps<T: NumberedTables>(
     list: &[Step],
     buffer: &mut [Bits],
     s: &mut State,
+    x: &mut Externs,
 ) -> Flow
-    requires { HaveFewKeys (length buffer.old) (steps_of list.now) }
-    ensures { ended (state_of s.new) (flow_of result)
-        ≡ run_all (T.chosen tables.now) (map action_code_of actions.now) (steps_of list.now) (state_of s.old) }
+    requires few { HaveFewKeys (length buffer.old) (steps_of list.now) }
+    requires room { vec_len x.old.digests + most_told_all (steps_of list.now) ≤ vec_capacity x.old.digests }
+    ensures does { run_ended (slot_run s.new x.new) (flow_of result)
+        ≡ run_all (T.chosen tables.now) (map action_code_of actions.now) (steps_of list.now) (slot_run s.old x.old) }
+    ensures told { vec_len x.new.digests ≤ vec_len x.old.digests + most_told_all (steps_of list.now) }
+    ensures room { vec_capacity x.new.digests ≡ vec_capacity x.old.digests }
 {
     for step in list {
-        match run_step(tables, actions, step, buffer, s) {
+        match run_step(tables, actions, step, buffer, s, x) {
             Flow::Go => {}
             Flow::Return => return Flow::Return,
             Flow::Exit => return Flow::Exit,

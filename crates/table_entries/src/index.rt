@@ -27,10 +27,19 @@ type Sign = ArrayVec<u128, 16>;
 
 /// What each entry of a table runs, by what it asks of the keys; or in a table with a ternary key where
 /// each stands, by its priority, the highest first.
-#[derive(Debug, Drop)]
+#[derive(Debug)]
 pub enum Index {
     Signs(Signs),
     Priorities(BTreeMap<Reverse<u32>, usize>),
+}
+
+impl Drop for Index {
+    fn drop(self) {
+        match self {
+            Index::Signs(_first) => {}
+            Index::Priorities(_first) => {}
+        }
+    }
 }
 
 /// Adds what asks for a key, where there is room.

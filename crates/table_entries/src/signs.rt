@@ -15,10 +15,19 @@ use table_shapes::{KeyKind, KeyShape};
 
 /// What the first entry runs that asks for a sign. Signs that fit into one number are kept by that, so
 /// that a look touches little memory.
-#[derive(Debug, Drop)]
+#[derive(Debug)]
 pub struct Signs {
     pub numbers: HashMap<u128, Act>,
     pub lists: HashMap<Vec<u128>, Act>,
+}
+
+impl Drop for Signs {
+    fn drop(self) {
+        let Signs {
+            numbers: _numbers,
+            lists: _lists,
+        } = self;
+    }
 }
 
 /// Adds what is asked of a key.

@@ -24,21 +24,42 @@ pub struct KeyShape {
 }
 
 /// An action of a table's list: its number, and what its parameters hold, in their order.
-#[derive(Debug, Drop)]
+#[derive(Debug)]
 pub struct ActionShape {
     pub number: u32,
     pub params: Vec<ValueShape>,
 }
 
+impl Drop for ActionShape {
+    fn drop(self) {
+        let ActionShape {
+            number: _,
+            params: _params,
+        } = self;
+    }
+}
+
 /// What a table takes: its keys, the actions of its list, and of the default that is written the
 /// number of its action, its words and whether it is `const`.
-#[derive(Debug, Drop)]
+#[derive(Debug)]
 pub struct Shape {
     pub keys: Vec<KeyShape>,
     pub actions: Vec<ActionShape>,
     pub written: u32,
     pub written_args: Vec<Bits>,
     pub fixed: bool,
+}
+
+impl Drop for Shape {
+    fn drop(self) {
+        let Shape {
+            keys: _keys,
+            actions: _actions,
+            written: _,
+            written_args: _written_args,
+            fixed: _,
+        } = self;
+    }
 }
 
 impl Shape {

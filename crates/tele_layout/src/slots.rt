@@ -17,7 +17,7 @@ pub struct Slot {
 }
 
 /// Where the variables stand, one directly behind the other.
-#[derive(Debug, Drop)]
+#[derive(Debug)]
 pub struct Layout {
     /// The first byte.
     pub first: u8,
@@ -25,6 +25,16 @@ pub struct Layout {
     pub bytes: u16,
     /// The variables, from the second byte on.
     pub slots: Vec<Slot>,
+}
+
+impl Drop for Layout {
+    fn drop(self) {
+        let Layout {
+            first: _,
+            bytes: _,
+            slots: _slots,
+        } = self;
+    }
 }
 
 /// How many bits the variable takes.

@@ -12,7 +12,7 @@ use Rattle.forward_run.proofs.Starting.{event_stays}
 use Rattle.forward_run.proofs.run.happen.Goals as goal
 
 pub step-requires : goal.step-requires
-step-requires c =
+step-requires g c =
     let s = state_of c.args.net.now in
     let xs = c.args.events.now in
     let i = c.loop-event.event-index in
@@ -21,7 +21,7 @@ step-requires c =
     event_stays s (state_of c.loop-event.net) (event_of x) c.loop-event.invariant.same c.requires.maps is
 
 pub loop-event-preserved : goal.loop-event-preserved
-loop-event-preserved c =
+loop-event-preserved g c =
     let s = state_of c.args.net.now in
     let t = state_of c.loop-event.net in
     let u = state_of c.step.new.self in

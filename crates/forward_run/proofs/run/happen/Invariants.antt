@@ -6,7 +6,7 @@ use Rattle.forward_run.proofs.run.happen.Given as goal
 
 -- the events so far have happened
 abbrev pub invariant-loop-event : goal.invariant-loop-event
-invariant-loop-event l = record {
+invariant-loop-event g l = record {
   same : IsSame (state_of l.initial.net) (state_of l.net);
   runs : RunsTo (state_of l.initial.net) (map event_of (take l.event-index l.events)) (state_of l.net);
 }

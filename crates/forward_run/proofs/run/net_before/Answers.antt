@@ -14,7 +14,7 @@ use Rattle.forward_run.proofs.Starting.{before_for, unmapped}
 use Rattle.forward_run.proofs.run.net_before.Goals as goal
 
 pub new-requires : goal.new-requires
-new-requires c =
+new-requires g c =
     let p = program_of c.args.program.now in
     let ts = c.args.tables.items in
     let bufs = c.in_ok-bufs.bufs.items in
@@ -31,7 +31,7 @@ new-requires c =
     }
 
 pub returns-clause-state : goal.returns-clause-state
-returns-clause-state c =
+returns-clause-state g c =
     let l : Limits = record { hops = c.args.hops; link = 65535 } in
     let none = c.in_ok-none.ensures ∙ ap no_maps (c.len-count.ensures ∙ c.args.tables.ok.0) in
     subst (λ (ms : List (List Numbered)). IfOk c.new.result (λ n. state_of n ≡ state_before c.args.network l (map (switch_before (program_of c.args.program.now)) c.args.tables.items) ms (map arrival_of c.args.packets.items)))
@@ -40,6 +40,6 @@ returns-clause-state c =
     c.in_ok-switches.ensures c.new.ensures.state)
 
 pub returns-clause-starts : goal.returns-clause-starts
-returns-clause-starts c =
+returns-clause-starts g c =
     subst (λ (xs : List Switch). IfOk c.new.result (λ n. Starts xs (map arrival_of c.args.packets.items) (state_of n)))
     c.in_ok-switches.ensures c.new.ensures.starts

@@ -13,18 +13,18 @@ use Rattle.linked_run.proofs.Written.{if_ok, wire_headline}
 use Rattle.linked_run.proofs.run.run_wire.Goals as goal
 
 pub wire_output_of-requires-clause-end : goal.wire_output_of-requires-clause-end
-wire_output_of-requires-clause-end c =
+wire_output_of-requires-clause-end g c =
     let end = c.in_ok-end.end in
-    subst (λ ps. IsEnd ps (log_view end.log)) (ap (λ x. x.programs) (sym c.parts-parts.ensures.parts)) c.in_ok-end.ensures.finished.end
+    subst (λ ps. IsEnd ps (log_view g.B.Unit.Pass.program g.B.Unit.Pass.tables g.B.Unit.Pass.cells end.log)) (ap (λ x. x.programs) (sym c.parts-parts.ensures.parts)) c.in_ok-end.ensures.finished.end
 
 pub wire_output_of-requires-clause-spelled : goal.wire_output_of-requires-clause-spelled
-wire_output_of-requires-clause-spelled c = subst (λ ts. All (λ t. CanSpell (program_of t)) ts) (sym c.parts-parts.ensures.programs) c.in_ok-end.ensures.spelled
+wire_output_of-requires-clause-spelled g c = subst (λ ts. All (λ t. CanSpell (program_of t)) ts) (sym c.parts-parts.ensures.programs) c.in_ok-end.ensures.spelled
 
 pub returns : goal.returns
-returns c =
+returns g c =
     let j = job_of c.args.job in
     let x = parts_view c.parts-parts.result in
-    let s = log_view c.in_ok-end.end.log in
+    let s = log_view g.B.Unit.Pass.program g.B.Unit.Pass.tables g.B.Unit.Pass.cells c.in_ok-end.end.log in
     let out = c.args.out.now in
     if_ok (λ o. IsWire out x s (out_of o)) (λ o. WireHeadline j out (out_of o)) c.wire_output_of.result
     (λ o h. wire_headline j x (parts_in c.in_ok-end.end) s c.parts-parts.ensures.parts c.in_ok-end.ensures.finished out (out_of o) h) c.wire_output_of.ensures

@@ -11,7 +11,7 @@ use Rattle.linked_run.proofs.Happens.{possible, behind}
 use Rattle.linked_run.proofs.to_end.happen.Goals as goal
 
 pub step-requires : goal.step-requires
-step-requires c =
+step-requires g c =
     let s = state_of c.args.net.now in
     let t = state_of c.loop-event.net in
     let xs = c.args.events.now in
@@ -21,7 +21,7 @@ step-requires c =
     possible s t (event_of x) c.loop-event.invariant.same (subst (CanHappen (length s.places) s.maps (tables_of t)) rest c.loop-event.invariant.left).0
 
 pub loop-event-preserved : goal.loop-event-preserved
-loop-event-preserved c =
+loop-event-preserved g c =
     let s = state_of c.args.net.now in
     let t = state_of c.loop-event.net in
     let u = state_of c.step.new.self in

@@ -7,7 +7,7 @@ use Rattle.linked_run.proofs.to_end.happen.Given as goal
 
 -- the events so far have happened, and the others can
 abbrev pub invariant-loop-event : goal.invariant-loop-event
-invariant-loop-event l = record {
+invariant-loop-event g l = record {
   same : IsSame (state_of l.initial.net) (state_of l.net);
   runs : RunsTo (state_of l.initial.net) (map event_of (take l.event-index l.events)) (state_of l.net);
   left : CanHappen (length (state_of l.initial.net).places) (state_of l.initial.net).maps (tables_of (state_of l.net)) (map event_of (drop l.event-index l.events));

@@ -2,7 +2,6 @@ use Rattle.std.proofs.Common.{◌≡◌, length, map, refl, sym, ap, ◌∙◌, 
 use Rattle.std.proofs.lemmas.List.{length-map}
 use Rattle.indus_tree.specs.View.{decl_of}
 use Rattle.p4_tree.specs.View.{program_of}
-use Rattle.p4_statements.specs.Runs.{cells_in}
 use Rattle.network_file.specs.Events.{event_of}
 use Rattle.network_run.specs.NetworkRun.{Limits}
 use Rattle.path_runner.specs.Nets.{RunsTo, tables_of}
@@ -20,7 +19,7 @@ use Rattle.linked_run.proofs.Ending.{is_end, at_end, network}
 use Rattle.linked_run.proofs.to_end.run_to_end.Goals as goal
 
 pub happen-requires : goal.happen-requires
-happen-requires c =
+happen-requires g c =
     let job = c.args.job in
     let j = job_of job in
     let l = linked_of j (programs_in job.linked) (rows_in job.linked) c.requires.linked in
@@ -32,7 +31,7 @@ happen-requires c =
     (schedule_can_happen j l s (c.in_ok-net.ensures.first l these) (c.jobs_have_room.ensures j l c.requires.ready is_linked))
 
 pub returns-clause-finished : goal.returns-clause-finished
-returns-clause-finished c =
+returns-clause-finished g c =
     let job = c.args.job in
     let j = job_of job in
     let l = linked_of j (programs_in job.linked) (rows_in job.linked) c.requires.linked in
@@ -40,7 +39,7 @@ returns-clause-finished c =
     let rest = c.in_ok-net.ensures.rest in
     let s = state_of c.in_ok-net.field-0.net in
     let t = state_of c.happen.new.net in
-    let u = log_of (λ s. program_of s.program) (λ s. s.tables) (λ s. cells_in s.registers) t.limits c.in_ok-log.log in
+    let u = log_of g.B.Unit.Pass.program g.B.Unit.Pass.tables g.B.Unit.Pass.cells t.limits c.in_ok-log.log in
     let events = c.deref-2.ensures.value ∙ ap (λ v. v.items) rest.events in
     let runs : RunsTo s j.events t = subst (λ es. RunsTo s (map event_of es) t) events c.in_ok-happen.ensures.runs in
     let none : Limits = record { hops = 0; link = 0 } in

@@ -5,15 +5,14 @@ use Rattle.lex_text.specs.Names.{same_text}
 use Rattle.p4_meaning.specs.Statements.{cell_at}
 use Rattle.p4_machine.specs.Passages.{name_or}
 use Rattle.p4_parts.specs.PartsIn.{cells_decl}
-use Rattle.p4_statements.specs.Runs.{cells_in}
 use Rattle.register_texts.specs.Rows.{first_cell}
 use Rattle.register_texts.proofs.Rows.{view_at, first_other, first_found, first_past}
 use Rattle.register_texts.proofs.cells.first_cell.Goals as goal
 
 pub returns-then-same_text : goal.returns-then-same_text
-returns-then-same_text c =
+returns-then-same_text g c =
     let rs = map cells_decl c.args.registers.now in
-    let cells = cells_in c.args.switch.now.registers in
+    let cells = g.P.Pass.cells c.args.switch.now in
     let x = c.args.name.now in
     let i = c.loop-number.number in
     let r = cells_decl c.index-registers-number.result in
@@ -24,9 +23,9 @@ returns-then-same_text c =
     ap (λ w. w.value) (c.result.view_is ∙ read) ∙ sym (first_found rs cells x i r at same) ∙ c.loop-number.invariant
 
 pub loop-number-preserved : goal.loop-number-preserved
-loop-number-preserved c =
+loop-number-preserved g c =
     let rs = map cells_decl c.args.registers.now in
-    let cells = cells_in c.args.switch.now.registers in
+    let cells = g.P.Pass.cells c.args.switch.now in
     let x = c.args.name.now in
     let i = c.loop-number.number in
     let r = cells_decl c.index-registers-number.result in

@@ -1,11 +1,10 @@
 use Rattle.std.proofs.Common.{◌≡◌, map, drop}
 use Rattle.p4_parts.specs.PartsIn.{cells_decl}
-use Rattle.p4_statements.specs.Runs.{cells_in}
 use Rattle.register_texts.specs.Rows.{first_cell}
 use Rattle.register_texts.proofs.cells.first_cell.Given as goal
 
 -- no register so far has the name
 abbrev pub invariant-loop-number : goal.invariant-loop-number
-invariant-loop-number l =
-    first_cell (drop l.number (map cells_decl l.registers)) (cells_in l.switch.registers) l.name
-    ≡ first_cell (map cells_decl l.registers) (cells_in l.switch.registers) l.name
+invariant-loop-number g l =
+    first_cell (drop l.number (map cells_decl l.registers)) (g.P.Pass.cells l.switch) l.name
+    ≡ first_cell (map cells_decl l.registers) (g.P.Pass.cells l.switch) l.name

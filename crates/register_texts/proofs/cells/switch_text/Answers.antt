@@ -2,7 +2,6 @@ use Rattle.std.proofs.Common.{◌+◌, ◌++◌, map, drop, string_bytes, ap, �
 use Rattle.std.specs.Prelude.{slice_get}
 use Rattle.std.proofs.lemmas.List.{length-map}
 use Rattle.p4_parts.specs.PartsIn.{cells_decl}
-use Rattle.p4_statements.specs.Runs.{cells_in}
 use Rattle.report_writer.specs.Texts.{cells_of}
 use Rattle.register_texts.specs.Rows.{register_cells, registers_cells}
 use Rattle.register_texts.specs.Which.{is_one_of}
@@ -10,17 +9,17 @@ use Rattle.register_texts.proofs.Rows.{view_at, cells_more, cells_done, register
 use Rattle.register_texts.proofs.cells.switch_text.Goals as goal
 
 pub meant_text-requires : goal.meant_text-requires
-meant_text-requires c =
+meant_text-requires g c =
     ap (λ rs. slice_get rs c.loop-number.number) c.requires.registers
     ∙ view_at cells_decl c.args.registers.now c.loop-number.number c.index-registers-number.result (omega arith) c.index-registers-number.is
 
 pub loop-number-preserved : goal.loop-number-preserved
-loop-number-preserved c =
+loop-number-preserved g c =
     let P = is_one_of c.args.which in
     let n = c.args.name.now in
     let xs = map string_bytes c.args.names.now in
     let rs = map cells_decl c.args.registers.now in
-    let cells = cells_in c.args.switch.now.registers in
+    let cells = g.P.Pass.cells c.args.switch.now in
     let i = c.loop-number.number in
     let x = string_bytes c.index-names-number.result in
     let r = cells_decl c.index-registers-number.result in
@@ -33,6 +32,6 @@ loop-number-preserved c =
     ∙ cells_more (string_bytes c.loop-number.text) _ _ _ piece rest c.loop-number.invariant (register_next P n cells xs rs i x r named there) line
 
 pub returns : goal.returns
-returns c =
+returns g c =
     let xs = map string_bytes c.args.names.now in
-    cells_done (string_bytes c.loop-number.text) _ _ c.loop-number.invariant (registers_past (is_one_of c.args.which) c.args.name.now (cells_in c.args.switch.now.registers) xs (map cells_decl c.args.registers.now) c.loop-number.number (omega (arith, c.requires.names, length-map c.args.names.now string_bytes)))
+    cells_done (string_bytes c.loop-number.text) _ _ c.loop-number.invariant (registers_past (is_one_of c.args.which) c.args.name.now (g.P.Pass.cells c.args.switch.now) xs (map cells_decl c.args.registers.now) c.loop-number.number (omega (arith, c.requires.names, length-map c.args.names.now string_bytes)))

@@ -8,13 +8,13 @@ use Rattle.run_output.proofs.Written.{short_items}
 use Rattle.run_output.proofs.output.put_sent.Goals as goal
 
 pub put_captures-requires : goal.put_captures-requires
-put_captures-requires c = rw c.deref.ensures.value (short_items sent_of c.args.log.now.wires.items c.requires.wires)
+put_captures-requires g c = rw c.deref.ensures.value (short_items sent_of c.args.log.now.wires.items c.requires.wires)
 
 pub put_captures-requires-2 : goal.put_captures-requires-2
-put_captures-requires-2 c = rw c.deref-2.ensures.value (short_items sent_of c.args.log.now.edges.items c.requires.edges)
+put_captures-requires-2 g c = rw c.deref-2.ensures.value (short_items sent_of c.args.log.now.edges.items c.requires.edges)
 
 pub returns : goal.returns
-returns c =
+returns g c =
     let out = c.args.out.now in
     let ts = map time_view c.args.parts.now.times.now in
     let ns = c.args.log.now.net.names in

@@ -6,7 +6,7 @@ use Rattle.run_texts.proofs.Behind.{then_more}
 use Rattle.run_output.proofs.output.put_told.Goals as goal
 
 pub returns : goal.returns
-returns c =
+returns g c =
     let out = c.args.out.now in
     let ns = c.args.log.now.net.names in
     let reports = c.in_ok-reports.ensures ∙ ap (λ xs. reports_lines ns (map told_of xs)) c.deref.ensures.value in

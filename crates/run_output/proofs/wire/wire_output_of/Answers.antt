@@ -4,7 +4,8 @@ use Rattle.p4_tree.specs.View.{program_of}
 use Rattle.network_run.specs.Network.{Sent}
 use Rattle.job_course.specs.Output.{files_of}
 use Rattle.path_runner.specs.Packets.{sent_of, told_of}
-use Rattle.forward_texts.specs.Switches.{log_view, switch_view}
+use Rattle.forward_texts.specs.Switches.{log_view}
+use Rattle.path_runner.specs.Switches.{switch_of}
 use Rattle.run_texts.specs.Told.{reports_lines}
 use Rattle.run_texts.specs.Programs.{programs_files}
 use Rattle.run_texts.proofs.Switches.{as_many}
@@ -15,20 +16,20 @@ use Rattle.run_output.proofs.Written.{ended}
 use Rattle.run_output.proofs.wire.wire_output_of.Goals as goal
 
 pub put_programs-requires-clause-count : goal.put_programs-requires-clause-count
-put_programs-requires-clause-count c =
+put_programs-requires-clause-count g c =
     let xs = c.args.log.now.switches.items in
-    as_many switch_view program_of xs c.args.parts.now.programs.now c.requires.end.programs ∙ sym (length-map xs switch_view) ∙ c.requires.end.switches
+    as_many (switch_of g.P.Pass.program g.P.Pass.tables g.P.Pass.cells) program_of xs c.args.parts.now.programs.now c.requires.end.programs ∙ sym (length-map xs (switch_of g.P.Pass.program g.P.Pass.tables g.P.Pass.cells)) ∙ c.requires.end.switches
 
 pub summary-requires-clause-count : goal.summary-requires-clause-count
-summary-requires-clause-count c = sym (length-map c.args.log.now.switches.items switch_view) ∙ c.requires.end.switches
+summary-requires-clause-count g c = sym (length-map c.args.log.now.switches.items (switch_of g.P.Pass.program g.P.Pass.tables g.P.Pass.cells)) ∙ c.requires.end.switches
 
 pub summary-requires-clause-few : goal.summary-requires-clause-few
-summary-requires-clause-few c = omega (arith, length-map c.args.log.now.edges.items sent_of, c.requires.end.few)
+summary-requires-clause-few g c = omega (arith, length-map c.args.log.now.edges.items sent_of, c.requires.end.few)
 
 pub returns : goal.returns
-returns c = λ p w shows.
+returns g c = λ p w shows.
     let log = c.args.log.now in
-    let s = log_view log in
+    let s = log_view g.P.Pass.program g.P.Pass.tables g.P.Pass.cells log in
     let x = parts_view c.args.parts.now in
     let out = c.args.out.now in
     let ns = log.net.names in

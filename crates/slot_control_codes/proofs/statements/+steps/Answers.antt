@@ -64,4 +64,4 @@ pub stmt_step-returns-in_ok-c-in-Call-clause-does : goal.stmt_step-returns-in_ok
 stmt_step-returns-in_ok-c-in-Call-clause-does t c =
     subst (λ n. DoesStep (callees_of c.args.k.now) (places_of c.args.places.now) n (step_of c.in_ok-c-in-Call.c) (stmt_of c.args.s.now)) (sym c.in_ok-c-in-Call.ensures.same)
     (subst (λ x. DoesStep (callees_of c.args.k.now) (places_of c.args.places.now) (places_of c.args.places.now) (step_of c.in_ok-c-in-Call.c) x) (sym (ap stmt_of c.in-Call.is ∙ stmt_of-Call c.in-Call.field-0 c.in-Call.callee c.in-Call.args))
-    (rw (c.deref-in-Call.ensures.value, c.deref-in-Call-2.ensures.value) at c.in_ok-c-in-Call.ensures.does))
+    (rw (c.deref-in-Call.ensures.value, c.deref-in-Call-2.ensures.value) at (rw c.act_of.ensures at c.in_ok-c-in-Call.ensures.does)))

@@ -14,4 +14,4 @@ returns-clause-widens c = code_widens (stmt_of c.args.s.now) (places_of c.args.p
 pub returns-clause-does : goal.returns-clause-does
 returns-clause-does c =
     subst (λ k. DoesStep (callees_of c.args.k.now) (places_of c.args.places.now) (places_of c.stmt_code.new.places) k (stmt_of c.args.s.now)) (sym c.plain_step.ensures)
-    (plain_does (callees_of c.args.k.now) (places_of c.args.places.now) (places_of c.stmt_code.new.places) (code_of c.in_ok-c.c) (stmt_of c.args.s.now) c.in_ok-c.ensures.does)
+    (plain_does (callees_of c.args.k.now) (places_of c.args.places.now) (places_of c.stmt_code.new.places) (code_of c.in_ok-c.c) (stmt_of c.args.s.now) c.in_ok-c.ensures.known c.in_ok-c.ensures.does)

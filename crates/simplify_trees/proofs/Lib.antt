@@ -1,0 +1,5 @@
+mod Lists
+mod ArgumentLists
+mod Built
+mod Nodes
+mod Standing
