@@ -9,7 +9,7 @@ use indus_values::{HopResult, HopView, Report, SensorState, TeleState};
 use lex_text::Name;
 use lower_lists::{LowerFault, flatten};
 use std::alloc::Global;
-use std::mem::forget;
+use std::mem::{forget, replace};
 use std::process::Abort;
 
 // ---- numbered scalars
@@ -83,14 +83,14 @@ fn numbered(rt: &impl Abort, alloc: Global, decls: &[Decl]) -> Vec<Decl> {
 /// The flat code of a property, with its numbered scalars.
 fn flat(rt: &impl Abort, alloc: Global, p: &TypedProperty) -> Property {
     let decls = numbered(rt, alloc, &p.property().decls);
-    let f = flatten(alloc, p).expect(rt, "flat code");
+    let mut f = flatten(alloc, p).expect(rt, "flat code");
     Property {
         at: 0,
         edition: p.property().edition,
         decls,
-        init: f.init,
-        tele: f.tele,
-        check: f.check,
+        init: replace(&mut f.init, Vec::new(alloc)),
+        tele: replace(&mut f.tele, Vec::new(alloc)),
+        check: replace(&mut f.check, Vec::new(alloc)),
     }
 }
 
