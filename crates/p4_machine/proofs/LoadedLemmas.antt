@@ -1,12 +1,11 @@
 -- What the tables of a switch choose, by their names.
-use Rattle.std.proofs.Common.{◌≡◌, ℕ, zero, suc, ◌<◌, ◌≤◌, List, [], ◌∷◌, ◌&&◌, ◌||◌, codes, length, map, get_or, Bool, true, false, cond, Option, Some, None, refl, sym, ap, ap₂, subst, ◌∙◌, arith}
+use Rattle.std.proofs.Common.{◌≡◌, ℕ, zero, suc, ◌<◌, ◌≤◌, List, [], ◌∷◌, codes, length, map, get_or, Bool, true, false, cond, Option, Some, None, refl, sym, ap, ap₂, ◌∙◌, arith}
 use Rattle.std.proofs.lemmas.Bool.{and_parts, and_from, false≢true, ltb-true, lt-ltb}
 use Rattle.std.specs.Prelude.{nat_lt}
 use Rattle.std.specs.Bool.{OnTrue, OnFalse}
 use Rattle.lex_text.specs.Names.{same_text}
 use Rattle.bit_values.specs.Bits.{Word}
 use Rattle.p4_tree.specs.Tree.{Program}
-use Rattle.p4_meaning.specs.Choice as choice
 use Rattle.p4_meaning.specs.Choice.{choice_of}
 use Rattle.p4_meaning.specs.Actions.{Action, action_named}
 use Rattle.p4_meaning.specs.Tables as meaning
@@ -17,9 +16,9 @@ use Rattle.p4_parts.specs.declared.parts.Action as code_action
 use Rattle.p4_statements.specs.Outcomes.{Outcome, outcome_from, outcome_in, outcome_at}
 use Rattle.table_shapes.specs.Shapes.{Shape, has_ternary}
 use Rattle.table_entries.specs.Entries.{Act, named}
-use Rattle.p4_tables.specs.State.{Held, held_at, no_table}
+use Rattle.p4_tables.specs.State.{Held, held_at}
 use Rattle.p4_tables.specs.Answers.{IsHit, IsMiss}
-use Rattle.p4_tables.specs.Programs.{shapes, kind_of, key_shapes, table_before, tables_before, state_before, keys_hold, params_hold}
+use Rattle.p4_tables.specs.Programs.{shapes, tables_before, state_before, keys_hold, params_hold}
 use Rattle.value_shapes.specs.declared.values.ValueShape.{ValueShape}
 use Rattle.p4_tables.specs.Named.{action_name, entries_named, tables_named, tables_in, table_place}
 use Rattle.p4_tables.proofs.Applied.{same_ternary, miss_chosen}

@@ -5,14 +5,21 @@ use Rattle.p4_tree.specs.View.{program_of}
 use Rattle.p4_meaning.specs.Statements.{Digest}
 use Rattle.p4_meaning.specs.Parts.{Parts, parts_of}
 use Rattle.p4_meaning.specs.Pass.{Registers, Queued, parts_enter}
+use Rattle.p4_parts.specs.PartsIn.{parts_in}
 use Rattle.p4_statements.specs.Runs.{cells_in}
 use Rattle.p4_tables.specs.State.{Held}
 use Rattle.p4_tables.specs.Programs.{IsStateOf, shapes}
 use Rattle.p4_tables.specs.Named.{tables_in}
 use Rattle.p4_machine.specs.Loaded.{fits_in}
-use Rattle.p4_machine.specs.Passages.{Passage, exit_from, exit_behind, exit_in, passage_in}
+use Rattle.p4_machine.specs.Passages.{exit_from, exit_behind, exit_in, passage_in}
 use Rattle.p4_machine.specs.State.{State}
+use Rattle.p4_machine.specs.Kept.{IsPlan}
+use Rattle.p4_machine.specs.declared.plan.Plan.{Plan}
 use Rattle.p4_machine.proofs.LoadedLemmas.{state_for, fit}
+
+-- the parts of its plan, which it lends
+pub lent_parts : (x y : Plan) → x ≡ y → IsPlan y → parts_in x.parts ≡ parts_of (program_of y.program)
+lent_parts x y same is = ap (λ (x : Plan). parts_in x.parts) same ∙ is.parts
 
 -- its tables fit its parts
 pub parts_fit : (q : Parts) (p : Program) (st : List Held) → q ≡ parts_of p → IsStateOf p st → length (parts_of p).tables < 4294967296 → fits_in q.tables (shapes st) ≡ true

@@ -1,6 +1,6 @@
 -- What is handed in to a passage, and comes out of it: buffers, what waits, and where a packet goes. Read `Waiting` before
 -- it.
-use Rattle.std.specs.Prelude.{◌≡◌, ℕ, ◌≤◌, List, map, Bool, true, false, Option, Some, None}
+use Rattle.std.specs.Prelude.{◌≡◌, ℕ, List, map, Bool, true, false, Option, Some, None}
 use Rattle.std.specs.Option.{option_map}
 use Rattle.p4_tree.specs.Tree.{Program}
 use Rattle.p4_meaning.specs.Statements.{Digest}

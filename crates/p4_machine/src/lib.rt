@@ -4,7 +4,8 @@
 //! `room`, `enter`, `leave`, `pass`, `set_table` and `cell`; `Switch`, which meets it over the maps by
 //! name of `p4_passages`; and `FrameBuf` and `Queued`, which are handed in. Contracts say what each call
 //! does as the halves of the trees' meaning (`specs/Passages`), and see buffers and places as records
-//! (`specs/Buffers`). Both are made for a program (`IsMadeFor`).
+//! (`specs/Buffers`). Both are made for a program (`IsMadeFor`). Switches of one program share it and all
+//! that is reckoned of it: `new` makes the first of them, and `another` each further one.
 //!
 //! Follows: P4_16 Language Specification and v1model, this project's subset.
 //!
@@ -15,6 +16,7 @@ mod buffer;
 mod loaded;
 mod needs;
 mod pass;
+mod plan;
 mod queued;
 mod switch;
 

@@ -10,6 +10,7 @@ ghost use Rattle.p4_statements.specs.Runs.{cells_in};
 ghost use Rattle.p4_passages.specs.Waiting.{gone_of, waiting_of};
 ghost use Rattle.p4_tables.specs.Programs.{IsStateOf, shapes};
 ghost use Rattle.p4_tables.specs.Named.{tables_in};
+ghost use Rattle.p4_machine.specs.Kept.{IsPlan};
 ghost use Rattle.p4_machine.specs.Loaded.{fits_in};
 ghost use Rattle.p4_machine.specs.Passages.{name_or, exit_from};
 ghost use Rattle.p4_machine.specs.Buffers.{goes_out, is_queued, is_some_packet, place_of};
@@ -17,11 +18,11 @@ ghost use Rattle.p4_machine.specs.declared.pass.Passed.TheVariants as passed;
 
 use crate::buffer::FrameBuf;
 use crate::loaded::Loaded;
-use crate::needs::{Needs, needs_of};
 use crate::pass::{Entered, Pass, Passed};
+use crate::plan::{Plan, plan_of};
 use crate::queued::Queued;
 use bit_values::Bits;
-use p4_parts::{Cells as Declared, Parts, parts_of};
+use p4_parts::{Cells as Declared, Parts};
 use p4_passages::{Gone, Waiting, enter, leave, start_cells};
 use p4_statements::Registers;
 use p4_tables::{Entry, TableState};
@@ -29,24 +30,21 @@ use p4_types::TypedProgram;
 use std::alloc::{AllocError, Global};
 use std::marker::Model;
 use std::mem;
+use std::rc::Rc;
 
-/// A switch that runs a well-typed program, on maps by name.
+/// A switch that runs a well-typed program, on maps by name. Switches of one program share its plan.
 pub struct Switch {
-    program: TypedProgram,
-    parts: Parts,
+    plan: Rc<Plan>,
     registers: Registers,
     tables: TableState,
-    needs: Needs,
 }
 
 impl Drop for Switch {
     fn drop(self) {
         let Switch {
-            program: _program,
-            parts: _parts,
+            plan: _plan,
             registers: _registers,
             tables: _tables,
-            needs: _needs,
         } = self;
     }
 }
@@ -178,17 +176,24 @@ fn register_name(declared: &[Declared], number: u32) -> &str
     }
 }
 
-/// So many tables are numbered by 32 bits. No memory holds more.
-fn few(count: usize) -> Result<(), AllocError>
-    ensures { OnOk result (count < 4294967296) }
-{
-    match u32::try_from(count) {
-        Ok(_) => Ok(()),
-        Err(_) => Err(AllocError),
-    }
-}
-
 impl Switch {
+    /// A switch on a plan; its registers are 0.
+    fn on(alloc: Global, plan: Rc<Plan>, tables: TableState) -> Result<Switch, AllocError>
+        requires plan { IsPlan plan.value }
+        requires tables { IsStateOf (program_of plan.value.program) tables }
+        ensures program { IfOk result (λ s. program_of s.program ≡ program_of plan.value.program) }
+        ensures tables { IfOk result (λ s. s.tables ≡ tables) }
+        ensures cells { IfOk result (λ s. cells_in s.registers
+            ≡ start_cells (parts_of (program_of plan.value.program)).registers) }
+    {
+        let registers = start_cells(alloc, &plan.as_ref().parts.registers)?;
+        Ok(Switch {
+            plan,
+            registers,
+            tables,
+        })
+    }
+
     /// A switch that runs this program with these tables; its registers are 0.
     pub fn new(
         alloc: Global,
@@ -201,17 +206,19 @@ impl Switch {
         ensures cells { IfOk result (λ s. cells_in s.registers
             ≡ start_cells (parts_of (program_of program)).registers) }
     {
-        let parts = parts_of(alloc, program.program())?;
-        few(parts.tables.len())?;
-        let registers = start_cells(alloc, &parts.registers)?;
-        let needs = needs_of(&program)?;
-        Ok(Switch {
-            program,
-            parts,
-            registers,
-            tables,
-            needs,
-        })
+        Switch::on(alloc, plan_of(alloc, program)?, tables)
+    }
+
+    /// Another switch that runs the program of this one, with these tables; its registers are 0. The
+    /// program is neither copied nor taken apart again.
+    pub fn another(&self, alloc: Global, tables: TableState) -> Result<Switch, AllocError>
+        requires { IsStateOf (program_of self.now.program) tables }
+        ensures program { IfOk result (λ s. program_of s.program ≡ program_of self.now.program) }
+        ensures tables { IfOk result (λ s. s.tables ≡ tables) }
+        ensures cells { IfOk result (λ s. cells_in s.registers
+            ≡ start_cells (parts_of (program_of self.now.program)).registers) }
+    {
+        Switch::on(alloc, self.plan.clone()?, tables)
     }
 }
 
@@ -223,7 +230,7 @@ impl Pass for Switch {
     ghost cells = { λ s. cells_in s.registers };
 
     fn room(&self, _alloc: Global, bytes: u32) -> Result<Queued, AllocError> {
-        Ok(Queued::new(self.needs, bytes))
+        Ok(Queued::new(self.plan.as_ref().needs, bytes))
     }
 
     fn enter(
@@ -234,10 +241,11 @@ impl Pass for Switch {
         buf: &mut FrameBuf,
         q: &mut Queued,
     ) -> Result<Entered, AllocError> {
+        let plan = self.plan.as_ref();
         buf.clear();
         let waiting = go_in(
             alloc,
-            &self.parts,
+            &plan.parts,
             &self.tables,
             &mut self.registers,
             port,
@@ -253,11 +261,12 @@ impl Pass for Switch {
         q: &mut Queued,
         buf: &mut FrameBuf,
     ) -> Result<Passed, AllocError> {
+        let plan = self.plan.as_ref();
         buf.clear();
         let waiting = take(q);
         go_out(
             alloc,
-            &self.parts,
+            &plan.parts,
             &self.tables,
             &mut self.registers,
             waiting,
@@ -272,10 +281,11 @@ impl Pass for Switch {
         frame: &[u8],
         buf: &mut FrameBuf,
     ) -> Result<Passed, AllocError> {
+        let plan = self.plan.as_ref();
         buf.clear();
         let waiting = go_in(
             alloc,
-            &self.parts,
+            &plan.parts,
             &self.tables,
             &mut self.registers,
             port,
@@ -284,7 +294,7 @@ impl Pass for Switch {
         )?;
         go_out(
             alloc,
-            &self.parts,
+            &plan.parts,
             &self.tables,
             &mut self.registers,
             waiting,
@@ -304,7 +314,7 @@ impl Pass for Switch {
     }
 
     fn cell(&self, register: u32, index: u32) -> Bits {
-        let name = register_name(&self.parts.registers, register);
+        let name = register_name(&self.plan.as_ref().parts.registers, register);
         self.registers.read(name, u128::from(index))
     }
 }

@@ -34,6 +34,30 @@ pub trait Bench {
         ensures program { IfOk result (λ u. Self.Unit.program u ≡ program_of program) }
         ensures tables { IfOk result (λ u. Self.Unit.tables u ≡ tables) }
         ensures cells { IfOk result (λ u. Self.Unit.cells u ≡ start_cells (parts_of (program_of program)).registers) };
+
+    /// Another switch that runs the program of a unit, with these tables, as `build` makes it: units of one
+    /// program may share what they have in common.
+    ///
+    /// # Errors
+    ///
+    /// `AllocError` where memory runs out.
+    fn another(
+        &mut self,
+        alloc: Global,
+        unit: &Self::Unit,
+        program: &TypedProgram,
+        tables: TableState,
+    ) -> Result<Self::Unit, AllocError>
+        requires runs { Self.Unit.program unit.now ≡ program_of program.now }
+        requires tables { IsStateOf (program_of program.now) tables }
+        requires spelled { CanSpell (program_of program.now) }
+        ensures program { IfOk result (λ u. Self.Unit.program u ≡ program_of program.now) }
+        ensures tables { IfOk result (λ u. Self.Unit.tables u ≡ tables) }
+        ensures cells { IfOk result (λ u. Self.Unit.cells u ≡ start_cells (parts_of (program_of program.now)).registers) }
+    {
+        let _unit = unit;
+        self.build(alloc, program.copy(alloc)?, tables)
+    }
 }
 
 /// A bench of plain switches.
@@ -50,5 +74,15 @@ impl Bench for SwitchBench {
         tables: TableState,
     ) -> Result<Switch, AllocError> {
         Switch::new(alloc, program, tables)
+    }
+
+    fn another(
+        &mut self,
+        alloc: Global,
+        unit: &Switch,
+        _program: &TypedProgram,
+        tables: TableState,
+    ) -> Result<Switch, AllocError> {
+        unit.another(alloc, tables)
     }
 }

@@ -1,5 +1,6 @@
 //! A bench for tests: it keeps what it is handed, and one of its switches stops.
 
+ghost use Rattle.p4_printer.specs.CanSpell.{CanSpell};
 ghost use Rattle.p4_tree.specs.View.{program_of};
 ghost use Rattle.p4_statements.specs.Runs.{cells_in};
 
@@ -90,6 +91,21 @@ pub struct StoppingBench {
     pub stop: Option<(usize, u32)>,
 }
 
+impl StoppingBench {
+    /// Keeps the text of a program: how many entries of the switch that is built for it come before the one
+    /// that answers want of memory.
+    fn keep(&mut self, alloc: Global, program: &TypedProgram) -> Result<Option<u32>, AllocError>
+        requires { CanSpell (program_of program.now) }
+    {
+        let left = match self.stop {
+            Some((switch, entries)) if switch == self.texts.len() => Some(entries),
+            _ => None,
+        };
+        self.texts.push(print_program(alloc, program.program())?)?;
+        Ok(left)
+    }
+}
+
 impl Bench for StoppingBench {
     type Unit = StoppingSwitch;
 
@@ -99,12 +115,20 @@ impl Bench for StoppingBench {
         program: TypedProgram,
         tables: TableState,
     ) -> Result<StoppingSwitch, AllocError> {
-        let left = match self.stop {
-            Some((switch, entries)) if switch == self.texts.len() => Some(entries),
-            _ => None,
-        };
-        self.texts.push(print_program(alloc, program.program())?)?;
+        let left = self.keep(alloc, &program)?;
         let switch = Switch::new(alloc, program, tables)?;
+        Ok(StoppingSwitch { switch, left })
+    }
+
+    fn another(
+        &mut self,
+        alloc: Global,
+        unit: &StoppingSwitch,
+        program: &TypedProgram,
+        tables: TableState,
+    ) -> Result<StoppingSwitch, AllocError> {
+        let left = self.keep(alloc, program)?;
+        let switch = unit.switch.another(alloc, tables)?;
         Ok(StoppingSwitch { switch, left })
     }
 }

@@ -1,4 +1,4 @@
-use Rattle.std.proofs.Common.{◌≡◌, map, sym, ap, ◌∙◌, arith}
+use Rattle.std.proofs.Common.{map, sym, ap, ◌∙◌, arith}
 use Rattle.p4_meaning.specs.Actions.{action_named}
 use Rattle.p4_parts.specs.PartsIn.{action_in}
 use Rattle.p4_parts.specs.declared.parts.Action as code_action

@@ -8,29 +8,29 @@ use Rattle.p4_passages.specs.Waiting.{waiting_of}
 use Rattle.p4_machine.specs.Passages.{Passage}
 use Rattle.p4_machine.specs.Buffers.{goes_out}
 use Rattle.p4_machine.specs.State.{state_of}
-use Rattle.p4_machine.proofs.SwitchLemmas.{parts_fit, passed_by}
+use Rattle.p4_machine.proofs.SwitchLemmas.{lent_parts, parts_fit, passed_by}
 use Rattle.p4_machine.proofs.switch.SwitchPass.pass.Goals as goal
 
 pub go_in-requires-clause-fits : goal.go_in-requires-clause-fits
-go_in-requires-clause-fits c = parts_fit (parts_in c.self.inside.parts) (program_of c.self.inside.program) c.self.inside.tables c.self.invariant.parts c.self.invariant.tables c.self.invariant.few
+go_in-requires-clause-fits c = parts_fit (parts_in c.as_ref-plan.result.now.parts) (program_of c.self.inside.plan.value.program) c.self.inside.tables (lent_parts c.as_ref-plan.result.now c.self.inside.plan.value c.as_ref-plan.ensures c.self.invariant.plan) c.self.invariant.tables c.self.invariant.plan.few
 
 pub go_out-requires-clause-fits : goal.go_out-requires-clause-fits
-go_out-requires-clause-fits c = parts_fit (parts_in c.self.inside.parts) (program_of c.self.inside.program) c.self.inside.tables c.self.invariant.parts c.self.invariant.tables c.self.invariant.few
+go_out-requires-clause-fits c = parts_fit (parts_in c.as_ref-plan.result.now.parts) (program_of c.self.inside.plan.value.program) c.self.inside.tables (lent_parts c.as_ref-plan.result.now c.self.inside.plan.value c.as_ref-plan.ensures c.self.invariant.plan) c.self.invariant.tables c.self.invariant.plan.few
 
 pub returns-clause-cells : goal.returns-clause-cells
 returns-clause-cells c =
     subst (λ (x : Passage). OnOk c.go_out.result (cells_in c.go_out.new.registers ≡ x.registers))
-    (passed_by (parts_in c.self.inside.parts) (state_of c.self.inside) c.args.self.now (cells_in c.go_in.new.registers) c.clear.new.self.digests c.go_in.new.buf.digests (option_map waiting_of c.in_ok-waiting.waiting) c.args.port c.args.frame.now c.self.invariant.parts c.self.view_is c.clear.ensures.digests c.in_ok-waiting.ensures.registers c.in_ok-waiting.ensures.digests c.in_ok-waiting.ensures.queued)
+    (passed_by (parts_in c.as_ref-plan.result.now.parts) (state_of c.self.inside) c.args.self.now (cells_in c.go_in.new.registers) c.clear.new.self.digests c.go_in.new.buf.digests (option_map waiting_of c.in_ok-waiting.waiting) c.args.port c.args.frame.now (lent_parts c.as_ref-plan.result.now c.self.inside.plan.value c.as_ref-plan.ensures c.self.invariant.plan) c.self.view_is c.clear.ensures.digests c.in_ok-waiting.ensures.registers c.in_ok-waiting.ensures.digests c.in_ok-waiting.ensures.queued)
     c.go_out.ensures.registers
 
 pub returns-clause-out : goal.returns-clause-out
 returns-clause-out c =
     subst (λ (x : Passage). IfOk c.go_out.result (λ y. goes_out y c.go_out.new.buf.frame ≡ x.out))
-    (passed_by (parts_in c.self.inside.parts) (state_of c.self.inside) c.args.self.now (cells_in c.go_in.new.registers) c.clear.new.self.digests c.go_in.new.buf.digests (option_map waiting_of c.in_ok-waiting.waiting) c.args.port c.args.frame.now c.self.invariant.parts c.self.view_is c.clear.ensures.digests c.in_ok-waiting.ensures.registers c.in_ok-waiting.ensures.digests c.in_ok-waiting.ensures.queued)
+    (passed_by (parts_in c.as_ref-plan.result.now.parts) (state_of c.self.inside) c.args.self.now (cells_in c.go_in.new.registers) c.clear.new.self.digests c.go_in.new.buf.digests (option_map waiting_of c.in_ok-waiting.waiting) c.args.port c.args.frame.now (lent_parts c.as_ref-plan.result.now c.self.inside.plan.value c.as_ref-plan.ensures c.self.invariant.plan) c.self.view_is c.clear.ensures.digests c.in_ok-waiting.ensures.registers c.in_ok-waiting.ensures.digests c.in_ok-waiting.ensures.queued)
     c.go_out.ensures.out
 
 pub returns-clause-digests : goal.returns-clause-digests
 returns-clause-digests c =
     subst (λ (x : Passage). OnOk c.go_out.result (c.go_out.new.buf.digests ≡ x.digests))
-    (passed_by (parts_in c.self.inside.parts) (state_of c.self.inside) c.args.self.now (cells_in c.go_in.new.registers) c.clear.new.self.digests c.go_in.new.buf.digests (option_map waiting_of c.in_ok-waiting.waiting) c.args.port c.args.frame.now c.self.invariant.parts c.self.view_is c.clear.ensures.digests c.in_ok-waiting.ensures.registers c.in_ok-waiting.ensures.digests c.in_ok-waiting.ensures.queued)
+    (passed_by (parts_in c.as_ref-plan.result.now.parts) (state_of c.self.inside) c.args.self.now (cells_in c.go_in.new.registers) c.clear.new.self.digests c.go_in.new.buf.digests (option_map waiting_of c.in_ok-waiting.waiting) c.args.port c.args.frame.now (lent_parts c.as_ref-plan.result.now c.self.inside.plan.value c.as_ref-plan.ensures c.self.invariant.plan) c.self.view_is c.clear.ensures.digests c.in_ok-waiting.ensures.registers c.in_ok-waiting.ensures.digests c.in_ok-waiting.ensures.queued)
     c.go_out.ensures.digests
