@@ -99,30 +99,37 @@ seen_has_width p s sc st sees want most e f = runs_at p s sc sees.tied st sees.f
 after_known : (p : Parts) (h : Part) (s : Scope) (sc : meaning.Scope) → IsKnown p s sc → (c : Stmt) → IsFine (stmt_tests h s c) → IsKnown p (after s c) sc
 after_known p h s sc k c f = record { tied = after_tied p h s sc k.tied c f; sound = after_sound h s k.sound c f; names = after_names h s k.names c f; words = k.words; owns = k.owns }
 
--- what holds at each statement of statements that break no rule, with what is known of the scopes there
-module _ (p : Parts) (calls : Calls) (sc : meaning.Scope) (P Q : Scope → meaning.Scope → Stmt → Run → Type 0) (turn : (s : Scope) (c : Stmt) (r : Run) → IsKnown p s sc → P s sc c r → Q s sc c r) where
-  mutual
-    known_stmt : (c : Stmt) (h : Part) (s : Scope) → IsKnown p s sc → IsFine (stmt_tests h s c) → (r : Run) → AlongStmt calls P s sc c r → AlongStmt calls Q s sc c r
-    known_stmt (nothing q) h s k f r w = turn s (nothing q) r k w
-    known_stmt (block q b) h s k f r w = (turn s (block q b) r k w.0, known_block b h s k f.1 r w.1)
-    known_stmt (var q ty x e) h s k f r w = turn s (var q ty x e) r k w
-    known_stmt (assign q x e) h s k f r w = turn s (assign q x e) r k w
-    known_stmt (choice q e a b) h s k f r w = (
-      turn s (choice q e a b) r k w.0,
-      λ go hit. known_stmt a h s k f.1.1.0 (tested calls (expr_under sc e) r).run (w.1 go hit),
-      λ go hit. known_else b h s k f.1.1.1 (tested calls (expr_under sc e) r).run (w.2 go hit),
-    )
-    known_stmt (return_ q) h s k f r w = turn s (return_ q) r k w
-    known_stmt (exit_ q) h s k f r w = turn s (exit_ q) r k w
-    known_stmt (call q x args) h s k f r w = turn s (call q x args) r k w
+-- what holds at each statement of statements that break no rule, with what is known of the rules' scope there and stays known
+-- behind each statement
+module _ (K : Scope → Type 0) (keeps : (h : Part) (s : Scope) → K s → (c : Stmt) → IsFine (stmt_tests h s c) → K (after s c)) (calls : Calls) (sc : meaning.Scope) (P Q : Scope → meaning.Scope → Stmt → Run → Type 0)
+    (turn : (s : Scope) (c : Stmt) (r : Run) → K s → P s sc c r → Q s sc c r)
+  where
+    mutual
+      turned_stmt : (c : Stmt) (h : Part) (s : Scope) → K s → IsFine (stmt_tests h s c) → (r : Run) → AlongStmt calls P s sc c r → AlongStmt calls Q s sc c r
+      turned_stmt (nothing q) h s k f r w = turn s (nothing q) r k w
+      turned_stmt (block q b) h s k f r w = (turn s (block q b) r k w.0, turned_block b h s k f.1 r w.1)
+      turned_stmt (var q ty x e) h s k f r w = turn s (var q ty x e) r k w
+      turned_stmt (assign q x e) h s k f r w = turn s (assign q x e) r k w
+      turned_stmt (choice q e a b) h s k f r w = (
+        turn s (choice q e a b) r k w.0,
+        λ go hit. turned_stmt a h s k f.1.1.0 (tested calls (expr_under sc e) r).run (w.1 go hit),
+        λ go hit. turned_else b h s k f.1.1.1 (tested calls (expr_under sc e) r).run (w.2 go hit),
+      )
+      turned_stmt (return_ q) h s k f r w = turn s (return_ q) r k w
+      turned_stmt (exit_ q) h s k f r w = turn s (exit_ q) r k w
+      turned_stmt (call q x args) h s k f r w = turn s (call q x args) r k w
 
-    known_else : (o : MaybeStmt) (h : Part) (s : Scope) → IsKnown p s sc → IsFine (else_tests h s o) → (r : Run) → AlongElse calls P s sc o r → AlongElse calls Q s sc o r
-    known_else without h s k f r w = tt
-    known_else (otherwise c) h s k f r w = known_stmt c h s k f r w
+      turned_else : (o : MaybeStmt) (h : Part) (s : Scope) → K s → IsFine (else_tests h s o) → (r : Run) → AlongElse calls P s sc o r → AlongElse calls Q s sc o r
+      turned_else without h s k f r w = tt
+      turned_else (otherwise c) h s k f r w = turned_stmt c h s k f r w
 
-    pub known_block : (b : Stmts) (h : Part) (s : Scope) → IsKnown p s sc → IsFine (block_tests h s b) → (r : Run) → Along calls P s sc b r → Along calls Q s sc b r
-    known_block done h s k f r w = tt
-    known_block (next c ss) h s k f r w = (
-      known_stmt c h s k f.0 r w.0,
-      λ go. known_block ss h (after s c) (after_known p h s sc k c f.0) f.1 (meaning_of_stmt calls (stmt_under sc c) r).0 (w.1 go),
-    )
+      pub turned_block : (b : Stmts) (h : Part) (s : Scope) → K s → IsFine (block_tests h s b) → (r : Run) → Along calls P s sc b r → Along calls Q s sc b r
+      turned_block done h s k f r w = tt
+      turned_block (next c ss) h s k f r w = (
+        turned_stmt c h s k f.0 r w.0,
+        λ go. turned_block ss h (after s c) (keeps h s k c f.0) f.1 (meaning_of_stmt calls (stmt_under sc c) r).0 (w.1 go),
+      )
+
+pub known_block : (p : Parts) (calls : Calls) (sc : meaning.Scope) (P Q : Scope → meaning.Scope → Stmt → Run → Type 0) → ((s : Scope) (c : Stmt) (r : Run) → IsKnown p s sc → P s sc c r → Q s sc c r)
+    → (b : Stmts) (h : Part) (s : Scope) → IsKnown p s sc → IsFine (block_tests h s b) → (r : Run) → Along calls P s sc b r → Along calls Q s sc b r
+known_block p calls sc P Q turn = turned_block (λ s. IsKnown p s sc) (λ h s k c f. after_known p h s sc k c f) calls sc P Q turn

@@ -53,16 +53,17 @@ not_true true h = broken (sym h)
 not_true false h = refl
 
 -- the parts of the controls by their places, and what is wanted of their parameters
-record AreParts (ts : List Top) (R : Structs) (at : ℕ) (main : List (List ℕ)) : Type 0 where
-  verify : part_in main (named_in main 1) ≡ place.Verify
-  ingress : part_in main (named_in main 2) ≡ place.Apply
-  egress : part_in main (named_in main 3) ≡ place.Apply
-  compute : part_in main (named_in main 4) ≡ place.Compute
-  parser_wanted : IsFine (parser_params at R (parser_named ts (named_in main 0)))
-  verify_wanted : IsFine (control_params at R checksum_wants (control_named ts (named_in main 1)))
-  ingress_wanted : IsFine (control_params at R apply_wants (control_named ts (named_in main 2)))
-  egress_wanted : IsFine (control_params at R apply_wants (control_named ts (named_in main 3)))
-  compute_wanted : IsFine (control_params at R checksum_wants (control_named ts (named_in main 4)))
+pub record AreParts (ts : List Top) (R : Structs) (at : ℕ) (main : List (List ℕ)) : Type 0 where
+  pub verify : part_in main (named_in main 1) ≡ place.Verify
+  pub ingress : part_in main (named_in main 2) ≡ place.Apply
+  pub egress : part_in main (named_in main 3) ≡ place.Apply
+  pub compute : part_in main (named_in main 4) ≡ place.Compute
+  pub deparser : part_in main (named_in main 5) ≡ place.Deparser
+  pub parser_wanted : IsFine (parser_params at R (parser_named ts (named_in main 0)))
+  pub verify_wanted : IsFine (control_params at R checksum_wants (control_named ts (named_in main 1)))
+  pub ingress_wanted : IsFine (control_params at R apply_wants (control_named ts (named_in main 2)))
+  pub egress_wanted : IsFine (control_params at R apply_wants (control_named ts (named_in main 3)))
+  pub compute_wanted : IsFine (control_params at R checksum_wants (control_named ts (named_in main 4)))
 
 no_parts : (ts : List Top) (R : Structs) (at : ℕ) (main : List (List ℕ)) → false ≡ true → AreParts ts R at main
 no_parts ts R at main h = broken (sym h)
@@ -94,11 +95,16 @@ parts_are ts R at (d ∷ v ∷ i ∷ e ∷ k ∷ m ∷ []) h f =
     let ie = apart_first i e (k ∷ m ∷ []) b.0 in
     let ik = apart_first i k (m ∷ []) ie.1 in
     let ek = apart_first e k (m ∷ []) c.0 in
+    let vm = apart_first v m [] vk.1 in
+    let im = apart_first i m [] ik.1 in
+    let em = apart_first e m [] ek.1 in
+    let km = apart_first k m [] (neither (is_among (m ∷ []) k) (has_twice (m ∷ [])) c.1).0 in
     record {
       verify = chosen (same_text v v) (same_text i v) (same_text e v) (same_text k v) (same_text m v) (text_same v v refl);
       ingress = second (same_text v i) (same_text i i) (same_text e i) (same_text k i) (same_text m i) vi.0 (text_same i i refl);
       egress = third (same_text v e) (same_text i e) (same_text e e) (same_text k e) (same_text m e) ve.0 ie.0 (text_same e e refl);
       compute = fourth (same_text v k) (same_text i k) (same_text e k) (same_text k k) (same_text m k) vk.0 ik.0 ek.0 (text_same k k refl);
+      deparser = fifth (same_text v m) (same_text i m) (same_text e m) (same_text k m) (same_text m m) vm.0 im.0 em.0 km.0 (text_same m m refl);
       parser_wanted = f.0;
       verify_wanted = f.1.0;
       ingress_wanted = f.1.1.0;
@@ -128,14 +134,22 @@ parts_are ts R at (d ∷ v ∷ i ∷ e ∷ k ∷ m ∷ []) h f =
     fourth false false false true j q r s t = refl
     fourth false false false false j q r s t = broken (sym t)
 
+    fifth : (a b c g j : Bool) → a ≡ false → b ≡ false → c ≡ false → g ≡ false → j ≡ true → Chosen a b c g j ≡ place.Deparser
+    fifth true b c g j q r s t u = broken q
+    fifth false true c g j q r s t u = broken r
+    fifth false false true g j q r s t u = broken s
+    fifth false false false true j q r s t u = broken t
+    fifth false false false false true q r s t u = refl
+    fifth false false false false false q r s t u = broken (sym u)
+
 -- ---- a program
 
 module _ (p : Program) (well : IsWellTyped p) (names : HavePlainNames p.tops) (values : HavePlainValues p.tops) where
-  abbrev Of : Parts
+  abbrev pub Of : Parts
   Of = parts_of p
 
   -- behind all declarations
-  abbrev Last : Scope
+  abbrev pub Last : Scope
   Last = after_tops core p.tops
 
   last : IsEnd p Last
@@ -144,7 +158,7 @@ module _ (p : Program) (well : IsWellTyped p) (names : HavePlainNames p.tops) (v
   front : AreFront Of p.main Last p.tops core no_scope
   front = first_front p well names values (each_words (λ sc h ts ls. behind_all_locals (behind_tops sc ts) ls (behind_all_tops sc ts h)) p)
 
-  parts : AreParts p.tops (structs_of Last p) p.at p.main
+  pub parts : AreParts p.tops (structs_of Last p) p.at p.main
   parts =
       parts_are p.tops (structs_of Last p) p.at p.main (parts_named p well)
       (subst (λ (s : Scope). IsFine (main_tests s p)) (all_first p.main core p.tops (typed_fine p well).0) (typed_fine p well).1.0).1.1
@@ -152,13 +166,13 @@ module _ (p : Program) (well : IsWellTyped p) (names : HavePlainNames p.tops) (v
   there : HavePaths Of.headers
   there = paths p well
 
-  here : (n : ℕ) (c : Control) → control_in p n ≡ Some c → AtControl Of p.main Last (control_rules p n) (control_scope p n) c × (c.name ≡ named_in p.main n)
+  pub here : (n : ℕ) (c : Control) → control_in p n ≡ Some c → AtControl Of p.main Last (control_rules p n) (control_scope p n) c × (c.name ≡ named_in p.main n)
   here n c e = at_control Of p.main Last p.tops core no_scope front (named_in p.main n) c e
 
   at_parser_here : (d : Parser) → parser_in p ≡ Some d → AtParser Of p.main Last (parser_rules p) (parser_scope p) d
   at_parser_here d e = at_parser Of p.main Last p.tops core no_scope front (named_in p.main 0) d e
 
-  part_of : (n : ℕ) (c : Control) → c.name ≡ named_in p.main n → (h : Part) → part_in p.main (named_in p.main n) ≡ h → part_in p.main c.name ≡ h
+  pub part_of : (n : ℕ) (c : Control) → c.name ≡ named_in p.main n → (h : Part) → part_in p.main (named_in p.main n) ≡ h → part_in p.main c.name ≡ h
   part_of n c e h i = ap (part_in p.main) e ∙ i
 
   parser_wants_here : (d : Parser) → parser_in p ≡ Some d → IsFine (wanted_tests p.at (structs_of Last p) parser_wants d.params)

@@ -5,18 +5,19 @@ use Rattle.bit_values.specs.Bits.{Word, word}
 use Rattle.bit_values.specs.Widths.{holds}
 use Rattle.lex_text.specs.Names.{same_text}
 use Rattle.rule_tests.specs.Tests.{IsFine}
-use Rattle.p4_tree.specs.Tree.{Expr, num, flag, path, valid, applied, error_name, negation, inversion, opposite, binary, conditional, slice, cast, Arg, one, many, Stmts}
+use Rattle.p4_tree.specs.Tree.{Expr, num, flag, path, valid, applied, error_name, negation, inversion, opposite, binary, conditional, slice, cast, Arg, one, many, Stmts, Local}
 use Rattle.p4_meaning.specs.Store.{Store, set_value}
 use Rattle.p4_meaning.specs.Value.{value_of}
-use Rattle.p4_meaning.specs.Statements.{Go, Run, Calls, runs, values_in, act_named, act_of, done_by, in_store, index_of, cell_at, cell_set, put_cells, digest_of, receiver_of, read_of, sum_of, summed, assigned, Act, makes, drops, reads, writes, tells, sums, applies, idle, Tested, meaning_of}
+use Rattle.p4_meaning.specs.Statements.{Go, Run, Calls, runs, values_in, act_named, act_on_header, act_of, done_by, in_store, index_of, cell_at, cell_set, put_cells, digest_of, receiver_of, read_of, write_of, sum_of, summed, assigned, Act, makes, applies, idle, Tested, meaning_of}
+use Rattle.p4_meaning.specs.Parts.{Parts}
 use Rattle.p4_meaning.specs.Standard.{checksum_error}
 use Rattle.p4_meaning.specs.Checksum.{checksum_of, list_checksum}
 use Rattle.bit_writer.specs.Bytes.{words_bits, bytes_of}
 use Rattle.p4_meaning.specs.Scope as meaning
-use Rattle.p4_meaning.specs.Scope.{full_name, seen}
-use Rattle.p4_meaning.specs.Under.{expr_under, arg_under, callee_under, stmts_under}
+use Rattle.p4_meaning.specs.Scope.{full_name, first_name, seen}
+use Rattle.p4_meaning.specs.Under.{expr_under, arg_under, callee_under, stmts_under, settings_under}
 use Rattle.p4_scopes.specs.Kinds.{is_open, join}
-use Rattle.p4_scopes.specs.Scopes.{Stands, missing, typed, held, cells, act, rows, state, function, algorithm, other, Scope, own}
+use Rattle.p4_scopes.specs.Scopes.{Stands, missing, typed, held, cells, act, rows, state, function, algorithm, other, Scope, core_name, core, own}
 use Rattle.p4_scopes.specs.declared.kind.Kind.{Kind}
 use Rattle.p4_scopes.specs.declared.kind.Kind.TheVariants.{Number, Truth}
 use Rattle.p4_scopes.specs.declared.thing.Thing.TheVariants.{Scalar, Header, Struct, Standard, PacketIn, PacketOut}
@@ -27,18 +28,22 @@ use Rattle.p4_statement_rules.specs.Expressions.{expr_tests, all_free, index_tes
 use Rattle.p4_statement_rules.specs.Calls.{as_many, args_tests, form_tests}
 use Rattle.p4_statement_rules.specs.Statements.{block_tests}
 use Rattle.p4_statement_rules.specs.declared.rule.Part.{Part}
+use Rattle.p4_declaration_rules.specs.Controls.{locals_tests}
 use Rattle.p4_typing_laws.specs.Along.{Along}
 use Rattle.p4_typing_laws.specs.Soundness.{kind_width, IsSoundKind, AreSoundKinds, IsSoundStands}
 use Rattle.p4_typing_laws.proofs.Fine.{twice_not}
 use Rattle.p4_typing_laws.proofs.SoundPlaces.{truth_most}
 use Rattle.p4_typing_laws.proofs.StaticWidths.{shown_sound, sound_width_of, own_cap, value_cap, number_cap, pick_cap}
-use Rattle.p4_typing_laws.proofs.CallCounts.{function_name, is_function_name}
+use Rattle.p4_typing_laws.proofs.CallCounts.{text_is, function_name, is_function_name}
+use Rattle.p4_typing_laws.proofs.CountedNames.{KeepsCore, core_calls}
+use Rattle.passage_stores.specs.SeenStores.{Sees, AlongSettings}
 use Rattle.rewriting_laws.specs.Standing.{MayStandFor}
 use Rattle.rewritten_programs.specs.Values.{is_value}
-use Rattle.rewritten_programs.specs.Rewritten.{ArgsRewritten, BlockRewritten}
-use Rattle.rewriting_rules.proofs.Calls.{ArgsStand, CallStands, kept, in_action, in_digest, in_verify, in_update, in_read, in_write, call_stands}
-use Rattle.rewriting_meaning.specs.Sights.{HaveSameValues, Sees, DoSame, IsSeen}
-use Rattle.rewriting_meaning.proofs.Runs.{runs_same, block_same}
+use Rattle.rewritten_programs.specs.Rewritten.{ArgsRewritten, BlockRewritten, LocalRewritten}
+use Rattle.rewriting_rules.specs.Knows.{Any}
+use Rattle.rewriting_rules.proofs.Calls.{ArgsStand, HasNoValue, CallStands, kept, in_action, in_digest, in_verify, in_update, in_read, in_write, call_stands}
+use Rattle.rewriting_meaning.specs.Sights.{HaveSameValues, DoSame, IsSeen, IsFitlySeen}
+use Rattle.rewriting_meaning.proofs.Runs.{runs_same, block_same, settings_same}
 
 broken : {A : Type 0} → true ≡ false → A
 broken h = absurd (cc)
@@ -59,13 +64,13 @@ runs_it x args h = named_runs x args (same_text x (codes "mark_to_drop")) (same_
 kind_cap : (k : Kind) → IsSoundKind k → kind_width k ≤ 128
 kind_cap k h = (sound_width_of k h).most
 
-module _ (s : Scope) (sc : meaning.Scope) (st : Store) (sees : Sees s sc st) where
+module _ (pt : Parts) (s : Scope) (sc : meaning.Scope) (st : Store) (sees : Sees pt s sc st) where
   args_same : (ks : List Kind) → AreSoundKinds ks → (xs ys : List Arg) → ArgsStand MayStandFor xs ys → as_many ks xs ≡ true → IsFine (args_tests s ks xs) → HaveSameValues st (values_in (map (arg_under sc) xs)) (values_in (map (arg_under sc) ys))
   args_same [] so [] [] r m f = tt
   args_same [] so [] (y ∷ ys) r m f = absurd r
   args_same [] so (x ∷ xs) ys r m f = broken (sym m)
   args_same (k ∷ ks) so [] ys r m f = broken (sym m)
-  args_same (k ∷ ks) so (one p e ∷ xs) (one q g ∷ ys) r m f = (λ w. runs_same s sc st sees e g r.0.1 k (kind_cap k so.0) f.0 w, args_same ks so.1 xs ys r.1 m f.1)
+  args_same (k ∷ ks) so (one p e ∷ xs) (one q g ∷ ys) r m f = (λ w. runs_same pt s sc st sees e g r.0.1 k (kind_cap k so.0) f.0 w, args_same ks so.1 xs ys r.1 m f.1)
   args_same (k ∷ ks) so (one p e ∷ xs) [] r m f = absurd r
   args_same (k ∷ ks) so (one p e ∷ xs) (many q gs ∷ ys) r m f = absurd r.0
   args_same (k ∷ ks) so (many p es ∷ xs) ys r m f = broken f.0
@@ -78,33 +83,15 @@ module _ (s : Scope) (sc : meaning.Scope) (st : Store) (sees : Sees s sc st) whe
   free_same (e ∷ es) [] r f = absurd r
   free_same (e ∷ es) (g ∷ gs) r f =
       let cap = value_cap (own s e) (own_cap s (shown_sound s (seen sc st) sees.shows) e _ f.0) in
-      ap₂ (λ (w : Word) (ws : List Word). w ∷ ws) (runs_same s sc st sees e g r.0 _ cap f.0 0) (free_same es gs r.1 f.1)
+      ap₂ (λ (w : Word) (ws : List Word). w ∷ ws) (runs_same pt s sc st sees e g r.0 _ cap f.0 0) (free_same es gs r.1 f.1)
 
   index_same : (e g : Expr) → MayStandFor e g → IsFine (index_tests s e) → value_of (expr_under sc g) 128 st ≡ value_of (expr_under sc e) 128 st
   index_same e g r f =
       let k = own_cap s (shown_sound s (seen sc st) sees.shows) e _ f in
       let cap = number_cap (join (own s e) (Number 128)) (pick_cap (is_open (own s e)) (own s e) (Number 128) k (omega arith)) in
-      runs_same s sc st sees e g r _ cap f 128
+      runs_same pt s sc st sees e g r _ cap f 128
 
   -- ---- what is found fine of the arguments
-
-  function_is : (f : Function) → is_function_name (function_name f) ≡ true
-  function_is MarkToDrop = refl
-  function_is Digest = refl
-  function_is VerifyChecksum = refl
-  function_is UpdateChecksum = refl
-
-  action_values : (p : ℕ) (x : List ℕ) (xs ys : List Arg) → is_function_name x ≡ false → ArgsStand MayStandFor xs ys → (at : Stands) → s (x ∷ []) ≡ at → IsSoundStands at → IsFine (form_tests p s (plain_form at) xs) → HaveSameValues st (values_in (map (arg_under sc) xs)) (values_in (map (arg_under sc) ys))
-  action_values p x xs ys h r missing e so f = broken f
-  action_values p x xs ys h r (typed g t) e so f = broken f
-  action_values p x xs ys h r (held a t) e so f = broken f
-  action_values p x xs ys h r (cells k) e so f = broken f
-  action_values p x xs ys h r (act ks m) e so f = args_same ks so xs ys r (twice_not (as_many ks xs) f.0) f.1
-  action_values p x xs ys h r (rows m) e so f = broken f
-  action_values p x xs ys h r state e so f = broken f
-  action_values p x xs ys h r (function g) e so f = broken (sym (function_is g) ∙ (ap is_function_name (sym (sees.knows.calls.functions x g e)) ∙ h))
-  action_values p x xs ys h r algorithm e so f = broken f
-  action_values p x xs ys h r other e so f = broken f
 
   read_index : (p q : ℕ) (t : Arg) (i : Expr) (at : Stands) → IsFine (form_tests p s (verb_form at (codes "read")) (t ∷ one q i ∷ [])) → IsFine (index_tests s i)
   read_index p q t i missing f = broken f
@@ -209,83 +196,145 @@ module _ (calls other_calls : Calls) (r : Run) where
 
 -- ---- the law
 
-values_refl : (st : Store) (es : List Expr) → HaveSameValues st es es
-values_refl st [] = tt
-values_refl st (e ∷ es) = (λ w. refl, values_refl st es)
+-- a name that stands for a function is the function's
+named_core : (x : List ℕ) (f : Function) → core_name x ≡ function f → x ≡ function_name f
+unfolding core
+named_core x f e = (core_calls Any Any).functions x f e
 
-module _ (calls other_calls : Calls) where
-  act_kept : (a : Act) (r : Run) → DoSame calls other_calls r → done_by other_calls a r ≡ done_by calls a r
-  act_kept (makes h b) r k = refl
-  act_kept drops r k = refl
-  act_kept (reads x t i) r k = refl
-  act_kept (writes x i v) r k = refl
-  act_kept (tells n es) r k = refl
-  act_kept (sums v e es field) r k = refl
-  act_kept (runs x es) r k = k.actions x es es (values_refl r.store es)
-  act_kept (applies x) r k = ap (λ (t : Tested). (t.run, t.flow)) (k.tables x)
-  act_kept idle r k = refl
+function_is : (f : Function) → is_function_name (function_name f) ≡ true
+function_is MarkToDrop = refl
+function_is Digest = refl
+function_is VerifyChecksum = refl
+function_is UpdateChecksum = refl
 
-  module _ (p : ℕ) (s : Scope) (sc : meaning.Scope) (r : Run) (sees : Sees s sc r.store) (k : DoSame calls other_calls r) where
+-- a table stands there where `apply` is called
+applied_rows : (p : ℕ) (s : Scope) (xs : List Arg) (at : Stands) → IsFine (form_tests p s (verb_form at (codes "apply")) xs) → (m : ℕ) × (at ≡ rows m)
+applied_rows p s xs (rows m) f = (m, refl)
+applied_rows p s xs missing f = broken f
+applied_rows p s xs (typed g t) f = broken f
+applied_rows p s xs (held a (Scalar k)) f = broken f
+applied_rows p s xs (held a (Header n)) f = broken f
+applied_rows p s xs (held a Struct) f = broken f
+applied_rows p s xs (held a Standard) f = broken f
+applied_rows p s xs (held a PacketIn) f = broken f
+applied_rows p s xs (held a PacketOut) f = broken f
+applied_rows p s xs (cells k) f = broken f
+applied_rows p s xs (act ks m) f = broken f
+applied_rows p s xs state f = broken f
+applied_rows p s xs (function g) f = broken f
+applied_rows p s xs algorithm f = broken f
+applied_rows p s xs other f = broken f
+
+module _ (pt : Parts) (calls other_calls : Calls) where
+  abbrev DoneSame : Act → Run → Type 0
+  DoneSame a r = done_by other_calls a r ≡ done_by calls a r
+
+  header_same : (h : List (List ℕ)) (verb : List ℕ) (r : Run) → DoneSame (act_on_header h verb) r
+  header_same h verb r = go (same_text verb (codes "setValid")) (same_text verb (codes "setInvalid"))
+    where
+      go : (a b : Bool) → DoneSame (cond a (makes h true) (cond b (makes h false) idle)) r
+      go true b = refl
+      go false true = refl
+      go false false = refl
+
+  module _ (p : ℕ) (s : Scope) (sc : meaning.Scope) (r : Run) (sees : Sees pt s sc r.store) (k : DoSame s sc calls other_calls r) where
+    keeps : KeepsCore s
+    keeps = record { kept = sees.calls.core }
+
+    -- an action that is called
+    action_runs : (x : List ℕ) (xs ys : List Arg) → is_function_name x ≡ false → ArgsStand MayStandFor xs ys → (at : Stands) → s (x ∷ []) ≡ at → IsSoundStands at → IsFine (form_tests p s (plain_form at) xs)
+        → other_calls.run_action (full_name sc x) (values_in (map (arg_under sc) ys)) r ≡ calls.run_action (full_name sc x) (values_in (map (arg_under sc) xs)) r
+    action_runs x xs ys h q missing e so f = broken f
+    action_runs x xs ys h q (typed g t) e so f = broken f
+    action_runs x xs ys h q (held a t) e so f = broken f
+    action_runs x xs ys h q (cells j) e so f = broken f
+    action_runs x xs ys h q (act ks m) e so f = k.actions x ks m e _ _ (args_same pt s sc r.store sees ks so xs ys q (twice_not (as_many ks xs) f.0) f.1)
+    action_runs x xs ys h q (rows m) e so f = broken f
+    action_runs x xs ys h q state e so f = broken f
+    action_runs x xs ys h q (function g) e so f = broken (sym (function_is g) ∙ (ap is_function_name (sym (named_core x g (sees.calls.functions x g e))) ∙ h))
+    action_runs x xs ys h q algorithm e so f = broken f
+    action_runs x xs ys h q other e so f = broken f
+
     action_call : (x : List ℕ) (xs ys : List Arg) → is_function_name x ≡ false → ArgsStand MayStandFor xs ys → IsFine (form_tests p s (plain_form (s (x ∷ []))) xs)
         → done_by other_calls (act_named (full_name sc x) (map (arg_under sc) ys)) r ≡ done_by calls (act_named (full_name sc x) (map (arg_under sc) xs)) r
     action_call x xs ys h q f =
         let X = full_name sc x in
-        let n = sees.plain x h in
-        let values = action_values s sc r.store sees p x xs ys h q (s (x ∷ [])) refl (sees.knows.sound.paths (x ∷ [])) f in
+        let n = sees.calls.plain x h in
         ap (λ (a : Act). done_by other_calls a r) (runs_it X (map (arg_under sc) ys) n)
-        ∙ (k.actions X (values_in (map (arg_under sc) xs)) (values_in (map (arg_under sc) ys)) values
+        ∙ (action_runs x xs ys h q (s (x ∷ [])) refl (sees.sound.paths (x ∷ [])) f
         ∙ sym (ap (λ (a : Act). done_by calls a r) (runs_it X (map (arg_under sc) xs) n)))
+
+    -- a table that is applied, and a verb of no register
+    verb_same : (x verb : List ℕ) (xs : List Arg) (a b c : Bool) → same_text verb (codes "read") ≡ a → same_text verb (codes "write") ≡ b → same_text verb (codes "apply") ≡ c → a ≡ false → b ≡ false → IsFine (form_tests p s (verb_form (s (x ∷ [])) verb) xs)
+        → (zs : List Arg) → DoneSame (cond a (read_of (full_name sc x) zs) (cond b (write_of (full_name sc x) zs) (cond c (applies (full_name sc x)) idle))) r
+    verb_same x verb xs true b c i j l g h f zs = broken g
+    verb_same x verb xs false true c i j l g h f zs = broken h
+    verb_same x verb xs false false true i j l g h f zs =
+        (let there = applied_rows p s xs (s (x ∷ [])) (subst (λ (v : List ℕ). IsFine (form_tests p s (verb_form (s (x ∷ [])) v) xs)) (text_is verb (codes "apply") l) f) in
+        ap (λ (t : Tested). (t.run, t.flow)) (k.tables x there.0 there.1))
+    verb_same x verb xs false false false i j l g h f zs = refl
 
     -- a call of a function of the architecture's own, whose full name is its name
     function_call : (x : List ℕ) (xs ys : List Arg) → is_function_name x ≡ true → done_by other_calls (act_named x (map (arg_under sc) ys)) r ≡ done_by calls (act_named x (map (arg_under sc) xs)) r
         → done_by other_calls (act_named (full_name sc x) (map (arg_under sc) ys)) r ≡ done_by calls (act_named (full_name sc x) (map (arg_under sc) xs)) r
     function_call x xs ys h e =
-        let same = sees.full x h in
+        let same = sees.calls.full x h in
         subst (λ (n : List ℕ). done_by other_calls (act_named n (map (arg_under sc) ys)) r ≡ done_by calls (act_named n (map (arg_under sc) xs)) r) (sym same) e
+
+    kept_same : (x : List (List ℕ)) (xs : List Arg) → HasNoValue MayStandFor x → IsFine (form_tests p s (form_of s x) xs) → DoneSame (act_of (callee_under sc x) (map (arg_under sc) xs)) r
+    kept_same [] xs h f = refl
+    kept_same (x ∷ []) xs h f = subst (λ (y : List ℕ). DoneSame (act_named (full_name sc y) (map (arg_under sc) xs)) r) (sym h) (function_call (codes "mark_to_drop") xs xs refl refl)
+    kept_same (x ∷ verb ∷ []) xs h f = verb_same x verb xs (same_text verb (codes "read")) (same_text verb (codes "write")) (same_text verb (codes "apply")) refl refl refl h.0 h.1 f (map (arg_under sc) xs)
+    kept_same (x ∷ y ∷ z ∷ []) xs h f = header_same (first_name sc x ∷ y ∷ []) z r
+    kept_same (x ∷ y ∷ z ∷ w ∷ rest) xs h f = refl
 
     function_fine : (x : List ℕ) (xs : List Arg) (at : Stands) → s (x ∷ []) ≡ at → IsFine (form_tests p s (plain_form (s (x ∷ []))) xs) → IsFine (form_tests p s (plain_form at) xs)
     function_fine x xs at e f = subst (λ (st : Stands). IsFine (form_tests p s (plain_form st) xs)) e f
 
     pub call_same : (x : List (List ℕ)) (xs ys : List Arg) → CallStands MayStandFor x xs ys → IsFine (form_tests p s (form_of s x) xs)
         → done_by other_calls (act_of (callee_under sc x) (map (arg_under sc) ys)) r ≡ done_by calls (act_of (callee_under sc x) (map (arg_under sc) xs)) r
-    call_same x xs ys kept f = act_kept (act_of (callee_under sc x) (map (arg_under sc) xs)) r k
+    call_same x xs ys (kept h) f = kept_same x xs h f
     call_same _ xs ys (in_action x h q) f = action_call x xs ys h q f
     call_same _ _ _ (in_digest n q {es = es} {fs = fs} h) f =
         let x = codes "digest" in
-        let fine = function_fine x (n ∷ many q es ∷ []) (function Digest) (sees.knows.core.kept x refl) f in
+        let fine = function_fine x (n ∷ many q es ∷ []) (function Digest) (sees.calls.core x refl) f in
         function_call x (n ∷ many q es ∷ []) (n ∷ many q fs ∷ []) refl
-        (told calls other_calls r (arg_under sc n) q (map (expr_under sc) es) (map (expr_under sc) fs) (free_same s sc r.store sees es fs h fine.1.1))
+        (told calls other_calls r (arg_under sc n) q (map (expr_under sc) es) (map (expr_under sc) fs) (free_same pt s sc r.store sees es fs h fine.1.1))
     call_same _ _ _ (in_verify o q n a {c = c} {d = d} {es = es} {fs = fs} t h) f =
         let x = codes "verify_checksum" in
         let xs = one o c ∷ many q es ∷ n ∷ a ∷ [] in
         let ys = one o d ∷ many q fs ∷ n ∷ a ∷ [] in
-        let fine = function_fine x xs (function VerifyChecksum) (sees.knows.core.kept x refl) f in
+        let fine = function_fine x xs (function VerifyChecksum) (sees.calls.core x refl) f in
         function_call x xs ys refl
         (sum_it calls other_calls r true o q (expr_under sc c) (expr_under sc d) (map (expr_under sc) es) (map (expr_under sc) fs) (arg_under sc n) (arg_under sc a)
-        (runs_same s sc r.store sees c d t Truth truth_most fine.0 1) (free_same s sc r.store sees es fs h fine.1.0.1))
+        (runs_same pt s sc r.store sees c d t Truth truth_most fine.0 1) (free_same pt s sc r.store sees es fs h fine.1.0.1))
     call_same _ _ _ (in_update o q n a {c = c} {d = d} {es = es} {fs = fs} t h) f =
         let x = codes "update_checksum" in
         let xs = one o c ∷ many q es ∷ n ∷ a ∷ [] in
         let ys = one o d ∷ many q fs ∷ n ∷ a ∷ [] in
-        let fine = function_fine x xs (function UpdateChecksum) (sees.knows.core.kept x refl) f in
+        let fine = function_fine x xs (function UpdateChecksum) (sees.calls.core x refl) f in
         function_call x xs ys refl
         (sum_it calls other_calls r false o q (expr_under sc c) (expr_under sc d) (map (expr_under sc) es) (map (expr_under sc) fs) (arg_under sc n) (arg_under sc a)
-        (runs_same s sc r.store sees c d t Truth truth_most fine.0 1) (free_same s sc r.store sees es fs h fine.1.0.1))
+        (runs_same pt s sc r.store sees c d t Truth truth_most fine.0 1) (free_same pt s sc r.store sees es fs h fine.1.0.1))
     call_same _ _ _ (in_read x t q {i = i} {j = j} h) f =
         read_it calls other_calls r (full_name sc x) (arg_under sc t) q (expr_under sc i) (expr_under sc j)
-        (index_same s sc r.store sees i j h (read_index s sc r.store sees p q t i (s (x ∷ [])) f))
+        (index_same pt s sc r.store sees i j h (read_index pt s sc r.store sees p q t i (s (x ∷ [])) f))
     call_same _ _ _ (in_write x o q {i = i} {j = j} {v = v} {u = u} h g) f =
-        let w = write_values s sc r.store sees p o q i v (s (x ∷ [])) (sees.knows.sound.paths (x ∷ [])) f in
+        let w = write_values pt s sc r.store sees p o q i v (s (x ∷ [])) (sees.sound.paths (x ∷ [])) f in
         let X = full_name sc x in
-        let first = index_same s sc r.store sees i j h w.index in
+        let first = index_same pt s sc r.store sees i j h w.index in
         ap (λ (n : Word). (record r { cells = put_cells r.cells X (cell_set (r.cells X) n.value (value_of (expr_under sc u) (cell_at (r.cells X) n.value).width r.store)) }, Go)) first
         ∙ ap (λ (v : Word). (record r { cells = put_cells r.cells X (cell_set (r.cells X) (index_of (expr_under sc i) r.store) v) }, Go))
-        (runs_same s sc r.store sees v u g w.kind w.cap w.value (cell_at (r.cells X) (index_of (expr_under sc i) r.store)).width)
+        (runs_same pt s sc r.store sees v u g w.kind w.cap w.value (cell_at (r.cells X) (index_of (expr_under sc i) r.store)).width)
 
-  pub calls_same : (p : ℕ) (s : Scope) (sc : meaning.Scope) (r : Run) → Sees s sc r.store → DoSame calls other_calls r → (x : List (List ℕ)) (xs ys : List Arg) → ArgsRewritten MayStandFor (is_value x) 0 xs ys → IsFine (form_tests p s (form_of s x) xs)
+  pub calls_same : (p : ℕ) (s : Scope) (sc : meaning.Scope) (r : Run) → Sees pt s sc r.store → DoSame s sc calls other_calls r → (x : List (List ℕ)) (xs ys : List Arg) → ArgsRewritten MayStandFor (is_value x) 0 xs ys → IsFine (form_tests p s (form_of s x) xs)
       → done_by other_calls (act_of (callee_under sc x) (map (arg_under sc) ys)) r ≡ done_by calls (act_of (callee_under sc x) (map (arg_under sc) xs)) r
-  calls_same p s sc r sees k x xs ys q f = call_same p s sc r sees k x xs ys (call_stands MayStandFor p s sees.knows.core xs ys x q f) f
+  calls_same p s sc r sees k x xs ys q f = call_same p s sc r sees k x xs ys (call_stands MayStandFor p s (keeps p s sc r sees k) xs ys x q f) f
 
   pub statements_same : (h : Part) (s : Scope) (sc : meaning.Scope) (a b : Stmts) → BlockRewritten MayStandFor a b → IsFine (block_tests h s a) → (r : Run)
-      → Along calls (IsSeen calls other_calls) s sc a r → meaning_of other_calls (stmts_under sc b) r ≡ meaning_of calls (stmts_under sc a) r
-  statements_same h s sc a b q f r w = block_same calls other_calls calls_same sc q h s f r w
+      → Along calls (IsSeen pt calls other_calls) s sc a r → meaning_of other_calls (stmts_under sc b) r ≡ meaning_of calls (stmts_under sc a) r
+  statements_same h s sc a b q f r w = block_same pt calls other_calls calls_same sc q h s f r w
+
+  pub first_values_same : (h : Part) (s : Scope) (sc : meaning.Scope) (ls ms : List Local) → AllZip (LocalRewritten MayStandFor) ls ms → IsFine (locals_tests h s ls) → (r : Run)
+      → AlongSettings calls (IsFitlySeen pt) s sc ls r → meaning_of other_calls (settings_under sc ms) r ≡ meaning_of calls (settings_under sc ls) r
+  first_values_same h s sc ls ms q f r w = settings_same pt calls other_calls calls_same h ls ms q s sc f r w

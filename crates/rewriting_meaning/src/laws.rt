@@ -1,6 +1,6 @@
 //! Laws of statements with other values, each the contract of a function that does nothing.
 
-ghost use Rattle.rewriting_meaning.specs.Laws.{StatementsDoSame, CallsDoSame, ActionsStay, KeysStay, ProgramsCallsDoSame};
+ghost use Rattle.rewriting_meaning.specs.Laws.{StatementsDoSame, CallsDoSame, SettingsDoSame, ActionsStay, KeysStay, ProgramsCallsDoSame};
 
 /// Statements that break no rule do the same with other values.
 pub fn statements_do_the_same()
@@ -10,6 +10,11 @@ pub fn statements_do_the_same()
 /// A call of a function, of an action or on a register does the same with other values.
 pub fn calls_do_the_same()
     ensures { CallsDoSame }
+{}
+
+/// The variables of a control that are set have the same first values.
+pub fn settings_do_the_same()
+    ensures { SettingsDoSame }
 {}
 
 /// An action keeps its name and its parameters, and does the same.
@@ -22,7 +27,7 @@ pub fn keys_stay()
     ensures { KeysStay }
 {}
 
-/// Calls of two programs do the same, where the actions and the keys of the tables that are found do.
+/// Calls of two programs do the same, where the actions and the tables in sight do.
 pub fn calls_of_programs_do_the_same()
     ensures { ProgramsCallsDoSame }
 {}

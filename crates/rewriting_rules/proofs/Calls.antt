@@ -88,9 +88,16 @@ module _ (E : Expr → Expr → Type 0) where
 
   -- ---- calls
 
+  -- no argument of such a call is a value
+  abbrev pub HasNoValue : List (List ℕ) → Type 0
+  HasNoValue [] = Unit {0}
+  HasNoValue (x ∷ []) = x ≡ codes "mark_to_drop"
+  HasNoValue (x ∷ verb ∷ []) = (same_text verb (codes "read") ≡ false) × (same_text verb (codes "write") ≡ false)
+  HasNoValue (x ∷ y ∷ z ∷ rest) = Unit {0}
+
   -- what is called, by its path, and other values in the place of those that were there
   pub data CallStands : List (List ℕ) → List Arg → List Arg → Type 0 where
-    kept : {x : List (List ℕ)} {xs : List Arg} → CallStands x xs xs
+    kept : {x : List (List ℕ)} {xs : List Arg} → HasNoValue x → CallStands x xs xs
     in_action : (x : List ℕ) {xs ys : List Arg} → is_function_name x ≡ false → ArgsStand xs ys → CallStands (x ∷ []) xs ys
     in_digest : (n : Arg) (p : ℕ) {es fs : List Expr} → AllZip E es fs → CallStands (codes "digest" ∷ []) (n ∷ many p es ∷ []) (n ∷ many p fs ∷ [])
     in_verify : (p q : ℕ) (n h : Arg) {c d : Expr} {es fs : List Expr} → E c d → AllZip E es fs → CallStands (codes "verify_checksum" ∷ []) (one p c ∷ many q es ∷ n ∷ h ∷ []) (one p d ∷ many q fs ∷ n ∷ h ∷ [])
@@ -98,8 +105,8 @@ module _ (E : Expr → Expr → Type 0) where
     in_read : (x : List ℕ) (t : Arg) (p : ℕ) {i j : Expr} → E i j → CallStands (x ∷ codes "read" ∷ []) (t ∷ one p i ∷ []) (t ∷ one p j ∷ [])
     in_write : (x : List ℕ) (p q : ℕ) {i j v u : Expr} → E i j → E v u → CallStands (x ∷ codes "write" ∷ []) (one p i ∷ one q v ∷ []) (one p j ∷ one q u ∷ [])
 
-  kept_if : (x : List (List ℕ)) (xs ys : List Arg) → ys ≡ xs → CallStands x xs ys
-  kept_if x xs ys e = subst (CallStands x xs) (sym e) kept
+  kept_if : (x : List (List ℕ)) (xs ys : List Arg) → HasNoValue x → ys ≡ xs → CallStands x xs ys
+  kept_if x xs ys h e = subst (CallStands x xs) (sym e) (kept h)
 
   -- a receiver, and a list of values
   digest_stands : (n : Arg) (q : ℕ) (es : List Expr) (ys : List Arg) → ArgsRewritten E (is_value (codes "digest" ∷ [])) 0 (n ∷ many q es ∷ []) ys → CallStands (codes "digest" ∷ []) (n ∷ many q es ∷ []) ys
@@ -241,7 +248,7 @@ module _ (E : Expr → Expr → Type 0) where
 
     -- a name of the architecture's own stands for what it stood for at first
     drop_known : Known (codes "mark_to_drop" ∷ [])
-    drop_known r f = kept_if _ xs ys (all_stay r (λ m. refl))
+    drop_known r f = kept_if _ xs ys refl (all_stay r (λ m. refl))
 
     digest_known : Known (codes "digest" ∷ [])
     digest_known r f = digest_fine p s xs ys r (subst (λ (st : Stands). IsFine (form_tests p s (plain_form st) xs)) (core.kept (codes "digest") refl) f)
@@ -262,10 +269,10 @@ module _ (E : Expr → Expr → Type 0) where
     on_name : (x verb : List ℕ) (a b : Bool) → same_text verb (codes "read") ≡ a → same_text verb (codes "write") ≡ b → Known (x ∷ verb ∷ [])
     on_name x verb true b i j = subst (λ (v : List ℕ). Known (x ∷ v ∷ [])) (sym (text_is verb (codes "read") i)) (λ r f. read_fine p s x xs ys r (s (x ∷ [])) (read_cells p s xs (s (x ∷ [])) f) f)
     on_name x verb false true i j = subst (λ (v : List ℕ). Known (x ∷ v ∷ [])) (sym (text_is verb (codes "write") j)) (λ r f. write_fine p s x xs ys r (s (x ∷ [])) (written_cells p s xs (s (x ∷ [])) f) f)
-    on_name x verb false false i j = λ r f. kept_if _ xs ys (all_stay r (λ m. cc))
+    on_name x verb false false i j = λ r f. kept_if (x ∷ verb ∷ []) xs ys (i, j) (all_stay r (λ m. cc))
 
     pub call_stands : (x : List (List ℕ)) → Known x
-    call_stands [] = λ r f. kept_if _ xs ys (all_stay r (λ m. refl))
+    call_stands [] = λ r f. kept_if [] xs ys tt (all_stay r (λ m. refl))
     call_stands (x ∷ []) = named x (same_text x (codes "mark_to_drop")) (same_text x (codes "digest")) (same_text x (codes "verify_checksum")) (same_text x (codes "update_checksum")) refl refl refl refl
     call_stands (x ∷ verb ∷ []) = on_name x verb (same_text verb (codes "read")) (same_text verb (codes "write")) refl refl
-    call_stands (x ∷ y ∷ z ∷ rest) = λ r f. kept_if _ xs ys (all_stay r (λ m. refl))
+    call_stands (x ∷ y ∷ z ∷ rest) = λ r f. kept_if (x ∷ y ∷ z ∷ rest) xs ys tt (all_stay r (λ m. refl))

@@ -71,7 +71,7 @@ module _ (s : Scope) (k : Knows s) where
   write_replaced o q i j v u r w _ h = absurd h
 
   call_replaced : (p : ℕ) (x : List (List ℕ)) (xs ys : List Arg) → CallStands MayStandFor x xs ys → IsFine (form_tests p s (form_of s x) xs) → StmtReplaced s (call p x xs) (call p x ys)
-  call_replaced p x xs ys kept f = same
+  call_replaced p x xs ys (kept h) f = same
   call_replaced p _ xs ys (in_action x h r) f = replaced.in_args p (x ∷ []) (action_replaced p x xs ys h r (s (x ∷ [])) refl f)
   call_replaced p _ _ _ (in_digest n q {es = es} {fs = fs} r) f =
       let x = codes "digest" in
