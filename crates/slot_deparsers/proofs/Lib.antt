@@ -1,0 +1,4 @@
+pub mod EmitLemmas
+pub mod LoopLemmas
+pub mod RestLemmas
+mod Rows

@@ -1,0 +1,4 @@
+pub mod AboveLemmas
+pub mod StartLemmas
+pub mod TurnLemmas
+mod Rows
