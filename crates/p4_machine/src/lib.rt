@@ -1,9 +1,10 @@
 //! A switch that runs a well-typed P4 program, on maps by name.
 //!
-//! The layers above get the trait `Pass`, what a switch does with a packet, whatever keeps its program:
-//! `room`, `enter`, `leave`, `pass`, `set_table` and `cell`; `Switch`, which meets it over the maps by
-//! name of `p4_passages`; and `FrameBuf` and `Queued`, which are handed in. Contracts say what each call
-//! does as the halves of the trees' meaning (`specs/Passages`), and see buffers and places as records
+//! The layers above get the trait `Pass`, what a switch does with a packet, whatever keeps its program
+//! and whatever a packet waits in between the halves (`Place`): `room`, `enter`, `leave`, `pass`,
+//! `set_table` and `cell`; `Switch`, which meets it over the maps by name of `p4_passages`, with `Queued`
+//! for its places; and `FrameBuf`, which is handed in, too. Contracts say what each call does as the
+//! halves of the trees' meaning (`specs/Passages`), and see buffers and places as records
 //! (`specs/Buffers`). Both are made for a program (`IsMadeFor`). Switches of one program share it and all
 //! that is reckoned of it: `new` makes the first of them, and `another` each further one.
 //!

@@ -10,11 +10,10 @@ ghost use Rattle.p4_tables.specs.State.{replaced};
 ghost use Rattle.p4_tables.specs.Faults.{IsReplaceable};
 ghost use Rattle.table_entries.specs.View.{entry_of, given_act};
 ghost use Rattle.p4_machine.specs.Passages.{entry_in, exit_in, passage_in, register_name};
-ghost use Rattle.p4_machine.specs.Buffers.{IsMadeFor, goes_out, is_queued, is_some_packet, place_of};
+ghost use Rattle.p4_machine.specs.Buffers.{IsMadeFor, Place, goes_out, is_queued, is_some_packet};
 ghost use Rattle.p4_machine.specs.declared.pass.Passed.TheVariants as passed;
 
 use crate::buffer::FrameBuf;
-use crate::queued::Queued;
 use bit_values::Bits;
 use p4_tables::Entry;
 use std::alloc::{AllocError, Global};
@@ -37,6 +36,12 @@ pub enum Passed {
 /// A switch that runs a program. After want of memory in `enter`, `leave` or `pass` it is given up,
 /// and so is the place of the packet.
 pub trait Pass {
+    /// A place for a packet between the halves of its passage.
+    type Place: Drop;
+
+    /// For what a place has room, and what waits there.
+    ghost place: { Self.Place → Place };
+
     /// The program.
     ghost program: { Self → tree.Program };
 
@@ -48,10 +53,10 @@ pub trait Pass {
 
     /// A place for a packet of this switch, with room for so many bytes that the parser does not
     /// consume.
-    fn room(&self, alloc: Global, bytes: u32) -> Result<Queued, AllocError>
-        ensures made { IfOk result (λ q. IsMadeFor (program self.now) (place_of q).needs) }
-        ensures room { IfOk result (λ q. (place_of q).room ≡ bytes) }
-        ensures empty { IfOk result (λ q. (place_of q).waiting ≡ None) };
+    fn room(&self, alloc: Global, bytes: u32) -> Result<Self::Place, AllocError>
+        ensures made { IfOk result (λ q. IsMadeFor (program self.now) (place q).needs) }
+        ensures room { IfOk result (λ q. (place q).room ≡ bytes) }
+        ensures empty { IfOk result (λ q. (place q).waiting ≡ None) };
 
     /// A frame enters by a port: parser, verify checksum and ingress. Then the packet waits in the
     /// place, or is dropped. The buffer has the digests of this half, and no frame.
@@ -61,26 +66,26 @@ pub trait Pass {
         port: u16,
         frame: &[u8],
         buf: &mut FrameBuf,
-        q: &mut Queued,
+        q: &mut Self::Place,
     ) -> Result<Entered, AllocError>
         requires short { length frame.now ≤ 65791 }
         requires buffer { IsMadeFor (program self.old) buf.old.needs }
-        requires place { IsMadeFor (program self.old) (place_of q.old).needs }
-        requires empty { (place_of q.old).waiting ≡ None }
-        requires room { length frame.now ≤ (place_of q.old).room }
+        requires place { IsMadeFor (program self.old) (place q.old).needs }
+        requires empty { (place q.old).waiting ≡ None }
+        requires room { length frame.now ≤ (place q.old).room }
         ensures program { program self.new ≡ program self.old }
         ensures tables { tables self.new ≡ tables self.old }
         ensures cells { OnOk result (cells self.new
             ≡ (entry_in (program self.old) (tables self.old) (cells self.old) port frame.now).registers) }
-        ensures queued { OnOk result ((place_of q.new).waiting
+        ensures queued { OnOk result ((place q.new).waiting
             ≡ (entry_in (program self.old) (tables self.old) (cells self.old) port frame.now).queued) }
-        ensures answer { IfOk result (λ e. is_queued e ≡ is_some_packet (place_of q.new).waiting) }
+        ensures answer { IfOk result (λ e. is_queued e ≡ is_some_packet (place q.new).waiting) }
         ensures frame { OnOk result (buf.new.frame ≡ []) }
         ensures digests { OnOk result (buf.new.digests
             ≡ (entry_in (program self.old) (tables self.old) (cells self.old) port frame.now).digests) }
         ensures buffer { IsMadeFor (program self.new) buf.new.needs }
-        ensures place { IsMadeFor (program self.new) (place_of q.new).needs }
-        ensures room { (place_of q.new).room ≡ (place_of q.old).room };
+        ensures place { IsMadeFor (program self.new) (place q.new).needs }
+        ensures room { (place q.new).room ≡ (place q.old).room };
 
     /// The packet that waits leaves: egress, compute checksum and deparser. The buffer has the frame
     /// that goes out, which is empty where the packet is dropped, and the digests of this half. Where
@@ -88,24 +93,24 @@ pub trait Pass {
     fn leave(
         &mut self,
         alloc: Global,
-        q: &mut Queued,
+        q: &mut Self::Place,
         buf: &mut FrameBuf,
     ) -> Result<Passed, AllocError>
         requires buffer { IsMadeFor (program self.old) buf.old.needs }
-        requires place { IsMadeFor (program self.old) (place_of q.old).needs }
+        requires place { IsMadeFor (program self.old) (place q.old).needs }
         ensures program { program self.new ≡ program self.old }
         ensures tables { tables self.new ≡ tables self.old }
         ensures cells { OnOk result (cells self.new
-            ≡ (exit_in (program self.old) (tables self.old) (cells self.old) [] (place_of q.old).waiting).registers) }
+            ≡ (exit_in (program self.old) (tables self.old) (cells self.old) [] (place q.old).waiting).registers) }
         ensures out { IfOk result (λ x. goes_out x buf.new.frame
-            ≡ (exit_in (program self.old) (tables self.old) (cells self.old) [] (place_of q.old).waiting).out) }
+            ≡ (exit_in (program self.old) (tables self.old) (cells self.old) [] (place q.old).waiting).out) }
         ensures dropped { IfOk result (λ x. x ≡ passed.Dropped → buf.new.frame ≡ []) }
         ensures digests { OnOk result (buf.new.digests
-            ≡ (exit_in (program self.old) (tables self.old) (cells self.old) [] (place_of q.old).waiting).digests) }
-        ensures empty { (place_of q.new).waiting ≡ None }
+            ≡ (exit_in (program self.old) (tables self.old) (cells self.old) [] (place q.old).waiting).digests) }
+        ensures empty { (place q.new).waiting ≡ None }
         ensures buffer { IsMadeFor (program self.new) buf.new.needs }
-        ensures place { IsMadeFor (program self.new) (place_of q.new).needs }
-        ensures room { (place_of q.new).room ≡ (place_of q.old).room };
+        ensures place { IsMadeFor (program self.new) (place q.new).needs }
+        ensures room { (place q.new).room ≡ (place q.old).room };
 
     /// A passage: the entry half, and then the exit half.
     fn pass(

@@ -223,6 +223,10 @@ impl Switch {
 }
 
 impl Pass for Switch {
+    type Place = Queued;
+
+    ghost place = { place_of };
+
     ghost program = { λ s. program_of s.program };
 
     ghost tables = { λ s. s.tables };

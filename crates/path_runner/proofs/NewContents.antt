@@ -1,5 +1,5 @@
 -- What a net shows, and what stays of it, after new contents of a control variable.
-use Rattle.std.proofs.Common.{◌≡◌, ◌≢◌, ℕ, ◌+◌, ◌<◌, List, [], ◌∷◌, length, map, get_or, set, true, Option, Some, None, refl, sym, ap, ◌∙◌, subst, arith}
+use Rattle.std.proofs.Common.{◌≡◌, ◌≢◌, ℕ, ◌+◌, ◌<◌, List, [], ◌∷◌, length, map, get_or, set, true, Option, Some, None, sym, ap, ◌∙◌, subst, arith}
 use Rattle.std.specs.Prelude.{nat_eq, slice_get}
 use Rattle.std.specs.List.{AllByRecursion}
 use Rattle.std.specs.Option.{option_map}
@@ -8,18 +8,15 @@ use Rattle.std.proofs.lemmas.List.{map-set, get_or-set_same}
 use Rattle.std.proofs.lemmas.Option.{slice_get-map, slice_get_within}
 use Rattle.p4_tree.specs.Tree.{Program}
 use Rattle.p4_meaning.specs.Parts.{Parts, parts_of}
-use Rattle.p4_meaning.specs.Pass.{Kept, Queued, Registers}
-use Rattle.p4_meaning.specs.Tables.{Tables}
+use Rattle.p4_meaning.specs.Pass.{Kept}
 use Rattle.table_entries.specs.Entries.{Entry, Act}
 use Rattle.p4_tables.specs.State.{Held, held_at, replaced}
 use Rattle.p4_tables.specs.Faults.{IsReplaceable}
 use Rattle.p4_tables.specs.Named.{tables_in}
 use Rattle.indus_tree.specs.State.{Contents}
-use Rattle.network_run.specs.Network.{Net}
 use Rattle.network_run.specs.NetworkRun.{put}
 use Rattle.network_run.specs.Events.{Set}
 use Rattle.network_run.proofs.Numbers.{put_same}
-use Rattle.switch_machines.specs.Programs.{Programs}
 use Rattle.control_tables.specs.Contents.{entries_for, default_for}
 use Rattle.control_maps.specs.Maps.{Lookup, sets}
 use Rattle.control_maps.specs.Numbers.{Numbered, HasShape, IsMapOf, AreTaken, IsSettable, put_in, set_in}
@@ -27,7 +24,7 @@ use Rattle.control_maps.specs.Steps.{AreEmptied, AreFilled}
 use Rattle.control_maps.proofs.Places.{all_at, form_at, other_replaced}
 use Rattle.control_maps.proofs.Names.{numbers_are_names}
 use Rattle.control_maps.proofs.Filling.{emptied_next, emptied_skip, filled_next, filled_skip, filled_taken}
-use Rattle.path_runner.specs.Nets.{Switch, kept_of, State, lookups_of, controls_of, Shows, RunsTo, OthersHold, OthersStay}
+use Rattle.path_runner.specs.Nets.{Switch, kept_of, State, lookups_of, controls_of, RunsTo, OthersHold, OthersStay}
 use Rattle.path_runner.specs.Conditions.{AreMapped}
 use Rattle.path_runner.proofs.Lists.{at_set, get_set_other}
 use Rattle.path_runner.proofs.Standing.{view_there, view_at}

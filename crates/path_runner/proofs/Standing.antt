@@ -8,6 +8,7 @@ use Rattle.std.proofs.lemmas.Option.{slice_get_read, slice_get-map, get_or_from_
 use Rattle.std.proofs.lemmas.Bool.Decides.{nat_tests}
 use Rattle.p4_meaning.specs.Pass.{Queued}
 use Rattle.p4_machine.specs.Buffers.{is_some_packet}
+use Rattle.p4_machine.specs.declared.pass.Pass.{Ghosts}
 use Rattle.network_run.specs.Network.{Place, Flying, Waiting, Over}
 use Rattle.network_run.specs.NetworkRun.{Limits, queued_or_over, dropped_if_none}
 use Rattle.path_runner.specs.Places.{place_in}
@@ -60,19 +61,6 @@ module _ (count : ℕ) (l : Limits) (ps : List (Place Queued)) (i : ℕ) (there 
       let known = within_waiting count l s port n q (subst (λ (p : Place Queued). is_within count l p ≡ true) at (passes_at (is_within count l) ps i Over there all)) in
       record { switch_there = known.0; passed = known.1; short = omega arith; going = subst (λ (p : Place Queued). going_one p ≤ going_on ps) at (going_at ps i there) }
 
--- a packet that was read in flight
-pub flight_at : (items : List declared.Place) (i : ℕ) (r : declared.Place) (f : Flight) → i < length (map place_in items) → r ≡ get_or items i r → r ≡ code.Flying f → get_or (map place_in items) i Over ≡ Flying f.switch f.port f.frame.items f.passed
-flight_at items i r f there at is = view_at place_in items i (code.Flying f) Over (read_item items (length items) i r refl (simp length-map at there) at ∙ ap Some is)
-
-pub flight_known :
-    (count : ℕ) (l : Limits) (items : List declared.Place) (i : ℕ) (r : declared.Place) (f : Flight) → i < length (map place_in items) → r ≡ get_or items i r → r ≡ code.Flying f →
-    list_all (is_within count l) (map place_in items) ≡ true → IsUnderWay count l (map place_in items) f.switch f.passed (length f.frame.items)
-flight_known count l items i r f there at is all = flying_known count l (map place_in items) i there all f.switch f.port f.passed f.frame.items (flight_at items i r f there at is)
-
--- a packet that was taken from its place is put into it again
-pub put_back : (now before : List declared.Place) (i : ℕ) (x : declared.Place) → map place_in now ≡ set (map place_in before) i Over → map place_in (set now i x) ≡ set (map place_in before) i (place_in x)
-put_back now before i x taken = map-set place_in now i x ∙ ap (λ (ps : List (Place Queued)). set ps i (place_in x)) taken ∙ set-set (map place_in before) i Over (place_in x)
-
 -- where the entry half puts a packet, it is within the bounds
 pub entered_within : (count : ℕ) (l : Limits) (s port n : ℕ) (o : Option Queued) → s < count → n < l.hops → is_within count l (queued_or_over s port n o) ≡ true
 entered_within count l s port n None a b = refl
@@ -95,8 +83,22 @@ entered_counted ps i sw port n m frame v o dropped now lost there at is more few
     let both = entered_going i sw port n o in
     omega (arith, moved, before, after, both, more, few)
 
--- a packet that does not wait in the program does not wait
-pub not_waiting : (x : declared.Place) → ((p : Parked) → x ≡ code.Waiting p → ⊥) → IsNotWaiting (place_in x)
-not_waiting (code.Flying f) other = tt
-not_waiting (code.Waiting p) other = absurd (other p refl)
-not_waiting code.Over other = tt
+module _ {P Q : Type 0} {g : Ghosts P Q} where
+  -- a packet that was read in flight
+  pub flight_at : (items : List (declared.Place P Q g)) (i : ℕ) (r : declared.Place P Q g) (f : Flight) → i < length (map place_in items) → r ≡ get_or items i r → r ≡ code.Flying f → get_or (map place_in items) i Over ≡ Flying f.switch f.port f.frame.items f.passed
+  flight_at items i r f there at is = view_at place_in items i (code.Flying f) Over (read_item items (length items) i r refl (simp length-map at there) at ∙ ap Some is)
+
+  pub flight_known :
+      (count : ℕ) (l : Limits) (items : List (declared.Place P Q g)) (i : ℕ) (r : declared.Place P Q g) (f : Flight) → i < length (map place_in items) → r ≡ get_or items i r → r ≡ code.Flying f →
+      list_all (is_within count l) (map place_in items) ≡ true → IsUnderWay count l (map place_in items) f.switch f.passed (length f.frame.items)
+  flight_known count l items i r f there at is all = flying_known count l (map place_in items) i there all f.switch f.port f.passed f.frame.items (flight_at items i r f there at is)
+
+  -- a packet that was taken from its place is put into it again
+  pub put_back : (now before : List (declared.Place P Q g)) (i : ℕ) (x : declared.Place P Q g) → map place_in now ≡ set (map place_in before) i Over → map place_in (set now i x) ≡ set (map place_in before) i (place_in x)
+  put_back now before i x taken = map-set place_in now i x ∙ ap (λ (ps : List (Place Queued)). set ps i (place_in x)) taken ∙ set-set (map place_in before) i Over (place_in x)
+
+  -- a packet that does not wait in the program does not wait
+  pub not_waiting : (x : declared.Place P Q g) → ((p : Parked P Q g) → x ≡ code.Waiting p → ⊥) → IsNotWaiting (place_in x)
+  not_waiting (code.Flying f) other = tt
+  not_waiting (code.Waiting p) other = absurd (other p refl)
+  not_waiting code.Over other = tt

@@ -18,7 +18,7 @@ use Rattle.switch_machines.specs.Programs.{machine_with}
 use Rattle.control_maps.specs.Maps.{Lookup, loads}
 use Rattle.control_maps.specs.Numbers.{Numbered, named_in}
 use Rattle.control_maps.proofs.Names.{held_is_loaded}
-use Rattle.path_runner.specs.Nets.{Switch, kept_of, State, controls_of, Shows}
+use Rattle.path_runner.specs.Nets.{Switch, kept_of, controls_of, Shows}
 use Rattle.path_runner.specs.Starts.{in_flight, state_before, Starts, IsLoaded, StartsWorlds}
 use Rattle.path_runner.specs.Conditions.{AreFor, IsAtEdge}
 use Rattle.path_runner.specs.Sound.{is_within, going_on}

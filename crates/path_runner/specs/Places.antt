@@ -1,6 +1,6 @@
 -- Where packets are and how far they go, as the network's run has it.
 use Rattle.p4_meaning.specs.Pass.{Queued}
-use Rattle.p4_machine.specs.Buffers.{place_of}
+use Rattle.p4_machine.specs.declared.pass.Pass.{Ghosts}
 use Rattle.network_run.specs.Network as network
 use Rattle.network_run.specs.Network.{Flying, Over}
 use Rattle.network_run.specs.NetworkRun as run
@@ -10,10 +10,10 @@ use Rattle.path_runner.specs.declared.place.Parked.{Parked}
 use Rattle.path_runner.specs.declared.place.Place.{Place}
 use Rattle.path_runner.specs.declared.place.Place.TheVariants as code
 
-abbrev pub parked_place : Parked → network.Place Queued
-parked_place p = queued_or_over p.switch p.port p.passed (place_of p.queued).waiting
+abbrev pub parked_place : {P Q : Type 0} {g : Ghosts P Q} → Parked P Q g → network.Place Queued
+parked_place {P} {Q} {g} p = queued_or_over p.switch p.port p.passed (g.place p.queued).waiting
 
-abbrev pub place_in : Place → network.Place Queued
+abbrev pub place_in : {P Q : Type 0} {g : Ghosts P Q} → Place P Q g → network.Place Queued
 place_in (code.Flying f) = Flying f.switch f.port f.frame.items f.passed
 place_in (code.Waiting p) = parked_place p
 place_in code.Over = Over

@@ -26,12 +26,12 @@ traffic_in t =
       lost = t.lost;
     }
 
-abbrev pub station_in : {P : Type 0} {g : Ghosts P} → Station P g → Switch
-station_in {P} {g} x = switch_of g.program g.tables g.cells x.switch
+abbrev pub station_in : {P Q : Type 0} {g : Ghosts P Q} → Station P Q g → Switch
+station_in {P} {Q} {g} x = switch_of g.program g.tables g.cells x.switch
 
 -- what the net holds
-abbrev pub state_of : {P : Type 0} {g : Ghosts P} → Net P g → State
-state_of {P} {g} n =
+abbrev pub state_of : {P Q : Type 0} {g : Ghosts P Q} → Net P Q g → State
+state_of {P} {Q} {g} n =
     record {
       network = n.network;
       limits = limits_of n.limits;
@@ -42,7 +42,7 @@ state_of {P} {g} n =
     }
 
 -- memory was wanting, so that the net is given up
-abbrev pub is_given_up : {P : Type 0} {g : Ghosts P} → Net P g → Bool
+abbrev pub is_given_up : {P Q : Type 0} {g : Ghosts P Q} → Net P Q g → Bool
 is_given_up n = n.given_up
 
 -- what a log holds: no packet is under way

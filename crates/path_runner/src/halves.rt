@@ -2,7 +2,7 @@
 
 ghost use Rattle.std.specs.Prelude.{◌≡◌, ◌+◌, ◌<◌, ◌≤◌, ◌++◌, length, map, IfOk, IfSome, OnOk, OnErr};
 ghost use Rattle.std.specs.Option.{option_map};
-ghost use Rattle.p4_machine.specs.Buffers.{IsMadeFor, place_of};
+ghost use Rattle.p4_machine.specs.Buffers.{IsMadeFor};
 ghost use Rattle.switch_machines.specs.Programs.{network_digest};
 ghost use Rattle.network_run.specs.NetworkRun.{told_by, queued_or_over, dropped_if_none};
 ghost use Rattle.path_runner.specs.Switches.{entry_at, exit_at};
@@ -18,7 +18,7 @@ use crate::sending::send;
 use crate::station::Station;
 use crate::traffic::Traffic;
 use network_file::Network;
-use p4_machine::{Pass, Queued};
+use p4_machine::Pass;
 use std::alloc::{AllocError, Global};
 
 /// The entry half of a packet's passage: where the packet is then.
@@ -28,7 +28,7 @@ pub(crate) fn enter<P: Pass + Drop>(
     traffic: &mut Traffic,
     packet: u32,
     flight: &Flight,
-) -> Result<Place, AllocError>
+) -> Result<Place<P>, AllocError>
     requires short { length flight.now.frame.items ≤ 65791 }
     requires dropped { traffic.old.dropped < 4294967295 }
     ensures program { (station_in station.new).program ≡ (station_in station.old).program }
@@ -71,19 +71,19 @@ fn sent<P: Pass + Drop>(
     traffic: &mut Traffic,
     packet: u32,
     switch: u16,
-    queued: &mut Queued,
+    queued: &mut P::Place,
 ) -> Result<Option<Sent>, AllocError>
-    requires { IsMadeFor (station_in station.old).program (place_of queued.old).needs }
+    requires { IsMadeFor (station_in station.old).program (P.place queued.old).needs }
     ensures program { (station_in station.new).program ≡ (station_in station.old).program }
     ensures tables { (station_in station.new).tables ≡ (station_in station.old).tables }
     ensures cells { OnOk result ((station_in station.new).cells
-        ≡ (exit_at (station_in station.old) (place_of queued.old).waiting).registers) }
+        ≡ (exit_at (station_in station.old) (P.place queued.old).waiting).registers) }
     ensures out { IfOk result (λ x. option_map (λ s. (s.port, s.frame.items)) x
-        ≡ (exit_at (station_in station.old) (place_of queued.old).waiting).out) }
+        ≡ (exit_at (station_in station.old) (P.place queued.old).waiting).out) }
     ensures sender { IfOk result (λ x. IfSome x (λ s. (s.packet ≡ packet) × (s.switch ≡ switch))) }
     ensures told { OnOk result (traffic_in traffic.new ≡ record (traffic_in traffic.old) {
       told = (traffic_in traffic.old).told ++ told_by packet switch
-          (map network_digest (exit_at (station_in station.old) (place_of queued.old).waiting).digests);
+          (map network_digest (exit_at (station_in station.old) (P.place queued.old).waiting).digests);
     }) }
     ensures dropped { traffic.new.dropped ≡ traffic.old.dropped }
     ensures lost { traffic.new.lost ≡ traffic.old.lost }
@@ -112,22 +112,22 @@ pub(crate) fn leave<P: Pass + Drop>(
     network: &Network,
     limits: Limits,
     packet: u32,
-    parked: Parked,
-) -> Result<Place, AllocError>
-    requires made { IsMadeFor (station_in station.old).program (place_of parked.queued).needs }
+    parked: Parked<P>,
+) -> Result<Place<P>, AllocError>
+    requires made { IsMadeFor (station_in station.old).program (P.place parked.queued).needs }
     requires passed { parked.passed < limits.hops }
     requires counted { traffic.old.dropped + traffic.old.lost < 4294967295 }
     ensures program { (station_in station.new).program ≡ (station_in station.old).program }
     ensures tables { (station_in station.new).tables ≡ (station_in station.old).tables }
     ensures cells { OnOk result ((station_in station.new).cells
-        ≡ (exit_at (station_in station.old) (place_of parked.queued).waiting).registers) }
+        ≡ (exit_at (station_in station.old) (P.place parked.queued).waiting).registers) }
     ensures place { IfOk result (λ x. place_in x ≡ (left_departure (wiring_of network.now) (limits_of limits)
         (traffic_in traffic.old) packet parked.switch parked.passed
-        (exit_at (station_in station.old) (place_of parked.queued).waiting)).place) }
+        (exit_at (station_in station.old) (P.place parked.queued).waiting)).place) }
     ensures made { IfOk result (IsMadeAt parked.switch (station_in station.new).program) }
     ensures traffic { OnOk result (traffic_in traffic.new ≡ (left_departure (wiring_of network.now) (limits_of limits)
         (traffic_in traffic.old) packet parked.switch parked.passed
-        (exit_at (station_in station.old) (place_of parked.queued).waiting)).traffic) }
+        (exit_at (station_in station.old) (P.place parked.queued).waiting)).traffic) }
     ensures counted { traffic.new.dropped + traffic.new.lost ≤ traffic.old.dropped + traffic.old.lost + 1 }
 {
     let Parked {

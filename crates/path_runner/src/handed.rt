@@ -32,7 +32,10 @@ pub(crate) fn stations<P: Pass + Drop>(
 }
 
 /// The packets in flight.
-pub(crate) fn flights(alloc: Global, packets: Vec<Packet>) -> Result<Vec<Place>, AllocError>
+pub(crate) fn flights<P: Pass + Drop>(
+    alloc: Global,
+    packets: Vec<Packet>,
+) -> Result<Vec<Place<P>>, AllocError>
     ensures { IfOk result (λ v. map place_in v.items ≡ in_flight (map arrival_of packets.items)) }
 {
     let mut places = Vec::new(alloc);

@@ -33,7 +33,7 @@ pub struct Net<P: Pass + Drop> {
     stations: Vec<Station<P>>,
     maps: Vec<Vec<Mapped>>,
     network: Network,
-    places: Vec<Place>,
+    places: Vec<Place<P>>,
     traffic: Traffic,
     limits: Limits,
     given_up: bool,

@@ -7,10 +7,14 @@ ghost use Rattle.path_runner.specs.Sound.{IsNotWaiting};
 ghost use Rattle.path_runner.specs.declared.place.Place.TheVariants as code;
 
 use crate::place::{Parked, Place};
+use p4_machine::Pass;
 use std::mem;
 
 /// The packet of a number, which is taken from its place, where it waits; then it is at its end.
-pub(crate) fn take_parked(places: &mut Vec<Place>, at: usize) -> Option<Parked>
+pub(crate) fn take_parked<P: Pass + Drop>(
+    places: &mut Vec<Place<P>>,
+    at: usize,
+) -> Option<Parked<P>>
     requires { at < length places.old.items }
     ensures length { length places.new.items ≡ length places.old.items }
     ensures taken { MatchOption result

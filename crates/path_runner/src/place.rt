@@ -1,9 +1,9 @@
 //! Where a packet is.
 
 ghost use Rattle.std.specs.Prelude.{◌≡◌, true};
-ghost use Rattle.p4_machine.specs.Buffers.{is_some_packet, place_of};
+ghost use Rattle.p4_machine.specs.Buffers.{is_some_packet};
 
-use p4_machine::Queued;
+use p4_machine::Pass;
 
 /// A packet in flight to a port of a switch.
 #[derive(Drop)]
@@ -17,20 +17,20 @@ pub(crate) struct Flight {
 
 /// A packet that waits between the halves of its passage of a switch, to which it came by a port.
 #[derive(Drop)]
-pub(crate) struct Parked {
+pub(crate) struct Parked<P: Pass + Drop> {
     pub switch: u16,
     pub port: u16,
-    pub queued: Queued,
+    pub queued: P::Place,
     /// How many switches it has passed.
     pub passed: u8,
-    ghost full: { is_some_packet (place_of queued).waiting ≡ true },
+    ghost full: { is_some_packet (P.place queued).waiting ≡ true },
 }
 
 /// Where a packet is.
 #[derive(Drop)]
-pub(crate) enum Place {
+pub(crate) enum Place<P: Pass + Drop> {
     Flying(Flight),
-    Waiting(Parked),
+    Waiting(Parked<P>),
     /// It is at its end.
     Over,
 }

@@ -14,6 +14,7 @@ use crate::packet::Sent;
 use crate::place::{Flight, Limits, Place};
 use crate::traffic::Traffic;
 use network_file::Network;
+use p4_machine::Pass;
 use std::alloc::{AllocError, Global};
 
 /// The greatest length of a frame that leaves by an edge port.
@@ -21,14 +22,14 @@ const LONGEST_FRAME: usize = 65_535;
 
 /// Where a packet is whose frame a switch sends: the frame leaves by an edge port, unless it is too
 /// long, or is put on a link, unless it is too long or the packet has passed as many switches as it may.
-pub(crate) fn send(
+pub(crate) fn send<P: Pass + Drop>(
     alloc: Global,
     traffic: &mut Traffic,
     network: &Network,
     limits: Limits,
     passed: u8,
     sent: Sent,
-) -> Result<Place, AllocError>
+) -> Result<Place<P>, AllocError>
     requires passed { passed < limits.hops }
     requires lost { traffic.old.lost < 4294967295 }
     ensures place { IfOk result (λ x. place_in x ≡ (sent_departure (limits_of limits) (traffic_in traffic.old) passed

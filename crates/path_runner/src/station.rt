@@ -5,10 +5,10 @@ ghost use Rattle.std.specs.Option.{option_map, option_and_then};
 ghost use Rattle.table_entries.specs.View.{entry_of, given_act};
 ghost use Rattle.p4_tables.specs.State.{replaced};
 ghost use Rattle.p4_tables.specs.Faults.{IsReplaceable};
-ghost use Rattle.p4_machine.specs.Buffers.{IsMadeFor, is_some_packet, place_of};
+ghost use Rattle.p4_machine.specs.Buffers.{IsMadeFor, is_some_packet};
 
 use bit_values::Bits;
-use p4_machine::{Entered, FrameBuf, Pass, Passed, Queued};
+use p4_machine::{Entered, FrameBuf, Pass, Passed};
 use p4_tables::Entry;
 use std::alloc::{AllocError, Global};
 
@@ -31,16 +31,16 @@ impl<P: Pass + Drop> Station<P> {
         alloc: Global,
         port: u16,
         frame: &[u8],
-    ) -> Result<Option<Queued>, AllocError>
+    ) -> Result<Option<P::Place>, AllocError>
         requires { length frame.now ≤ 65791 }
         ensures program { (station_in self.new).program ≡ (station_in self.old).program }
         ensures tables { (station_in self.new).tables ≡ (station_in self.old).tables }
         ensures cells { OnOk result ((station_in self.new).cells
             ≡ (entry_at (station_in self.old) port frame.now).registers) }
-        ensures queued { IfOk result (λ q. option_and_then (λ x. (place_of x).waiting) q
+        ensures queued { IfOk result (λ q. option_and_then (λ x. (P.place x).waiting) q
             ≡ (entry_at (station_in self.old) port frame.now).queued) }
-        ensures full { IfOk result (λ q. IfSome q (λ x. is_some_packet (place_of x).waiting ≡ true)) }
-        ensures made { IfOk result (λ q. IfSome q (λ x. IsMadeFor (station_in self.new).program (place_of x).needs)) }
+        ensures full { IfOk result (λ q. IfSome q (λ x. is_some_packet (P.place x).waiting ≡ true)) }
+        ensures made { IfOk result (λ q. IfSome q (λ x. IsMadeFor (station_in self.new).program (P.place x).needs)) }
         ensures digests { OnOk result (self.new.buf.digests
             ≡ (entry_at (station_in self.old) port frame.now).digests) }
     {
@@ -56,16 +56,16 @@ impl<P: Pass + Drop> Station<P> {
 
     /// The exit half of the passage of a packet that waits: the port by which the buffer's frame goes
     /// out, or `None` where the packet is dropped. The buffer has the digests.
-    pub fn leave(&mut self, alloc: Global, queued: &mut Queued) -> Result<Option<u16>, AllocError>
-        requires { IsMadeFor (station_in self.old).program (place_of queued.old).needs }
+    pub fn leave(&mut self, alloc: Global, queued: &mut P::Place) -> Result<Option<u16>, AllocError>
+        requires { IsMadeFor (station_in self.old).program (P.place queued.old).needs }
         ensures program { (station_in self.new).program ≡ (station_in self.old).program }
         ensures tables { (station_in self.new).tables ≡ (station_in self.old).tables }
         ensures cells { OnOk result ((station_in self.new).cells
-            ≡ (exit_at (station_in self.old) (place_of queued.old).waiting).registers) }
+            ≡ (exit_at (station_in self.old) (P.place queued.old).waiting).registers) }
         ensures out { IfOk result (λ port. option_map (λ p. (p, self.new.buf.frame)) port
-            ≡ (exit_at (station_in self.old) (place_of queued.old).waiting).out) }
+            ≡ (exit_at (station_in self.old) (P.place queued.old).waiting).out) }
         ensures digests { OnOk result (self.new.buf.digests
-            ≡ (exit_at (station_in self.old) (place_of queued.old).waiting).digests) }
+            ≡ (exit_at (station_in self.old) (P.place queued.old).waiting).digests) }
     {
         match self.switch.leave(alloc, queued, &mut self.buf)? {
             Passed::Out { port } => Ok(Some(port)),

@@ -2,6 +2,7 @@
 
 ghost use Rattle.p4_printer.specs.CanSpell.{CanSpell};
 ghost use Rattle.p4_tree.specs.View.{program_of};
+ghost use Rattle.p4_machine.specs.Buffers.{place_of};
 ghost use Rattle.p4_statements.specs.Runs.{cells_in};
 
 use crate::bench::Bench;
@@ -21,6 +22,10 @@ pub struct StoppingSwitch {
 }
 
 impl Pass for StoppingSwitch {
+    type Place = Queued;
+
+    ghost place = { place_of };
+
     ghost program = { λ s. program_of s.switch.program };
 
     ghost tables = { λ s. s.switch.tables };

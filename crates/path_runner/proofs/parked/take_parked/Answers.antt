@@ -9,7 +9,7 @@ use Rattle.path_runner.proofs.Standing.{read_item, view_at, not_waiting}
 use Rattle.path_runner.proofs.parked.take_parked.Goals as goal
 
 pub returns-in-Waiting-clause-taken : goal.returns-in-Waiting-clause-taken
-returns-in-Waiting-clause-taken c =
+returns-in-Waiting-clause-taken g c =
     let places = c.args.places.now.items in (
       map-set place_in places c.args.at c.replace.new.dest ∙ ap (set (map place_in places) c.args.at) (ap place_in c.replace.ensures.after),
       view_at place_in places c.args.at (code.Waiting c.in-Waiting.parked) Over
@@ -17,15 +17,15 @@ returns-in-Waiting-clause-taken c =
     )
 
 pub returns-in-Waiting-clause-items : goal.returns-in-Waiting-clause-items
-returns-in-Waiting-clause-items c = ap (set c.args.places.now.items c.args.at) c.replace.ensures.after
+returns-in-Waiting-clause-items g c = ap (set c.args.places.now.items c.args.at) c.replace.ensures.after
 
 pub returns-in-Waiting-clause-waited : goal.returns-in-Waiting-clause-waited
-returns-in-Waiting-clause-waited c =
+returns-in-Waiting-clause-waited g c =
     let places = c.args.places.now.items in
     read_item places (length places) c.args.at c.index_mut.result.now refl c.requires c.index_mut.ensures.value ∙ ap Some (sym c.replace.ensures.value ∙ c.in-Waiting.is)
 
 pub returns-in_default : goal.returns-in_default
-returns-in_default c =
+returns-in_default g c =
     let places = c.args.places.now.items in
     let x = c.index_mut.result.now in
     let here = read_item places (length places) c.args.at x refl c.requires c.index_mut.ensures.value in
