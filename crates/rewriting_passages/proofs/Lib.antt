@@ -4,4 +4,4 @@ mod Emits
 mod Found
 mod Owned
 mod Controls
-mod Passages
+pub mod Passages
