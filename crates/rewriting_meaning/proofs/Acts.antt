@@ -53,7 +53,7 @@ mutual
   names_in_other no_else = refl
   names_in_other (in_else r) = names_in_statement r
 
-  names_stay : {a b : Stmts} → BlockRewritten MayStandFor a b → names_in b ≡ names_in a
+  pub names_stay : {a b : Stmts} → BlockRewritten MayStandFor a b → names_in b ≡ names_in a
   names_stay none_left = refl
   names_stay (first_then r q) = ap₂ (λ (xs ys : List (List ℕ)). xs ++ ys) (names_in_statement r) (names_stay q)
 

@@ -23,10 +23,10 @@ use Rattle.rewriting_rules.specs.Knows.{Knows}
 use Rattle.rewriting_rules.proofs.Knows.{core_knows, top_knows}
 use Rattle.rewriting_rules.proofs.Controls.{control_fine, control_most}
 
-abbrev TopsRewritten : List Top → List Top → Type 0
+abbrev pub TopsRewritten : List Top → List Top → Type 0
 TopsRewritten = AllZip (TopRewritten MayStandFor)
 
-name_same : (c d : Control) → ControlRewritten MayStandFor c d → d.name ≡ c.name
+pub name_same : (c d : Control) → ControlRewritten MayStandFor c d → d.name ≡ c.name
 name_same c d r = ap (λ (e : Control). e.name) r.rest
 
 -- ---- what is tested, and what is in sight
@@ -121,7 +121,7 @@ tops_cells_same (t ∷ ts) (u ∷ us) r = ap₂ add_cells (top_cells_same t u r.
 
 -- ---- what names find
 
-parser_found : (ts us : List Top) → TopsRewritten ts us → (x : List ℕ) → parser_named us x ≡ parser_named ts x
+pub parser_found : (ts us : List Top) → TopsRewritten ts us → (x : List ℕ) → parser_named us x ≡ parser_named ts x
 parser_found [] [] r x = refl
 parser_found [] (u ∷ us) r x = absurd r
 parser_found (t ∷ ts) [] r x = absurd r
@@ -136,7 +136,7 @@ parser_found (t ∷ ts) (u ∷ us) r x = go t u r.0 (parser_found ts us r.1 x)
     go _ _ (parser_stays p d) h = ap (λ (o : Option Parser). cond (same_text d.name x) (Some d) o) h
     go _ _ (in_control p r) h = h
 
-fields_found : (ts us : List Top) → TopsRewritten ts us → (x : List ℕ) → struct_fields us x ≡ struct_fields ts x
+pub fields_found : (ts us : List Top) → TopsRewritten ts us → (x : List ℕ) → struct_fields us x ≡ struct_fields ts x
 fields_found [] [] r x = refl
 fields_found [] (u ∷ us) r x = absurd r
 fields_found (t ∷ ts) [] r x = absurd r

@@ -1,7 +1,6 @@
 -- What holds of a program with other values, and that its counts are those of the given one.
-use Rattle.std.proofs.Common.{◌≡◌, Option, Result, Ok, Err, IfOk, sym, ap, ◌∙◌, subst}
+use Rattle.std.proofs.Common.{Option, Result, Ok, Err, IfOk, sym, ◌∙◌}
 use Rattle.p4_tree.specs.Tree.{Expr, Program}
-use Rattle.p4_tree.specs.View.{program_of}
 use Rattle.p4_rules.specs.ProgramRules.{IsWellTyped}
 use Rattle.p4_types.specs.Counts.{AreCounts}
 use Rattle.p4_types.specs.declared.typed.Counts.{Counts}
@@ -10,6 +9,7 @@ use Rattle.rewriting_laws.specs.Standing.{MayStandFor}
 use Rattle.rewritten_programs.specs.Rewritten.{ProgramRewritten}
 use Rattle.rewriting_rules.proofs.Programs.{digests_same, headers_same, cells_same, stays_well_typed}
 use Rattle.rewriting_rules.proofs.Spelled.{stays_spelled}
+use Rattle.rewriting_passages.proofs.Passages.{passages_stay}
 use Rattle.simplify_rules.specs.Simplified.{IsSimplified}
 use Rattle.simplify_programs.specs.Simplified.{IsSimplifiedProgram}
 use Rattle.simplify_programs.proofs.Names.{names_stay}
@@ -28,6 +28,7 @@ simplified A p q h w r =
       walked = w;
       stands = r;
       typed = stays_well_typed p q r h;
+      passages = λ names values. passages_stay p q r h names values;
       spelled = stays_spelled p q r;
       numbers = λ s. names_stay s p q r;
       digests = digests_same p q r (typed_fine p h);

@@ -1,7 +1,7 @@
 -- Tables, registers and actions keep their names.
 use Rattle.std.proofs.Common.{◌≡◌, ℕ, List, [], ◌∷◌, ◌++◌, codes, refl, ap, ap₂, ◌∙◌}
 use Rattle.std.specs.List.{AllZip}
-use Rattle.p4_tree.specs.Tree.{Expr, Action, Table, Local, local_action, local_table, Control, Top, control, Program}
+use Rattle.p4_tree.specs.Tree.{Action, Table, Local, local_action, local_table, Control, Top, Program}
 use Rattle.p4_types.specs.Numbers.{Sort, tables, registers, actions, local_name, all_dotted, locals_names, top_names, tops_names, names}
 use Rattle.rewriting_laws.specs.Standing.{MayStandFor}
 use Rattle.rewritten_programs.specs.Rewritten.{ActionRewritten, TableRewritten, LocalRewritten, in_action, in_table, local_register_stays, local_const_stays, in_local_var, ControlRewritten, TopRewritten, constant_stays, typedef_stays, header_stays, struct_stays, register_stays, parser_stays, in_control, ProgramRewritten}

@@ -1,13 +1,15 @@
 -- What a program with answers of rules in it has of the given one. Read `Rewritten` of `rewritten_programs` before it,
--- `Simplified` of `simplify_rules`, `Numbers` of `p4_types` and `CanSpell` of `p4_printer`.
+-- `Passages` of `rewriting_passages`, `Simplified` of `simplify_rules`, `Numbers` of `p4_types` and `CanSpell` of `p4_printer`.
 use Rattle.std.specs.Prelude.{◌≡◌, Option}
 use Rattle.p4_tree.specs.Tree.{Expr, Program}
 use Rattle.p4_rules.specs.Limits.{header_bytes, most_of_program, cells}
 use Rattle.p4_rules.specs.ProgramRules.{program_scope, IsWellTyped}
 use Rattle.p4_types.specs.Numbers.{Sort, names}
 use Rattle.p4_printer.specs.CanSpell.{CanSpell}
+use Rattle.p4_typing_laws.specs.Plain.{HavePlainNames, HavePlainValues}
 use Rattle.rewriting_laws.specs.Standing.{MayStandFor}
 use Rattle.rewritten_programs.specs.Rewritten.{ProgramRewritten}
+use Rattle.rewriting_passages.specs.Passages.{ProgramStands}
 use Rattle.simplify_rules.specs.Simplified.{IsSimplified}
 
 -- Answers: what may be answered where an expression is offered, an expression or none
@@ -15,9 +17,11 @@ pub record IsSimplifiedProgram (Answers : Expr → Option Expr → Type 0) (p q 
   -- each expression of a control that is a value was gone through, and each part of it was offered once; nothing else is
   -- another
   pub walked : ProgramRewritten (IsSimplified Answers) p q
-  -- so each has one in its place that may stand there: statements do the same (laws of `rewriting_meaning`)
+  -- so each has one in its place that may stand there
   pub stands : ProgramRewritten MayStandFor p q
   pub typed : IsWellTyped q
+  -- both halves of a passage are the same, and what of the parts stays is. No name of a text has a point
+  pub passages : HavePlainNames p.tops → HavePlainValues p.tops → ProgramStands p q
   -- it can be spelled where the given one can
   pub spelled : CanSpell p → CanSpell q
   -- tables, registers and actions stand there by the same numbers
