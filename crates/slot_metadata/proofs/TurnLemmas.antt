@@ -37,10 +37,7 @@ pub drops_agree : DropsAgree
 drops_agree p room m s t are follows = ap (λ (w : Word). nat_eq w.value 511) (follows.shows.values egress_spec (plain_row egress_spec 1 9) (at_egress_spec p room m are)).is
 
 pub ports_agree : PortsAgree
-ports_agree p room m s t are follows =
-    let shown : ShowsPlace s.slots s.valid (plain_row egress_port 2 9) t egress_port = follows.shows.values egress_port (plain_row egress_port 2 9) (at_egress_port p room m are) in
-    let small : number_in s.slots 2 < 2 ^ 9 = (subst IsWord shown.is shown.word).in_range in
-    ap (λ (w : Word). cast 9 w.value) shown.is ∙ cast_of_small 9 (number_in s.slots 2) small
+ports_agree p room m s t are follows = ap (λ (w : Word). cast 9 w.value) (follows.shows.values egress_port (plain_row egress_port 2 9) (at_egress_port p room m are)).is
 
 -- ---- slots as a store
 

@@ -30,6 +30,6 @@ egress_slots slots = slice_set (slice_set slots 2 (number_in slots 1)) 1 0
 abbrev pub turned : State → State
 turned s = record s { slots = egress_slots s.slots }
 
--- the port by which a packet leaves
+-- the 9 bits of the port by which a packet leaves
 abbrev pub port_of : State → ℕ
-port_of s = number_in s.slots 2
+port_of s = cast 9 (number_in s.slots 2)

@@ -98,7 +98,7 @@ pub fn turn(s: &mut State)
 
 /// The port by which a packet leaves, in 9 bits.
 pub fn port_of(s: &State) -> u16
-    ensures { result ≡ cast 9 (port_of (state_of s.now)) }
+    ensures { result ≡ port_of (state_of s.now) }
 {
     (number_in(&s.slots, EGRESS_PORT) % 512) as u16
 }
