@@ -1,7 +1,8 @@
 //! Captures of Ethernet frames, read and written as files.
 //!
 //! The layer above gets `read_capture`, which answers the records of a file or the first thing that
-//! is wrong with it, and `write_capture`, which gives the one file that is written for records.
+//! is wrong with it, and `write_capture`, which gives the one file that is written for records;
+//! `put_header` and `put_record` write such a file piece by piece, from bytes that lie elsewhere.
 //!
 //! Follows: the libpcap savefile format, version 2.4 (`pcap-savefile(5)`).
 //!
@@ -19,4 +20,4 @@ mod writing;
 pub use captured::Captured;
 pub use fault::CaptureFault;
 pub use reading::read_capture;
-pub use writing::write_capture;
+pub use writing::{put_header, put_record, write_capture};

@@ -38,8 +38,12 @@ fn put_u32(out: &mut Vec<u8>, number: u32) -> Result<(), AllocError>
     Ok(())
 }
 
-/// Writes the file header, behind what is written already.
-fn put_header(out: &mut Vec<u8>) -> Result<(), AllocError>
+/// Begins a capture: its file header, behind what is written already.
+///
+/// # Errors
+///
+/// `AllocError` where memory runs out.
+pub fn put_header(out: &mut Vec<u8>) -> Result<(), AllocError>
     ensures { OnOk result (out.new.items ≡ out.old.items ++ header_bytes) }
 {
     put_u32(out, MAGIC)?;
@@ -52,20 +56,41 @@ fn put_header(out: &mut Vec<u8>) -> Result<(), AllocError>
     Ok(())
 }
 
-/// Writes a record, behind what is written already.
-fn put_record(out: &mut Vec<u8>, captured: &Captured) -> Result<(), AllocError>
+/// A record goes behind what is written already: its time in whole seconds and the microseconds past
+/// them, the captured length, the original length, which is the same, and the captured bytes.
+///
+/// # Errors
+///
+/// `AllocError` where memory runs out.
+pub fn put_record(
+    out: &mut Vec<u8>,
+    seconds: u32,
+    micros: u32,
+    bytes: &[u8],
+) -> Result<(), AllocError>
+    requires { length bytes.now < 2 ^ 32 }
+    ensures bytes { OnOk result (out.new.items ≡ out.old.items
+        ++ record_bytes (record { seconds = seconds; micros = micros; bytes = bytes.now })) }
+    ensures in_range { OnOk result (IsInRange (record { seconds = seconds; micros = micros; bytes = bytes.now })) }
+{
+    let len = bytes.len() as u32;
+    put_u32(out, seconds)?;
+    put_u32(out, micros)?;
+    put_u32(out, len)?;
+    put_u32(out, len)?;
+    out.extend_from_slice(bytes)?;
+    Ok(())
+}
+
+/// Writes a captured frame as a record.
+fn put_captured(out: &mut Vec<u8>, captured: &Captured) -> Result<(), AllocError>
     requires { length captured.now.bytes.items < 2 ^ 32 }
     ensures bytes { OnOk result
         (out.new.items ≡ out.old.items ++ record_bytes (record_of captured.now)) }
     ensures in_range { OnOk result (IsInRange (record_of captured.now)) }
 {
-    let len = captured.bytes.len() as u32;
-    put_u32(out, captured.seconds)?;
-    put_u32(out, captured.micros)?;
-    put_u32(out, len)?;
-    put_u32(out, len)?;
-    out.extend_from_slice(&captured.bytes)?;
-    Ok(())
+    let bytes = captured.bytes.as_slice();
+    put_record(out, captured.seconds, captured.micros, bytes)
 }
 
 fn written(alloc: Global, list: &[Captured]) -> Result<Vec<u8>, AllocError>
@@ -76,7 +101,7 @@ fn written(alloc: Global, list: &[Captured]) -> Result<Vec<u8>, AllocError>
     let mut out = Vec::new(alloc);
     put_header(&mut out)?;
     for captured in list {
-        put_record(&mut out, captured)?;
+        put_captured(&mut out, captured)?;
     }
     Ok(out)
 }

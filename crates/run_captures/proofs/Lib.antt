@@ -1,3 +1,4 @@
 pub mod Sorting
 pub mod Short
 pub mod Files
+pub mod Written

@@ -2,23 +2,7 @@
 use Rattle.std.proofs.Common.{nat_lt, ltb-true, ltb-false, ◌≡◌, ℕ, zero, suc, ◌+◌, ◌<◌, ◌≤◌, ◌==◌, List, [], ◌∷◌, length, map, get_or, Bool, true, false, if◌then◌else◌, All, refl, sym, ap, subst, arith}
 use Rattle.std.proofs.lemmas.List.Elements.{All-nil, All-cons}
 use Rattle.network_run.specs.Network.{Sent}
-use Rattle.pcap_io.specs.Record.{Record, record_of, records_of}
-use Rattle.pcap_io.specs.declared.captured.Captured.{Captured}
-use Rattle.run_captures.specs.Captures.{Time, record_for}
 use Rattle.run_captures.specs.Sorted.{those_at, AreSorted, AreShort}
-
--- they fit the length of a record
-pub fit_records : (ts : List Time) (xs : List Sent) (cs : List Captured) → records_of cs ≡ map (record_for ts) xs → AreShort xs → (k : ℕ) (d : Captured) → k < length cs → length (get_or cs k d).bytes.items < 4294967296
-fit_records ts xs [] e h k d lt = absurd (omega arith)
-fit_records ts [] (c ∷ cs) e h k d lt = absurd (cc)
-fit_records ts (x ∷ xs) (c ∷ cs) e h zero d lt =
-    let is : record_of c ≡ record_for ts x = (cc) in
-    let bytes : c.bytes.items ≡ x.frame = ap (λ (r : Record). r.bytes) is in
-    let short = h zero x (omega arith) in
-    rw bytes (omega (arith, short))
-fit_records ts (x ∷ xs) (c ∷ cs) e h (suc k) d lt =
-    let rest : records_of cs ≡ map (record_for ts) xs = (cc) in
-    fit_records ts xs cs rest (λ j y l. h (suc j) y (omega (arith, l))) k d (omega arith)
 
 -- those of a number are among those that were sent
 pub those_short : (key : Sent → ℕ) (n : ℕ) (xs : List Sent) → AreShort xs → AreShort (those_at key n xs)

@@ -2,8 +2,7 @@
 
 ghost use Rattle.std.specs.Prelude.{◌≡◌, ◌≤◌, ◌++◌, [], ℕ, List, length, map, get_or, All, IfOk, OnOk, string_bytes};
 ghost use Rattle.network_run.specs.Network as network;
-ghost use Rattle.pcap_io.specs.Record.{record_of, records_of};
-ghost use Rattle.pcap_io.specs.Written.{capture_bytes};
+ghost use Rattle.pcap_io.specs.Written.{capture_bytes, record_bytes};
 ghost use Rattle.job_course.specs.Output.{files_of, file_of};
 ghost use Rattle.run_captures.specs.Captures as captures;
 ghost use Rattle.run_captures.specs.Sorted.{AreShort, AreSorted, IsPut, lists_files, port_of, switch_of, those_at};
@@ -12,11 +11,16 @@ ghost use Rattle.run_captures.specs.Views.{time_view, lent_view, list_view, fron
 
 use network_file::Network;
 use path_runner::Sent;
-use pcap_io::{Captured, write_capture};
+use pcap_io::{put_header, put_record};
 use std::alloc::{AllocError, Global};
 
 /// How many ports a switch has.
 const PORTS: usize = 511;
+
+/// The bytes of a capture's header, and of the header of a record.
+const FILE_HEADER: usize = 24;
+
+const RECORD_HEADER: usize = 16;
 
 /// When a packet was captured: whole seconds, and the microseconds past them.
 #[derive(Clone, Copy, Debug, PartialEq, Eq)]
@@ -38,25 +42,14 @@ fn time_of(times: &[Time], packet: u32) -> Time
     }
 }
 
-fn copy_bytes(alloc: Global, bytes: &[u8]) -> Result<Vec<u8>, AllocError>
-    ensures { IfOk result (λ v. v.items ≡ bytes.now) }
-{
-    let mut copy = Vec::new(alloc);
-    copy.extend_from_slice(bytes)?;
-    Ok(copy)
-}
-
-/// The frame as a record of a capture.
-fn captured(alloc: Global, times: &[Time], sent: &Sent) -> Result<Captured, AllocError>
-    ensures { IfOk result (λ c. record_of c ≡ captures.record_for (map time_view times.now) (sent_of sent.now)) }
+/// A frame goes behind those of a capture.
+fn put_frame(file: &mut Vec<u8>, times: &[Time], sent: &Sent) -> Result<(), AllocError>
+    requires { length sent.now.frame.items ≤ 65791 }
+    ensures { OnOk result (file.new.items ≡ file.old.items ++ record_bytes (captures.record_for (map time_view times.now) (sent_of sent.now))) }
 {
     let time = time_of(times, sent.packet);
-    let bytes = copy_bytes(alloc, &sent.frame)?;
-    Ok(Captured {
-        seconds: time.seconds,
-        micros: time.micros,
-        bytes,
-    })
+    let frame = sent.frame.as_slice();
+    put_record(file, time.seconds, time.micros, frame)
 }
 
 /// So many lists, with no frame.
@@ -108,19 +101,28 @@ fn by_port<'a>(alloc: Global, sent: &[&'a Sent]) -> Result<Vec<Vec<&'a Sent>>, A
     Ok(lists)
 }
 
-/// Frames as records of a capture.
-fn captured_all(
-    alloc: Global,
-    times: &[Time],
-    frames: &[&Sent],
-) -> Result<Vec<Captured>, AllocError>
-    ensures { IfOk result (λ v. records_of v.items ≡ map (captures.record_for (map time_view times.now)) (map lent_view frames.now)) }
-{
-    let mut list = Vec::new(alloc);
+/// How many bytes the capture of frames has; the greatest number, where that is less.
+fn capture_size(frames: &[&Sent]) -> usize {
+    let mut size = FILE_HEADER;
     for x in frames {
-        list.push(captured(alloc, times, *x)?)?;
+        size = size
+            .saturating_add(RECORD_HEADER)
+            .saturating_add(x.frame.len());
     }
-    Ok(list)
+    size
+}
+
+/// The capture of frames, which takes its room at once.
+fn capture(alloc: Global, times: &[Time], frames: &[&Sent]) -> Result<Vec<u8>, AllocError>
+    requires { AreShort (map lent_view frames.now) }
+    ensures { IfOk result (λ v. v.items ≡ capture_bytes (map (captures.record_for (map time_view times.now)) (map lent_view frames.now))) }
+{
+    let mut file = Vec::with_capacity(alloc, capture_size(frames))?;
+    put_header(&mut file)?;
+    for x in frames {
+        put_frame(&mut file, times, *x)?;
+    }
+    Ok(file)
 }
 
 /// The front of the names of files, and what kind of frames they hold.
@@ -161,9 +163,9 @@ fn put_file(
     if frames.is_empty() {
         return Ok(());
     }
-    let captured = captured_all(alloc, times, frames)?;
+    let file = capture(alloc, times, frames)?;
     let name = capture_name(alloc, front, name, port)?;
-    files.push((name, write_capture(alloc, &captured)?))?;
+    files.push((name, file))?;
     Ok(())
 }
 

@@ -1,4 +1,4 @@
-use Rattle.std.proofs.Common.{◌≡◌, List, ℕ, ◌++◌, ◌∙◌, ap, length, append_assoc, rules}
+use Rattle.std.proofs.Common.{◌≡◌, List, ℕ, ◌++◌, length, append_assoc}
 use Rattle.byteorder.specs.Endian.{little_bytes}
 use Rattle.pcap_io.specs.Written.{record_bytes}
 use Rattle.pcap_io.proofs.writing.put_record.Goals as goal
@@ -10,9 +10,6 @@ five out a b d e f o1 o2 o3 o4 o5 p q r s t = rw (t, s, r, q, p) (simp append_as
 pub returns-clause-bytes : goal.returns-clause-bytes
 unfolding record_bytes
 returns-clause-bytes c =
-    let same : c.len-len.result ≡ length c.args.captured.now.bytes.items = search rules in
-    let r = c.args.captured.now in
-    let all = five c.args.out.now.items (little_bytes 4 r.seconds) (little_bytes 4 r.micros) (little_bytes 4 c.len-len.result) (little_bytes 4 c.len-len.result) r.bytes.items _ _ _ _ _
-    c.in_ok-put_u32.ensures c.in_ok-put_u32-2.ensures c.in_ok-put_u32-3.ensures c.in_ok-put_u32-4.ensures
-    (c.in_ok-extend_from_slice.ensures.items ∙ ap (λ (x : List ℕ). c.put_u32-4.new.out.items ++ x) c.deref.ensures.value) in
-    all ∙ ap (λ (n : ℕ). c.args.out.now.items ++ (little_bytes 4 r.seconds ++ (little_bytes 4 r.micros ++ (little_bytes 4 n ++ (little_bytes 4 n ++ r.bytes.items))))) same
+    let len = length c.args.bytes.now in
+    five c.args.out.now.items (little_bytes 4 c.args.seconds) (little_bytes 4 c.args.micros) (little_bytes 4 len) (little_bytes 4 len) c.args.bytes.now _ _ _ _ _
+    c.in_ok-put_u32.ensures c.in_ok-put_u32-2.ensures c.in_ok-put_u32-3.ensures c.in_ok-put_u32-4.ensures c.in_ok-extend_from_slice.ensures.items

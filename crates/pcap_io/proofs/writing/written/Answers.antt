@@ -7,6 +7,6 @@ loop-captured-preserved c =
     let inside = c.loop-captured-test.true in
     let item = c.captured-item.is in
     record {
-      bytes = c.in_ok-put_record.ensures.bytes ∙ written_more _ c.args.list.now c.loop-captured.captured-index c.captured-item.result inside item c.loop-captured.invariant.bytes;
-      in_range = in_range_more c.args.list.now c.loop-captured.captured-index c.captured-item.result inside item c.loop-captured.invariant.in_range c.in_ok-put_record.ensures.in_range;
+      bytes = c.in_ok-put_captured.ensures.bytes ∙ written_more _ c.args.list.now c.loop-captured.captured-index c.captured-item.result inside item c.loop-captured.invariant.bytes;
+      in_range = in_range_more c.args.list.now c.loop-captured.captured-index c.captured-item.result inside item c.loop-captured.invariant.in_range c.in_ok-put_captured.ensures.in_range;
     }
