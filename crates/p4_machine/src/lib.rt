@@ -5,8 +5,9 @@
 //! `set_table` and `cell`; `Switch`, which meets it over the maps by name of `p4_passages`, with `Queued`
 //! for its places; and `FrameBuf`, which is handed in, too. Contracts say what each call does as the
 //! halves of the trees' meaning (`specs/Passages`), and see buffers and places as records
-//! (`specs/Buffers`). Both are made for a program (`IsMadeFor`). Switches of one program share it and all
-//! that is reckoned of it: `new` makes the first of them, and `another` each further one.
+//! (`specs/Buffers`). Both are made for a program (`IsMadeFor`, `IsPlaceFor`). A buffer takes all its room
+//! when it is made. Switches of one program share it and all that is reckoned of it: `new` makes the first of
+//! them, and `another` each further one.
 //!
 //! Follows: P4_16 Language Specification and v1model, this project's subset.
 //!

@@ -10,7 +10,7 @@ ghost use Rattle.p4_tables.specs.State.{replaced};
 ghost use Rattle.p4_tables.specs.Faults.{IsReplaceable};
 ghost use Rattle.table_entries.specs.View.{entry_of, given_act};
 ghost use Rattle.p4_machine.specs.Passages.{entry_in, exit_in, passage_in, register_name};
-ghost use Rattle.p4_machine.specs.Buffers.{IsMadeFor, Place, goes_out, is_queued, is_some_packet};
+ghost use Rattle.p4_machine.specs.Buffers.{IsMadeFor, IsPlaceFor, Place, goes_out, is_queued, is_some_packet};
 ghost use Rattle.p4_machine.specs.declared.pass.Passed.TheVariants as passed;
 
 use crate::buffer::FrameBuf;
@@ -39,7 +39,7 @@ pub trait Pass {
     /// A place for a packet between the halves of its passage.
     type Place: Drop;
 
-    /// For what a place has room, and what waits there.
+    /// For which program a place was made, its room, and what waits there.
     ghost place: { Self.Place → Place };
 
     /// The program.
@@ -54,7 +54,7 @@ pub trait Pass {
     /// A place for a packet of this switch, with room for so many bytes that the parser does not
     /// consume.
     fn room(&self, alloc: Global, bytes: u32) -> Result<Self::Place, AllocError>
-        ensures made { IfOk result (λ q. IsMadeFor (program self.now) (place q).needs) }
+        ensures made { IfOk result (λ q. IsPlaceFor (program self.now) (place q)) }
         ensures room { IfOk result (λ q. (place q).room ≡ bytes) }
         ensures empty { IfOk result (λ q. (place q).waiting ≡ None) };
 
@@ -70,7 +70,7 @@ pub trait Pass {
     ) -> Result<Entered, AllocError>
         requires short { length frame.now ≤ 65791 }
         requires buffer { IsMadeFor (program self.old) buf.old.needs }
-        requires place { IsMadeFor (program self.old) (place q.old).needs }
+        requires place { IsPlaceFor (program self.old) (place q.old) }
         requires empty { (place q.old).waiting ≡ None }
         requires room { length frame.now ≤ (place q.old).room }
         ensures program { program self.new ≡ program self.old }
@@ -84,7 +84,7 @@ pub trait Pass {
         ensures digests { OnOk result (buf.new.digests
             ≡ (entry_in (program self.old) (tables self.old) (cells self.old) port frame.now).digests) }
         ensures buffer { IsMadeFor (program self.new) buf.new.needs }
-        ensures place { IsMadeFor (program self.new) (place q.new).needs }
+        ensures place { IsPlaceFor (program self.new) (place q.new) }
         ensures room { (place q.new).room ≡ (place q.old).room };
 
     /// The packet that waits leaves: egress, compute checksum and deparser. The buffer has the frame
@@ -97,7 +97,7 @@ pub trait Pass {
         buf: &mut FrameBuf,
     ) -> Result<Passed, AllocError>
         requires buffer { IsMadeFor (program self.old) buf.old.needs }
-        requires place { IsMadeFor (program self.old) (place q.old).needs }
+        requires place { IsPlaceFor (program self.old) (place q.old) }
         ensures program { program self.new ≡ program self.old }
         ensures tables { tables self.new ≡ tables self.old }
         ensures cells { OnOk result (cells self.new
@@ -109,7 +109,7 @@ pub trait Pass {
             ≡ (exit_in (program self.old) (tables self.old) (cells self.old) [] (place q.old).waiting).digests) }
         ensures empty { (place q.new).waiting ≡ None }
         ensures buffer { IsMadeFor (program self.new) buf.new.needs }
-        ensures place { IsMadeFor (program self.new) (place q.new).needs }
+        ensures place { IsPlaceFor (program self.new) (place q.new) }
         ensures room { (place q.new).room ≡ (place q.old).room };
 
     /// A passage: the entry half, and then the exit half.

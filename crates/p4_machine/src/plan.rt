@@ -4,17 +4,15 @@ ghost use Rattle.std.specs.Prelude.{◌≡◌, ◌<◌, IfOk, OnOk};
 ghost use Rattle.p4_tree.specs.View.{program_of};
 ghost use Rattle.p4_machine.specs.Kept.{IsPlan};
 
-use crate::needs::{Needs, needs_of};
 use p4_parts::{Parts, parts_of};
 use p4_types::TypedProgram;
 use std::alloc::{AllocError, Global};
 use std::rc::Rc;
 
-/// A program with its parts, and what its passages need.
+/// A program with its parts.
 pub(crate) struct Plan {
     pub program: TypedProgram,
     pub parts: Parts,
-    pub needs: Needs,
 }
 
 impl Drop for Plan {
@@ -22,7 +20,6 @@ impl Drop for Plan {
         let Plan {
             program: _program,
             parts: _parts,
-            needs: _needs,
         } = self;
     }
 }
@@ -44,11 +41,5 @@ pub(crate) fn plan_of(alloc: Global, program: TypedProgram) -> Result<Rc<Plan>, 
 {
     let parts = parts_of(alloc, program.program())?;
     few(parts.tables.len())?;
-    let needs = needs_of(&program)?;
-    let plan = Plan {
-        program,
-        parts,
-        needs,
-    };
-    Ok(Rc::new(alloc, plan)?)
+    Ok(Rc::new(alloc, Plan { program, parts })?)
 }

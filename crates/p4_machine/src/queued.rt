@@ -1,15 +1,17 @@
 //! A place for a packet between the halves of a passage.
 
 ghost use Rattle.std.specs.Prelude.{◌≡◌, None};
+ghost use Rattle.p4_tree.specs.View.{program_of};
 ghost use Rattle.p4_machine.specs.Buffers.{is_some_packet, place_of};
 
-use crate::needs::Needs;
+use crate::plan::Plan;
 use p4_passages::Waiting;
+use std::rc::Rc;
 
 /// A place for a packet of a program that waits for egress, with room for so many bytes that the parser
-/// does not consume.
+/// does not consume. It shares the program with the switch that made it.
 pub struct Queued {
-    pub(crate) needs: Needs,
+    pub(crate) plan: Rc<Plan>,
     pub(crate) room: u32,
     pub(crate) waiting: Option<Waiting>,
 }
@@ -17,7 +19,7 @@ pub struct Queued {
 impl Drop for Queued {
     fn drop(self) {
         let Queued {
-            needs: _needs,
+            plan: _plan,
             room: _,
             waiting: _waiting,
         } = self;
@@ -26,16 +28,25 @@ impl Drop for Queued {
 
 impl Queued {
     /// A place where nothing waits.
-    pub(crate) fn new(needs: Needs, room: u32) -> Queued
-        ensures needs { (place_of result).needs ≡ needs }
+    pub(crate) fn new(plan: Rc<Plan>, room: u32) -> Queued
+        ensures program { (place_of result).program ≡ program_of plan.value.program }
         ensures room { (place_of result).room ≡ room }
         ensures empty { (place_of result).waiting ≡ None }
     {
         Queued {
-            needs,
+            plan,
             room,
             waiting: None,
         }
+    }
+
+    /// Nothing waits any more.
+    pub fn clear(&mut self)
+        ensures program { (place_of self.new).program ≡ (place_of self.old).program }
+        ensures room { (place_of self.new).room ≡ (place_of self.old).room }
+        ensures empty { (place_of self.new).waiting ≡ None }
+    {
+        self.waiting = None;
     }
 
     /// Whether a packet waits.

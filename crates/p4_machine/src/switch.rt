@@ -6,7 +6,7 @@ ghost use Rattle.p4_tree.specs.View.{program_of};
 ghost use Rattle.p4_meaning.specs.Parts.{parts_of};
 ghost use Rattle.p4_meaning.specs.Pass.{start_cells, parts_enter};
 ghost use Rattle.p4_parts.specs.PartsIn.{cells_decl, parts_in};
-ghost use Rattle.p4_statements.specs.Runs.{cells_in};
+ghost use Rattle.p4_statements.specs.Runs.{cells_in, digest_of};
 ghost use Rattle.p4_passages.specs.Waiting.{gone_of, waiting_of};
 ghost use Rattle.p4_tables.specs.Programs.{IsStateOf, shapes};
 ghost use Rattle.p4_tables.specs.Named.{tables_in};
@@ -24,7 +24,7 @@ use crate::queued::Queued;
 use bit_values::Bits;
 use p4_parts::{Cells as Declared, Parts};
 use p4_passages::{Gone, Waiting, enter, leave, start_cells};
-use p4_statements::Registers;
+use p4_statements::{Digest, Registers};
 use p4_tables::{Entry, TableState};
 use p4_types::TypedProgram;
 use std::alloc::{AllocError, Global};
@@ -69,7 +69,7 @@ impl Model for Switch {
 fn put(q: &mut Queued, waiting: Option<Waiting>) -> Entered
     ensures waiting { (place_of q.new).waiting ≡ option_map waiting_of waiting }
     ensures answer { is_queued result ≡ is_some_packet (place_of q.new).waiting }
-    ensures needs { (place_of q.new).needs ≡ (place_of q.old).needs }
+    ensures program { (place_of q.new).program ≡ (place_of q.old).program }
     ensures room { (place_of q.new).room ≡ (place_of q.old).room }
 {
     match waiting {
@@ -88,7 +88,7 @@ fn put(q: &mut Queued, waiting: Option<Waiting>) -> Entered
 fn take(q: &mut Queued) -> Option<Waiting>
     ensures taken { option_map waiting_of result ≡ (place_of q.old).waiting }
     ensures empty { (place_of q.new).waiting ≡ None }
-    ensures needs { (place_of q.new).needs ≡ (place_of q.old).needs }
+    ensures program { (place_of q.new).program ≡ (place_of q.old).program }
     ensures room { (place_of q.new).room ≡ (place_of q.old).room }
 {
     mem::replace(&mut q.waiting, None)
@@ -105,13 +105,13 @@ fn put_out(buf: &mut FrameBuf, gone: Gone) -> Passed
     match gone {
         Gone::Dropped => Passed::Dropped,
         Gone::Out { port, frame } => {
-            buf.frame = frame;
+            buf.take_frame(frame);
             Passed::Out { port }
         }
     }
 }
 
-/// The entry half; the digests go behind those of the buffer.
+/// The entry half; the digests go behind those that are there.
 fn go_in(
     alloc: Global,
     p: &Parts,
@@ -119,24 +119,22 @@ fn go_in(
     registers: &mut Registers,
     port: u16,
     frame: &[u8],
-    buf: &mut FrameBuf,
+    told: &mut Vec<Digest>,
 ) -> Result<Option<Waiting>, AllocError>
     requires fits { fits_in (parts_in p.now).tables (shapes tables.now) ≡ true }
     requires short { length frame.now ≤ 65791 }
     ensures registers { OnOk result (cells_in registers.new ≡ (parts_enter (parts_in p.now)
         (tables_in (parts_in p.now) tables.now) (cells_in registers.old) port frame.now).registers) }
-    ensures digests { OnOk result (buf.new.digests ≡ buf.old.digests ++ (parts_enter (parts_in p.now)
+    ensures told { OnOk result (map digest_of told.new.items ≡ map digest_of told.old.items ++ (parts_enter (parts_in p.now)
         (tables_in (parts_in p.now) tables.now) (cells_in registers.old) port frame.now).digests) }
     ensures queued { IfOk result (λ q. option_map waiting_of q ≡ (parts_enter (parts_in p.now)
         (tables_in (parts_in p.now) tables.now) (cells_in registers.old) port frame.now).queued) }
-    ensures frame { buf.new.frame ≡ buf.old.frame }
-    ensures needs { buf.new.needs ≡ buf.old.needs }
 {
     let tables = Loaded { state: tables };
-    enter(alloc, p, &tables, registers, port, frame, &mut buf.digests)
+    enter(alloc, p, &tables, registers, port, frame, told)
 }
 
-/// The exit half of what may wait; the digests go behind those of the buffer.
+/// The exit half of what may wait; the digests go behind those that are there.
 fn go_out(
     alloc: Global,
     p: &Parts,
@@ -144,15 +142,16 @@ fn go_out(
     registers: &mut Registers,
     waiting: Option<Waiting>,
     buf: &mut FrameBuf,
+    told: &mut Vec<Digest>,
 ) -> Result<Passed, AllocError>
     requires fits { fits_in (parts_in p.now).tables (shapes tables.now) ≡ true }
     requires empty { buf.old.frame ≡ [] }
     ensures registers { OnOk result (cells_in registers.new ≡ (exit_from (parts_in p.now) (tables_in
-        (parts_in p.now) tables.now) (cells_in registers.old) buf.old.digests (option_map waiting_of waiting)).registers) }
+        (parts_in p.now) tables.now) (cells_in registers.old) (map digest_of told.old.items) (option_map waiting_of waiting)).registers) }
     ensures out { IfOk result (λ x. goes_out x buf.new.frame ≡ (exit_from (parts_in p.now) (tables_in
-        (parts_in p.now) tables.now) (cells_in registers.old) buf.old.digests (option_map waiting_of waiting)).out) }
-    ensures digests { OnOk result (buf.new.digests ≡ (exit_from (parts_in p.now) (tables_in
-        (parts_in p.now) tables.now) (cells_in registers.old) buf.old.digests (option_map waiting_of waiting)).digests) }
+        (parts_in p.now) tables.now) (cells_in registers.old) (map digest_of told.old.items) (option_map waiting_of waiting)).out) }
+    ensures told { OnOk result (map digest_of told.new.items ≡ (exit_from (parts_in p.now) (tables_in
+        (parts_in p.now) tables.now) (cells_in registers.old) (map digest_of told.old.items) (option_map waiting_of waiting)).digests) }
     ensures dropped { IfOk result (λ x. x ≡ passed.Dropped → buf.new.frame ≡ []) }
     ensures needs { buf.new.needs ≡ buf.old.needs }
 {
@@ -160,7 +159,7 @@ fn go_out(
         None => Ok(Passed::Dropped),
         Some(waiting) => {
             let tables = Loaded { state: tables };
-            let gone = leave(alloc, p, &tables, registers, waiting, &mut buf.digests)?;
+            let gone = leave(alloc, p, &tables, registers, waiting, told)?;
             Ok(put_out(buf, gone))
         }
     }
@@ -234,7 +233,7 @@ impl Pass for Switch {
     ghost cells = { λ s. cells_in s.registers };
 
     fn room(&self, _alloc: Global, bytes: u32) -> Result<Queued, AllocError> {
-        Ok(Queued::new(self.plan.as_ref().needs, bytes))
+        Ok(Queued::new(self.plan.clone()?, bytes))
     }
 
     fn enter(
@@ -247,6 +246,7 @@ impl Pass for Switch {
     ) -> Result<Entered, AllocError> {
         let plan = self.plan.as_ref();
         buf.clear();
+        let mut told = Vec::new(alloc);
         let waiting = go_in(
             alloc,
             &plan.parts,
@@ -254,8 +254,9 @@ impl Pass for Switch {
             &mut self.registers,
             port,
             frame,
-            buf,
+            &mut told,
         )?;
+        buf.take_digests(told);
         Ok(put(q, waiting))
     }
 
@@ -268,14 +269,18 @@ impl Pass for Switch {
         let plan = self.plan.as_ref();
         buf.clear();
         let waiting = take(q);
-        go_out(
+        let mut told = Vec::new(alloc);
+        let passed = go_out(
             alloc,
             &plan.parts,
             &self.tables,
             &mut self.registers,
             waiting,
             buf,
-        )
+            &mut told,
+        )?;
+        buf.take_digests(told);
+        Ok(passed)
     }
 
     fn pass(
@@ -287,6 +292,7 @@ impl Pass for Switch {
     ) -> Result<Passed, AllocError> {
         let plan = self.plan.as_ref();
         buf.clear();
+        let mut told = Vec::new(alloc);
         let waiting = go_in(
             alloc,
             &plan.parts,
@@ -294,16 +300,19 @@ impl Pass for Switch {
             &mut self.registers,
             port,
             frame,
-            buf,
+            &mut told,
         )?;
-        go_out(
+        let passed = go_out(
             alloc,
             &plan.parts,
             &self.tables,
             &mut self.registers,
             waiting,
             buf,
-        )
+            &mut told,
+        )?;
+        buf.take_digests(told);
+        Ok(passed)
     }
 
     fn set_table(

@@ -3,7 +3,7 @@ use Rattle.std.proofs.Common.{◌≡◌, ℕ, zero, suc, List, [], ◌∷◌, se
 use Rattle.std.specs.Prelude.{slice_get}
 use Rattle.p4_tree.specs.Tree.{Program}
 use Rattle.p4_meaning.specs.Pass.{Queued}
-use Rattle.p4_machine.specs.Buffers.{IsMadeFor, is_some_packet}
+use Rattle.p4_machine.specs.Buffers.{IsPlaceFor, is_some_packet}
 use Rattle.p4_machine.specs.declared.pass.Pass.{Ghosts}
 use Rattle.network_run.specs.Network.{Place, Flying}
 use Rattle.network_run.specs.NetworkRun.{queued_or_over}
@@ -31,14 +31,14 @@ none_waits (a ∷ rest) (suc i) s port n o full e = none_waits rest i s port n o
 module _ {P Q : Type 0} {g : Ghosts P Q} where
   -- what one place asks of the programs
   abbrev One : List Program → declared.Place P Q g → Type 0
-  One ps x = (k : Parked P Q g) (p : Program) → x ≡ code.Waiting k → slice_get ps k.switch ≡ Some p → IsMadeFor p (g.place k.queued).needs
+  One ps x = (k : Parked P Q g) (p : Program) → x ≡ code.Waiting k → slice_get ps k.switch ≡ Some p → IsPlaceFor p (g.place k.queued)
 
   -- where a packet comes to a switch, or to its end
   new_place : (ps : List Program) (s : ℕ) (p : Program) (x : declared.Place P Q g) → slice_get ps s ≡ Some p → IsMadeAt s p x → One ps x
   new_place ps s p x there new k q is here =
-      let both : (k.switch ≡ s) × IsMadeFor p (g.place k.queued).needs = subst (IsMadeAt s p) is new in
+      let both : (k.switch ≡ s) × IsPlaceFor p (g.place k.queued) = subst (IsMadeAt s p) is new in
       let same : p ≡ q = (let at = both.0 in cc) in
-      subst (λ (r : Program). IsMadeFor r (g.place k.queued).needs) same both.1
+      subst (λ (r : Program). IsPlaceFor r (g.place k.queued)) same both.1
 
   made_moved : (ps : List Program) (places : List (declared.Place P Q g)) (i s : ℕ) (p : Program) (x : declared.Place P Q g)
       → AreMade ps places → slice_get ps s ≡ Some p → IsMadeAt s p x → AreMade ps (set places i x)

@@ -2,7 +2,7 @@
 
 ghost use Rattle.std.specs.Prelude.{◌≡◌, ◌+◌, ◌<◌, ◌≤◌, ◌++◌, length, map, IfOk, IfSome, OnOk, OnErr};
 ghost use Rattle.std.specs.Option.{option_map};
-ghost use Rattle.p4_machine.specs.Buffers.{IsMadeFor};
+ghost use Rattle.p4_machine.specs.Buffers.{IsPlaceFor};
 ghost use Rattle.switch_machines.specs.Programs.{network_digest};
 ghost use Rattle.network_run.specs.NetworkRun.{told_by, queued_or_over, dropped_if_none};
 ghost use Rattle.path_runner.specs.Switches.{entry_at, exit_at};
@@ -73,7 +73,7 @@ fn sent<P: Pass + Drop>(
     switch: u16,
     queued: &mut P::Place,
 ) -> Result<Option<Sent>, AllocError>
-    requires { IsMadeFor (station_in station.old).program (P.place queued.old).needs }
+    requires { IsPlaceFor (station_in station.old).program (P.place queued.old) }
     ensures program { (station_in station.new).program ≡ (station_in station.old).program }
     ensures tables { (station_in station.new).tables ≡ (station_in station.old).tables }
     ensures cells { OnOk result ((station_in station.new).cells
@@ -114,7 +114,7 @@ pub(crate) fn leave<P: Pass + Drop>(
     packet: u32,
     parked: Parked<P>,
 ) -> Result<Place<P>, AllocError>
-    requires made { IsMadeFor (station_in station.old).program (P.place parked.queued).needs }
+    requires made { IsPlaceFor (station_in station.old).program (P.place parked.queued) }
     requires passed { parked.passed < limits.hops }
     requires counted { traffic.old.dropped + traffic.old.lost < 4294967295 }
     ensures program { (station_in station.new).program ≡ (station_in station.old).program }

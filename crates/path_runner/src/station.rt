@@ -5,7 +5,7 @@ ghost use Rattle.std.specs.Option.{option_map, option_and_then};
 ghost use Rattle.table_entries.specs.View.{entry_of, given_act};
 ghost use Rattle.p4_tables.specs.State.{replaced};
 ghost use Rattle.p4_tables.specs.Faults.{IsReplaceable};
-ghost use Rattle.p4_machine.specs.Buffers.{IsMadeFor, is_some_packet};
+ghost use Rattle.p4_machine.specs.Buffers.{IsMadeFor, IsPlaceFor, is_some_packet};
 
 use bit_values::Bits;
 use p4_machine::{Entered, FrameBuf, Pass, Passed};
@@ -40,7 +40,7 @@ impl<P: Pass + Drop> Station<P> {
         ensures queued { IfOk result (λ q. option_and_then (λ x. (P.place x).waiting) q
             ≡ (entry_at (station_in self.old) port frame.now).queued) }
         ensures full { IfOk result (λ q. IfSome q (λ x. is_some_packet (P.place x).waiting ≡ true)) }
-        ensures made { IfOk result (λ q. IfSome q (λ x. IsMadeFor (station_in self.new).program (P.place x).needs)) }
+        ensures made { IfOk result (λ q. IfSome q (λ x. IsPlaceFor (station_in self.new).program (P.place x))) }
         ensures digests { OnOk result (self.new.buf.digests
             ≡ (entry_at (station_in self.old) port frame.now).digests) }
     {
@@ -57,7 +57,7 @@ impl<P: Pass + Drop> Station<P> {
     /// The exit half of the passage of a packet that waits: the port by which the buffer's frame goes
     /// out, or `None` where the packet is dropped. The buffer has the digests.
     pub fn leave(&mut self, alloc: Global, queued: &mut P::Place) -> Result<Option<u16>, AllocError>
-        requires { IsMadeFor (station_in self.old).program (P.place queued.old).needs }
+        requires { IsPlaceFor (station_in self.old).program (P.place queued.old) }
         ensures program { (station_in self.new).program ≡ (station_in self.old).program }
         ensures tables { (station_in self.new).tables ≡ (station_in self.old).tables }
         ensures cells { OnOk result ((station_in self.new).cells

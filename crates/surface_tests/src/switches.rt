@@ -136,16 +136,20 @@ pub fn passes<P: Pass>(
     port: u16,
     frame: &[u8],
     buf: &mut FrameBuf,
-    place: &mut Queued,
+    place: &mut P::Place,
 ) {
     if never() {
         forget::<Result<Passed, AllocError>>(switch.pass(alloc, port, frame, buf));
-        forget::<Result<Queued, AllocError>>(switch.room(alloc, 1));
+        forget::<Result<P::Place, AllocError>>(switch.room(alloc, 1));
         forget::<Result<Entered, AllocError>>(switch.enter(alloc, port, frame, buf, place));
-        let _: bool = place.full();
         forget::<Result<Passed, AllocError>>(switch.leave(alloc, place, buf));
         let _: Bits = switch.cell(0, 0);
     }
+}
+
+/// Whether a packet waits in a place.
+pub fn waits(place: &Queued) {
+    let _: bool = place.full();
 }
 
 /// A switch whose table is replaced.

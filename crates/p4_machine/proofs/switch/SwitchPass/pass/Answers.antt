@@ -1,9 +1,8 @@
-use Rattle.std.proofs.Common.{◌≡◌, subst}
-use Rattle.std.specs.Prelude.{IfOk, OnOk}
+use Rattle.std.proofs.Common.{map, ap, ◌∙◌}
 use Rattle.std.specs.Option.{option_map}
 use Rattle.p4_tree.specs.View.{program_of}
 use Rattle.p4_parts.specs.PartsIn.{parts_in}
-use Rattle.p4_statements.specs.Runs.{cells_in}
+use Rattle.p4_statements.specs.Runs.{cells_in, digest_of}
 use Rattle.p4_passages.specs.Waiting.{waiting_of}
 use Rattle.p4_machine.specs.Passages.{Passage}
 use Rattle.p4_machine.specs.Buffers.{goes_out}
@@ -19,18 +18,15 @@ go_out-requires-clause-fits c = parts_fit (parts_in c.as_ref-plan.result.now.par
 
 pub returns-clause-cells : goal.returns-clause-cells
 returns-clause-cells c =
-    subst (λ (x : Passage). OnOk c.go_out.result (cells_in c.go_out.new.registers ≡ x.registers))
-    (passed_by (parts_in c.as_ref-plan.result.now.parts) (state_of c.self.inside) c.args.self.now (cells_in c.go_in.new.registers) c.clear.new.self.digests c.go_in.new.buf.digests (option_map waiting_of c.in_ok-waiting.waiting) c.args.port c.args.frame.now (lent_parts c.as_ref-plan.result.now c.self.inside.plan.value c.as_ref-plan.ensures c.self.invariant.plan) c.self.view_is c.clear.ensures.digests c.in_ok-waiting.ensures.registers c.in_ok-waiting.ensures.digests c.in_ok-waiting.ensures.queued)
-    c.go_out.ensures.registers
+    c.in_ok-passed.ensures.registers
+    ∙ ap (λ (x : Passage). x.registers) (passed_by (parts_in c.as_ref-plan.result.now.parts) (state_of c.self.inside) c.args.self.now (cells_in c.go_in.new.registers) (map digest_of c.new-told.result.items) (map digest_of c.go_in.new.told.items) (option_map waiting_of c.in_ok-waiting.waiting) c.args.port c.args.frame.now (lent_parts c.as_ref-plan.result.now c.self.inside.plan.value c.as_ref-plan.ensures c.self.invariant.plan) c.self.view_is (ap (map digest_of) c.new-told.ensures.items) c.in_ok-waiting.ensures.registers c.in_ok-waiting.ensures.told c.in_ok-waiting.ensures.queued)
 
 pub returns-clause-out : goal.returns-clause-out
 returns-clause-out c =
-    subst (λ (x : Passage). IfOk c.go_out.result (λ y. goes_out y c.go_out.new.buf.frame ≡ x.out))
-    (passed_by (parts_in c.as_ref-plan.result.now.parts) (state_of c.self.inside) c.args.self.now (cells_in c.go_in.new.registers) c.clear.new.self.digests c.go_in.new.buf.digests (option_map waiting_of c.in_ok-waiting.waiting) c.args.port c.args.frame.now (lent_parts c.as_ref-plan.result.now c.self.inside.plan.value c.as_ref-plan.ensures c.self.invariant.plan) c.self.view_is c.clear.ensures.digests c.in_ok-waiting.ensures.registers c.in_ok-waiting.ensures.digests c.in_ok-waiting.ensures.queued)
-    c.go_out.ensures.out
+    ap (goes_out c.in_ok-passed.passed) c.take_digests.ensures.frame ∙ c.in_ok-passed.ensures.out
+    ∙ ap (λ (x : Passage). x.out) (passed_by (parts_in c.as_ref-plan.result.now.parts) (state_of c.self.inside) c.args.self.now (cells_in c.go_in.new.registers) (map digest_of c.new-told.result.items) (map digest_of c.go_in.new.told.items) (option_map waiting_of c.in_ok-waiting.waiting) c.args.port c.args.frame.now (lent_parts c.as_ref-plan.result.now c.self.inside.plan.value c.as_ref-plan.ensures c.self.invariant.plan) c.self.view_is (ap (map digest_of) c.new-told.ensures.items) c.in_ok-waiting.ensures.registers c.in_ok-waiting.ensures.told c.in_ok-waiting.ensures.queued)
 
 pub returns-clause-digests : goal.returns-clause-digests
 returns-clause-digests c =
-    subst (λ (x : Passage). OnOk c.go_out.result (c.go_out.new.buf.digests ≡ x.digests))
-    (passed_by (parts_in c.as_ref-plan.result.now.parts) (state_of c.self.inside) c.args.self.now (cells_in c.go_in.new.registers) c.clear.new.self.digests c.go_in.new.buf.digests (option_map waiting_of c.in_ok-waiting.waiting) c.args.port c.args.frame.now (lent_parts c.as_ref-plan.result.now c.self.inside.plan.value c.as_ref-plan.ensures c.self.invariant.plan) c.self.view_is c.clear.ensures.digests c.in_ok-waiting.ensures.registers c.in_ok-waiting.ensures.digests c.in_ok-waiting.ensures.queued)
-    c.go_out.ensures.digests
+    c.take_digests.ensures.digests ∙ c.in_ok-passed.ensures.told
+    ∙ ap (λ (x : Passage). x.digests) (passed_by (parts_in c.as_ref-plan.result.now.parts) (state_of c.self.inside) c.args.self.now (cells_in c.go_in.new.registers) (map digest_of c.new-told.result.items) (map digest_of c.go_in.new.told.items) (option_map waiting_of c.in_ok-waiting.waiting) c.args.port c.args.frame.now (lent_parts c.as_ref-plan.result.now c.self.inside.plan.value c.as_ref-plan.ensures c.self.invariant.plan) c.self.view_is (ap (map digest_of) c.new-told.ensures.items) c.in_ok-waiting.ensures.registers c.in_ok-waiting.ensures.told c.in_ok-waiting.ensures.queued)
