@@ -1,3 +1,4 @@
 pub mod TreeLemmas
 pub mod CallLemmas
 pub mod MadeLemmas
+pub mod ToldLemmas

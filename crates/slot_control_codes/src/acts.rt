@@ -3,6 +3,7 @@
 ghost use Rattle.std.specs.Prelude.{◌≡◌, ◌++◌, ◌∷◌, [], List, map, true, false, IfOk, IfErr, OnOk};
 ghost use Rattle.p4_tree.specs.View.{arg_of, expr_of};
 ghost use Rattle.p4_meaning.specs.Actions as actions;
+ghost use Rattle.p4_meaning.specs.DigestBound.{most_of_act, none_told};
 ghost use Rattle.p4_meaning.specs.Standard.{egress_spec};
 ghost use Rattle.p4_meaning.specs.Statements.{applies as tree_applies, drops, idle, makes as tree_makes, runs, values_in};
 ghost use Rattle.p4_meaning.specs.Tables as tables;
@@ -11,7 +12,7 @@ ghost use Rattle.slot_terms.specs.Places.{IsLaid, places_of};
 ghost use Rattle.slot_terms.specs.declared.fault.Fault.TheVariants.{Unknown};
 ghost use Rattle.slot_terms.specs.Terms.{constant};
 ghost use Rattle.slot_statements.specs.Codes.{code_of, set, skip};
-ghost use Rattle.slot_controls.specs.Steps.{application_of, applies, makes, plain, slots_of, step_of};
+ghost use Rattle.slot_controls.specs.Steps.{application_of, applies, makes, most_told, plain, slots_of, step_of};
 ghost use Rattle.slot_controls.specs.StepRuns.{DoesAct};
 ghost use Rattle.slot_control_codes.specs.Callees.{callees_of};
 ghost use Rattle.slot_control_codes.specs.Acts.{act_in};
@@ -82,7 +83,8 @@ fn values_in(alloc: Global, args: &[Arg]) -> Result<Vec<Expr>, AllocError>
 
 /// The step of a call that does nothing.
 fn idle_step(_places: &Places, _k: &Callees<'_>) -> Step
-    ensures { DoesAct (callees_of _k.now) (places_of _places.now) (step_of result) idle }
+    ensures told { most_told (step_of result) ≡ 0 }
+    ensures does { DoesAct (callees_of _k.now) (places_of _places.now) (step_of result) idle }
 {
     plain_step(Code::Skip)
 }
@@ -99,6 +101,7 @@ fn action_step(
     ensures same { OnOk result (places_of places.new ≡ places_of places.old) }
     ensures known { OnOk result (can_run (callees_of k.now) (actions.action_named (callees_of k.now).actions x.now) (values_in (map arg_of args.now)) (places_of places.old) ≡ true) }
     ensures does { IfOk result (λ c. DoesAct (callees_of k.now) (places_of places.old) (step_of c) (runs x.now (values_in (map arg_of args.now)))) }
+    ensures told { IfOk result (λ c. most_told (step_of c) ≡ 0) }
     ensures blames { IfErr result (λ f. f ≡ Unknown → can_run (callees_of k.now) (actions.action_named (callees_of k.now).actions x.now) (values_in (map arg_of args.now)) (places_of places.old) ≡ false) }
 {
     match action_named(k.actions, x) {
@@ -115,6 +118,7 @@ fn action_step(
 fn table_step(alloc: Global, places: &Places, k: &Callees<'_>, x: &str) -> Result<Step, Fault>
     ensures known { OnOk result (can_apply (callees_of k.now) (tables.table_named (callees_of k.now).tables x.now) (places_of places.now) ≡ true) }
     ensures does { IfOk result (λ c. DoesAct (callees_of k.now) (places_of places.now) (step_of c) (tree_applies x.now)) }
+    ensures told { IfOk result (λ c. most_told (step_of c) ≡ 0) }
     ensures blames { IfErr result (λ f. f ≡ Unknown → can_apply (callees_of k.now) (tables.table_named (callees_of k.now).tables x.now) (places_of places.now) ≡ false) }
 {
     match application(alloc, places, k, x)? {
@@ -135,6 +139,7 @@ fn drop_step(alloc: Global, places: &Places, k: &Callees<'_>) -> Result<Step, Fa
     requires { IsLaid (places_of places.now) }
     ensures known { OnOk result (has_port (sight.place_at (places_of places.now).rows egress_spec) ≡ true) }
     ensures does { IfOk result (λ c. DoesAct (callees_of k.now) (places_of places.now) (step_of c) drops) }
+    ensures told { IfOk result (λ c. most_told (step_of c) ≡ 0) }
     ensures blames { IfErr result (λ f. f ≡ Unknown → has_port (sight.place_at (places_of places.now).rows egress_spec) ≡ false) }
 {
     let path = standard_path(alloc, "egress_spec")?;
@@ -160,6 +165,7 @@ fn validity_step(
     requires { IsLaid (places_of places.now) }
     ensures known { OnOk result (has_slots (callees_of k.now) (sight.header_number (places_of places.now).headers header.now) ≡ true) }
     ensures does { IfOk result (λ c. DoesAct (callees_of k.now) (places_of places.now) (step_of c) (tree_makes header.now valid)) }
+    ensures told { IfOk result (λ c. most_told (step_of c) ≡ 0) }
     ensures blames { IfErr result (λ f. f ≡ Unknown → has_slots (callees_of k.now) (sight.header_number (places_of places.now).headers header.now) ≡ false) }
 {
     match header_number(&places.headers, header)? {
@@ -182,6 +188,7 @@ pub fn act_step(
     ensures same { OnOk result (places_of places.new ≡ places_of places.old) }
     ensures known { OnOk result (has_act (callees_of k.now) (act_in act.entry) (places_of places.old) ≡ true) }
     ensures does { IfOk result (λ c. DoesAct (callees_of k.now) (places_of places.old) (step_of c) (act_in act.entry)) }
+    ensures told { IfOk result (λ c. most_told (step_of c) ≡ most_of_act none_told none_told (act_in act.entry)) }
     ensures blames { IfErr result (λ f. f ≡ Unknown → has_act (callees_of k.now) (act_in act.entry) (places_of places.old) ≡ false) }
 {
     match act {

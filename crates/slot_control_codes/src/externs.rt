@@ -9,7 +9,7 @@ ghost use Rattle.slot_terms.specs.Places.{IsLaid, place_of, places_of};
 ghost use Rattle.slot_terms.specs.Typed.{typed_of};
 ghost use Rattle.slot_terms.specs.declared.fault.Fault.TheVariants.{Unknown};
 ghost use Rattle.slot_statements.specs.Known.{is_known_target};
-ghost use Rattle.slot_controls.specs.Steps.{reads, step_of, target_of, tells, writes};
+ghost use Rattle.slot_controls.specs.Steps.{most_told, reads, step_of, target_of, tells, writes};
 ghost use Rattle.slot_controls.specs.StepRuns.{DoesAct, MeanAll, target_at};
 ghost use Rattle.slot_control_codes.specs.Callees.{callees_of};
 ghost use Rattle.slot_control_codes.specs.Found.{IsTargetOf};
@@ -103,6 +103,7 @@ pub fn read_step(
     requires { IsLaid (places_of places.now) }
     ensures known { OnOk result (is_known_target (places_of places.now) target.now (expr_of index.now) ≡ true) }
     ensures does { IfOk result (λ c. DoesAct (callees_of k.now) (places_of places.now) (step_of c) (tree_reads x.now target.now (expr_of index.now))) }
+    ensures told { IfOk result (λ c. most_told (step_of c) ≡ 0) }
     ensures blames { IfErr result (λ f. f ≡ Unknown → is_known_target (places_of places.now) target.now (expr_of index.now) ≡ false) }
 {
     if is_assignable(target) {
@@ -126,6 +127,7 @@ pub fn write_step(
 ) -> Result<Step, Fault>
     ensures known { OnOk result ((is_known (places_of places.now) (expr_of index.now) && is_known (places_of places.now) (expr_of value.now)) ≡ true) }
     ensures does { IfOk result (λ c. DoesAct (callees_of k.now) (places_of places.now) (step_of c) (tree_writes x.now (expr_of index.now) (expr_of value.now))) }
+    ensures told { IfOk result (λ c. most_told (step_of c) ≡ 0) }
     ensures blames { IfErr result (λ f. f ≡ Unknown → (is_known (places_of places.now) (expr_of index.now) && is_known (places_of places.now) (expr_of value.now)) ≡ false) }
 {
     let width = register_width(k.registers, x);
@@ -145,6 +147,7 @@ pub fn tell_step(
 ) -> Result<Step, Fault>
     ensures known { OnOk result (are_known (places_of places.now) (map expr_of values.now) ≡ true) }
     ensures does { IfOk result (λ c. DoesAct (callees_of k.now) (places_of places.now) (step_of c) (tree_tells receiver (map expr_of values.now))) }
+    ensures told { IfOk result (λ c. most_told (step_of c) ≡ 1) }
     ensures blames { IfErr result (λ f. f ≡ Unknown → are_known (places_of places.now) (map expr_of values.now) ≡ false) }
 {
     let values = terms_of(alloc, places, values)?;

@@ -5,6 +5,7 @@ ghost use Rattle.std.specs.Option.{option_map};
 ghost use Rattle.p4_tree.specs.Tree as tree;
 ghost use Rattle.p4_tree.specs.Tree.{block};
 ghost use Rattle.p4_tree.specs.View.{else_of, expr_of, stmt_of, stmts_of};
+ghost use Rattle.p4_meaning.specs.DigestBound.{most_of, most_of_else, most_of_stmt, none_told};
 ghost use Rattle.p4_meaning.specs.Statements.{application};
 ghost use Rattle.p4_meaning.specs.Tables.{table_named};
 ghost use Rattle.slot_terms.specs.Places.{IsLaid, places_of};
@@ -12,7 +13,7 @@ ghost use Rattle.slot_terms.specs.declared.fault.Fault.TheVariants.{Unknown};
 ghost use Rattle.slot_statements.specs.Known.{places_behind};
 ghost use Rattle.slot_statements.specs.Runs.{Grows};
 ghost use Rattle.slot_terms.specs.Terms.{constant};
-ghost use Rattle.slot_controls.specs.Steps.{application_of, branch, by_table, by_term, group, step_of, steps_of, test_of};
+ghost use Rattle.slot_controls.specs.Steps.{application_of, branch, by_table, by_term, group, most_told, most_told_all, step_of, steps_of, test_of};
 ghost use Rattle.slot_controls.specs.StepRuns.{DoAllSteps, DoesStep, DoesStepElse, DoesTest, DoesTested, Widens};
 ghost use Rattle.slot_control_codes.specs.Callees.{callees_of};
 ghost use Rattle.slot_control_codes.specs.Known.{asked_of, can_apply, can_test, has_step_else, steps_behind, steps_behind_all};
@@ -28,7 +29,7 @@ use std::alloc::{AllocError, Global};
 
 /// The table that a test applies, and whether it asks for a hit.
 #[derive(Clone, Copy)]
-pub(crate) struct Asked<'a> {
+pub struct Asked<'a> {
     pub table: &'a str,
     pub hit: bool,
 }
@@ -47,7 +48,7 @@ fn turned(asked: Option<Asked<'_>>) -> Option<Asked<'_>>
 }
 
 /// What a test asks of a table, perhaps behind `!`; `None` where it applies none.
-fn applied(e: &Expr) -> Option<Asked<'_>>
+pub fn asked_by(e: &Expr) -> Option<Asked<'_>>
     ensures { option_map asked_of result ≡ application (expr_of e.now) }
 {
     match e {
@@ -55,7 +56,7 @@ fn applied(e: &Expr) -> Option<Asked<'_>>
             table: table.as_str(),
             hit: *hit,
         }),
-        Expr::Not(_, e) => turned(applied(e)),
+        Expr::Not(_, e) => turned(asked_by(e)),
         Expr::Num(_, _) | Expr::Flag(_, _) | Expr::Path(_, _) | Expr::Valid(_, _) => None,
         Expr::ErrorName(_, _) | Expr::Invert(_, _) | Expr::Negate(_, _) => None,
         Expr::Bin(_, _, _, _) | Expr::Choice(_, _, _, _) => None,
@@ -100,7 +101,7 @@ fn test_step(alloc: Global, places: &Places, k: &Callees<'_>, e: &Expr) -> Resul
     ensures does { IfOk result (λ t. DoesTest (callees_of k.now) (places_of places.now) (test_of t) (expr_of e.now)) }
     ensures blames { IfErr result (λ f. f ≡ Unknown → can_test (callees_of k.now) (application (expr_of e.now)) (expr_of e.now) (places_of places.now) ≡ false) }
 {
-    match applied(e) {
+    match asked_by(e) {
         None => {
             let t = typed_term(alloc, places, e, 1)?;
             Ok(Test::Holds(t.term))
@@ -134,14 +135,14 @@ fn group_step(steps: Vec<Step>) -> Step
 }
 
 /// How many rows there are.
-fn row_count(places: &Places) -> usize
+pub fn row_count(places: &Places) -> usize
     ensures { result ≡ length (places_of places.now).rows }
 {
     places.rows.len()
 }
 
 /// Forgets the rows behind the first few, and goes back to the slot that was the next one.
-fn cut_back(places: &mut Places, count: usize, next: u32)
+pub fn cut_back(places: &mut Places, count: usize, next: u32)
     ensures { places_of places.new ≡ record (places_of places.old) { rows = take count (places_of places.old).rows; next = next } }
 {
     places.rows.truncate(count);
@@ -156,6 +157,7 @@ fn code_step(alloc: Global, places: &mut Places, k: &Callees<'_>, s: &Stmt) -> R
     ensures widens { OnOk result (Widens (places_of places.old) (places_of places.new)) }
     ensures known { OnOk result (places_behind (stmt_of s.now) (places_of places.old) ≡ Some (places_of places.new)) }
     ensures does { IfOk result (λ c. DoesStep (callees_of k.now) (places_of places.old) (places_of places.new) (step_of c) (stmt_of s.now)) }
+    ensures told { IfOk result (λ c. most_told (step_of c) ≡ 0) }
     ensures blames { IfErr result (λ f. f ≡ Unknown → places_behind (stmt_of s.now) (places_of places.old) ≡ None) }
 {
     let c = stmt_code(alloc, places, s)?;
@@ -181,6 +183,7 @@ pub fn stmt_step(
     ensures widens { OnOk result (Widens (places_of places.old) (places_of places.new)) }
     ensures known { OnOk result (steps_behind (callees_of k.now) (stmt_of s.now) (places_of places.old) ≡ Some (places_of places.new)) }
     ensures does { IfOk result (λ c. DoesStep (callees_of k.now) (places_of places.old) (places_of places.new) (step_of c) (stmt_of s.now)) }
+    ensures told { IfOk result (λ c. most_told (step_of c) ≡ most_of_stmt none_told none_told (stmt_of s.now)) }
     ensures blames { IfErr result (λ f. f ≡ Unknown → steps_behind (callees_of k.now) (stmt_of s.now) (places_of places.old) ≡ None) }
 {
     match s {
@@ -213,6 +216,7 @@ fn in_branch(alloc: Global, places: &mut Places, k: &Callees<'_>, s: &Stmt) -> R
     ensures same { OnOk result (places_of places.new ≡ places_of places.old) }
     ensures known { OnOk result (is_some (steps_behind (callees_of k.now) (stmt_of s.now) (places_of places.old)) ≡ true) }
     ensures does { IfOk result (λ c. DoesStep (callees_of k.now) (places_of places.old) (places_of places.old) (step_of c) (stmt_of s.now)) }
+    ensures told { IfOk result (λ c. most_told (step_of c) ≡ most_of_stmt none_told none_told (stmt_of s.now)) }
     ensures blames { IfErr result (λ f. f ≡ Unknown → is_some (steps_behind (callees_of k.now) (stmt_of s.now) (places_of places.old)) ≡ false) }
 {
     let count = row_count(places);
@@ -234,6 +238,7 @@ fn in_else(
     ensures same { OnOk result (places_of places.new ≡ places_of places.old) }
     ensures known { OnOk result (has_step_else (callees_of k.now) (else_of other.now) (places_of places.old) ≡ true) }
     ensures does { IfOk result (λ c. DoesStepElse (callees_of k.now) (places_of places.old) (step_of c) (else_of other.now)) }
+    ensures told { IfOk result (λ c. most_told (step_of c) ≡ most_of_else none_told none_told (else_of other.now)) }
     ensures blames { IfErr result (λ f. f ≡ Unknown → has_step_else (callees_of k.now) (else_of other.now) (places_of places.old) ≡ false) }
 {
     match other {
@@ -257,6 +262,7 @@ fn in_block(
     ensures same { OnOk result (places_of places.new ≡ places_of places.old) }
     ensures known { OnOk result (is_some (steps_behind_all (callees_of k.now) (stmts_of body.now) (places_of places.old)) ≡ true) }
     ensures does { IfOk result (λ c. DoesStep (callees_of k.now) (places_of places.old) (places_of places.old) (step_of c) (block 0 (stmts_of body.now))) }
+    ensures told { IfOk result (λ c. most_told (step_of c) ≡ most_of none_told none_told (stmts_of body.now)) }
     ensures blames { IfErr result (λ f. f ≡ Unknown → is_some (steps_behind_all (callees_of k.now) (stmts_of body.now) (places_of places.old)) ≡ false) }
 {
     let count = row_count(places);
@@ -281,6 +287,7 @@ pub fn stmts_steps(
     ensures widens { OnOk result (Widens (places_of places.old) (places_of places.new)) }
     ensures known { OnOk result (steps_behind_all (callees_of k.now) (stmts_of list.now) (places_of places.old) ≡ Some (places_of places.new)) }
     ensures do_all { IfOk result (λ v. DoAllSteps (callees_of k.now) (places_of places.old) (places_of places.new) (steps_of v.items) (stmts_of list.now)) }
+    ensures told { IfOk result (λ v. most_told_all (steps_of v.items) ≡ most_of none_told none_told (stmts_of list.now)) }
     ensures blames { IfErr result (λ f. f ≡ Unknown → steps_behind_all (callees_of k.now) (stmts_of list.now) (places_of places.old) ≡ None) }
 {
     let mut steps = Vec::new(alloc);

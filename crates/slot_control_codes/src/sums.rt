@@ -10,7 +10,7 @@ ghost use Rattle.slot_terms.specs.Places.{IsLaid, Means, places_of};
 ghost use Rattle.slot_terms.specs.Typed.{typed_of};
 ghost use Rattle.slot_terms.specs.declared.fault.Fault.TheVariants.{Unknown};
 ghost use Rattle.slot_statements.specs.Codes.{skip};
-ghost use Rattle.slot_controls.specs.Steps.{branch, by_term, plain, step_of, target_of, updates, verifies};
+ghost use Rattle.slot_controls.specs.Steps.{branch, by_term, most_told, plain, step_of, target_of, updates, verifies};
 ghost use Rattle.slot_controls.specs.StepRuns.{DoesAct};
 ghost use Rattle.slot_control_codes.specs.Callees.{callees_of};
 ghost use Rattle.slot_control_codes.specs.Found.{IsErrorSlot};
@@ -94,6 +94,7 @@ pub fn verify_step(
     requires { IsLaid (places_of places.now) }
     ensures known { OnOk result (has_act (callees_of k.now) (sums true (expr_of condition.now) (map expr_of list.now) field.now) (places_of places.now) ≡ true) }
     ensures does { IfOk result (λ c. DoesAct (callees_of k.now) (places_of places.now) (step_of c) (sums true (expr_of condition.now) (map expr_of list.now) field.now)) }
+    ensures told { IfOk result (λ c. most_told (step_of c) ≡ 0) }
     ensures blames { IfErr result (λ f. f ≡ Unknown → has_act (callees_of k.now) (sums true (expr_of condition.now) (map expr_of list.now) field.now) (places_of places.now) ≡ false) }
 {
     let error = error_slot(alloc, places)?;
@@ -116,6 +117,7 @@ pub fn update_step(
     requires { IsLaid (places_of places.now) }
     ensures known { OnOk result (has_act (callees_of k.now) (sums false (expr_of condition.now) (map expr_of list.now) field.now) (places_of places.now) ≡ true) }
     ensures does { IfOk result (λ c. DoesAct (callees_of k.now) (places_of places.now) (step_of c) (sums false (expr_of condition.now) (map expr_of list.now) field.now)) }
+    ensures told { IfOk result (λ c. most_told (step_of c) ≡ 0) }
     ensures blames { IfErr result (λ f. f ≡ Unknown → has_act (callees_of k.now) (sums false (expr_of condition.now) (map expr_of list.now) field.now) (places_of places.now) ≡ false) }
 {
     if is_assignable(field) {

@@ -49,6 +49,7 @@ pub(crate) fn run_entry<T: NumberedTables>(
     requires ingress { HasFewKeys (length keys.old) (program_of c.now).ingress }
     requires room { vec_len x.old.digests + (most_digests (program_of c.now).verify + most_digests (program_of c.now).ingress) ≤ vec_capacity x.old.digests }
     ensures runs { slot_run s.new x.new ≡ run_entry (T.chosen tables.now) (program_of c.now) (slot_run s.old x.old) }
+    ensures told { vec_len x.new.digests ≤ vec_len x.old.digests + (most_digests (program_of c.now).verify + most_digests (program_of c.now).ingress) }
     ensures room { vec_capacity x.new.digests ≡ vec_capacity x.old.digests }
 {
     run_control(tables, &c.verify, keys, s, x);

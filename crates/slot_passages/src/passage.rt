@@ -76,6 +76,7 @@ pub fn enter<T: NumberedTables>(
     ensures within { MatchOption result (Unit {0}) (λ i. i ≤ 8 * length frame.now) }
     ensures passed { length w.new.passed.items ≡ length w.old.passed.items }
     ensures keys { length w.new.keys.items ≡ length w.old.keys.items }
+    ensures told { vec_len x.new.digests ≤ vec_len x.old.digests + (most_digests (program_of c.now).verify + most_digests (program_of c.now).ingress) }
     ensures room { vec_capacity x.new.digests ≡ vec_capacity x.old.digests }
 {
     let at = parse(c, port, frame, &mut w.passed, s);
@@ -120,6 +121,7 @@ pub fn leave<T: NumberedTables>(
     ensures within { MatchOption result (Unit {0}) (λ o. o.length ≤ length buffer.new) }
     ensures passed { length w.new.passed.items ≡ length w.old.passed.items }
     ensures keys { length w.new.keys.items ≡ length w.old.keys.items }
+    ensures told { vec_len x.new.digests ≤ vec_len x.old.digests + most_digests (program_of c.now).egress }
     ensures room { vec_capacity x.new.digests ≡ vec_capacity x.old.digests }
 {
     run_control(tables, &c.egress, &mut w.keys, s, x);

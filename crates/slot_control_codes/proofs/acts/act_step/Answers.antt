@@ -33,4 +33,4 @@ pub returns-else-verifies-clause-does : goal.returns-else-verifies-clause-does
 returns-else-verifies-clause-does c = subst (λ a. IfOk c.update_step.result (λ z. DoesAct (callees_of c.args.k.now) (places_of c.args.places.now) (step_of z) (act_in a))) (sym (c.in-Sum.is ∙ ap (λ b. act.Sum b c.in-Sum.condition c.in-Sum.list c.in-Sum.field) c.if-verifies.false)) c.update_step.ensures.does
 
 pub returns-in-Idle-clause-does : goal.returns-in-Idle-clause-does
-returns-in-Idle-clause-does c = subst (λ a. DoesAct (callees_of c.args.k.now) (places_of c.args.places.now) (step_of c.idle_step.result) (act_in a)) (sym c.in-Idle.is) c.idle_step.ensures
+returns-in-Idle-clause-does c = subst (λ a. DoesAct (callees_of c.args.k.now) (places_of c.args.places.now) (step_of c.idle_step.result) (act_in a)) (sym c.in-Idle.is) c.idle_step.ensures.does

@@ -1,8 +1,9 @@
-use Rattle.std.proofs.Common.{◌≡◌, take, drop}
+use Rattle.std.proofs.Common.{◌≡◌, ◌+◌, take, drop}
 use Rattle.p4_tree.specs.View.{stmts_of}
+use Rattle.p4_meaning.specs.DigestBound.{none_told, most_of}
 use Rattle.slot_terms.specs.Places.{places_of, IsLaid}
 use Rattle.slot_statements.specs.Runs.{Grows}
-use Rattle.slot_controls.specs.Steps.{steps_of}
+use Rattle.slot_controls.specs.Steps.{steps_of, most_told_all}
 use Rattle.slot_control_codes.specs.Callees.{callees_of}
 use Rattle.slot_controls.specs.StepRuns.{DoAllSteps, Widens}
 use Rattle.slot_control_codes.specs.Known.{steps_behind_all}
@@ -14,5 +15,6 @@ invariant-stmts_steps-loop-s l = record {
   grows : Grows (places_of l.fn.places) (places_of l.places);
   widens : Widens (places_of l.fn.places) (places_of l.places);
   known : steps_behind_all (callees_of l.k) (stmts_of (drop l.s-index l.list)) (places_of l.places) ≡ steps_behind_all (callees_of l.k) (stmts_of l.list) (places_of l.fn.places);
+  told : most_told_all (steps_of l.steps.items) + most_of none_told none_told (stmts_of (drop l.s-index l.list)) ≡ most_of none_told none_told (stmts_of l.list);
   do_all : DoAllSteps (callees_of l.k) (places_of l.fn.places) (places_of l.places) (steps_of l.steps.items) (stmts_of (take l.s-index l.list));
 }
