@@ -2,10 +2,12 @@
 
 ghost use Rattle.p4_tree.specs.View.{program_of};
 ghost use Rattle.p4_tables.specs.Programs.{IsStateOf};
+ghost use Rattle.p4_machine.specs.Buffers.{IsMadeFor};
 
 use crate::entries::{offer, program, put, same};
 use hex::{decode, encode};
 use p4_machine::{Digest, FrameBuf, Pass, Passed, Switch};
+use p4_slots::SlotSwitch;
 use p4_tables::TableState;
 use p4_types::TypedProgram;
 use sample_programs::BASIC;
@@ -107,8 +109,23 @@ fn shown(rt: &impl Abort, alloc: Global, passed: Passed, buf: &FrameBuf) -> Stri
     out
 }
 
-/// What leaves a switch that runs a program over such tables.
-fn passage(
+/// What leaves a switch, whatever it runs on.
+fn passage<P: Pass>(
+    rt: &impl Abort,
+    alloc: Global,
+    switch: &mut P,
+    buf: &mut FrameBuf,
+    frame: &[u8],
+) -> String
+    requires { IsMadeFor (P.program switch.old) buf.old.needs }
+{
+    assert!(rt; frame.len() <= 65_791);
+    let passed = switch.pass(alloc, 1, frame, buf).expect(rt, "memory");
+    shown(rt, alloc, passed, buf)
+}
+
+/// The same of a switch on maps by name.
+fn by_names(
     rt: &impl Abort,
     alloc: Global,
     program: TypedProgram,
@@ -117,27 +134,51 @@ fn passage(
 ) -> String
     requires { IsStateOf (program_of program) tables }
 {
-    assert!(rt; frame.len() <= 65_791);
     let mut buf = FrameBuf::new(alloc, &program).expect(rt, "a buffer");
     let mut switch = Switch::new(alloc, program, tables).expect(rt, "a switch");
-    let passed = switch.pass(alloc, 1, frame, &mut buf).expect(rt, "memory");
-    let out = shown(rt, alloc, passed, &buf);
+    let out = passage(rt, alloc, &mut switch, &mut buf, frame);
     forget(switch);
     forget(buf);
     out
 }
 
-/// A line is as it says.
+/// The same of a switch over slots.
+fn by_slots(
+    rt: &impl Abort,
+    alloc: Global,
+    program: TypedProgram,
+    tables: TableState,
+    frame: &[u8],
+) -> String
+    requires { IsStateOf (program_of program) tables }
+{
+    let mut buf = FrameBuf::new(alloc, &program).expect(rt, "a buffer");
+    let mut switch = SlotSwitch::new(alloc, program, tables).expect(rt, "a switch");
+    let out = passage(rt, alloc, &mut switch, &mut buf, frame);
+    forget(switch);
+    forget(buf);
+    out
+}
+
+/// A line is as it says, on both kinds of switches.
 fn line_holds(rt: &impl Abort, alloc: Global, text: &str, line: &str) {
     let (name, rest) = line.split_once(": ").expect(rt, "a table");
     let (items, rest) = rest.split_once(" => ").expect(rt, "a frame");
     let (frame, wanted) = rest.split_once(" => ").expect(rt, "an answer");
     let frame = decode(alloc, frame).expect(rt, "bytes");
     let program = program(rt, alloc, text);
+    let other = program.copy(alloc).expect(rt, "memory");
     let tables = filled(rt, alloc, &program, name, items);
+    let others = filled(rt, alloc, &other, name, items);
     same(
         rt,
-        &passage(rt, alloc, program, tables, &frame),
+        &by_names(rt, alloc, program, tables, &frame),
+        wanted,
+        line,
+    );
+    same(
+        rt,
+        &by_slots(rt, alloc, other, others, &frame),
         wanted,
         line,
     );

@@ -1,0 +1,5 @@
+pub mod RegisterLemmas
+pub mod SlotLemmas
+pub mod PlaceLemmas
+pub mod MachineLemmas
+pub mod KindLemmas

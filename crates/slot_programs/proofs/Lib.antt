@@ -1,0 +1,9 @@
+pub mod NameLemmas
+pub mod KeptLemmas
+pub mod CallLemmas
+pub mod KnownLemmas
+pub mod FitLemmas
+pub mod DigestLemmas
+pub mod ControlLemmas
+pub mod UseLemmas
+pub mod KeyLemmas
