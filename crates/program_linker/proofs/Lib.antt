@@ -1,3 +1,5 @@
 pub mod Monitors
 pub mod Typed
 pub mod Links
+pub mod Lists
+pub mod Answered

@@ -1,0 +1,2 @@
+-- What callers rest on.
+pub mod Laws
