@@ -13,6 +13,7 @@ use crate::run::run;
 use crate::wire::wire;
 use job_course::{Output, Stop};
 use outside::Store;
+use simplify_rules::RuleSet;
 use std::alloc::Global;
 use switch_benches::Bench;
 
@@ -103,15 +104,18 @@ pub fn plan<S: Store, B: Bench>(
     store: &mut S,
     bench: &mut B,
     command: Command<'_>,
+    rules: &RuleSet,
 ) -> Result<Output, Stop>
     ensures { Plans Outputs (course_of (said_by command.entry)) (S.state store.old) (S.state store.new) result }
 {
     match command {
-        Command::Wire(property, frame, out) => wire(alloc, store, bench, property, frame, out),
+        Command::Wire(property, frame, out) => wire(
+            alloc, store, bench, property, frame, out, rules,
+        ),
         Command::Check(property) => check(alloc, store, property),
         Command::Forward(case, out) => forward(alloc, store, bench, case, out),
-        Command::Run(case, out) => run(alloc, store, bench, case, out),
-        Command::Link(case, out) => link(alloc, store, case, out),
-        Command::Load(number, out) => load(alloc, store, bench, number, out),
+        Command::Run(case, out) => run(alloc, store, bench, case, out, rules),
+        Command::Link(case, out) => link(alloc, store, case, out, rules),
+        Command::Load(number, out) => load(alloc, store, bench, number, out, rules),
     }
 }

@@ -25,17 +25,20 @@ mod wire;
 
 use job_course::{Status, deliver, refuse, say};
 use outside::{Sink, Store};
+use simplify_rules::RuleSet;
 use std::alloc::Global;
 use switch_benches::Bench;
 
 /// Does what the words say, over a store and a sink. `words` excludes the program's name. What a command runs at
-/// the switches of a network are those of the bench, one for each switch, in the network's order.
+/// the switches of a network are those of the bench, one for each switch, in the network's order. In linked
+/// programs, values of their controls are those that the rules answer.
 pub fn hydra<S: Store, K: Sink, B: Bench>(
     alloc: Global,
     words: &[String],
     store: &mut S,
     out: &mut K,
     bench: &mut B,
+    rules: &RuleSet,
 ) -> Status
     // Each answer has its cause, and says what stands after it.
     ensures answer { Answers (command_of (map string_bytes words.now)) (S.state store.old) (S.state store.new) (K.state out.old) (K.state out.new) result }
@@ -47,7 +50,7 @@ pub fn hydra<S: Store, K: Sink, B: Bench>(
             say(out, b"hydra: words\n");
             Status::BadWords
         }
-        Some(command) => match command::plan(alloc, store, bench, command) {
+        Some(command) => match command::plan(alloc, store, bench, command, rules) {
             Ok(output) => deliver(alloc, store, out, &output),
             Err(stop) => refuse(out, &stop),
         },

@@ -13,6 +13,7 @@ use linked_jobs::LinkedJob;
 use linked_run::run_linked;
 use load_job::{MadeJob, load_made};
 use outside::Store;
+use simplify_rules::RuleSet;
 use std::alloc::{AllocError, Global};
 use switch_benches::Bench;
 
@@ -32,7 +33,7 @@ fn begins_with_plus(word: &str) -> bool
     word.starts_with('+')
 }
 
-/// Makes the case, runs the linked programs on it, and writes its files and behind them those of the run. The
+/// Makes the case, runs the linked programs on it, with answers of the rules in them, and writes its files and behind them those of the run. The
 /// store is not asked for a file.
 pub fn load<S: Store, B: Bench>(
     alloc: Global,
@@ -40,11 +41,12 @@ pub fn load<S: Store, B: Bench>(
     bench: &mut B,
     number: u64,
     out: &str,
+    rules: &RuleSet,
 ) -> Result<Output, Stop>
     ensures { Plans Outputs (course_of (load number out.now)) (S.state store.old) (S.state store.new) result }
 {
     let MadeJob { files, job } = load_made(alloc, number, out)?;
-    Ok(run_made(alloc, bench, files, job, out)?)
+    Ok(run_made(alloc, bench, files, job, out, rules)?)
 }
 
 /// The files of a made case, and behind them those of its run.
@@ -54,11 +56,12 @@ fn run_made<B: Bench>(
     mut files: Vec<(String, Vec<u8>)>,
     job: LinkedJob,
     out: &str,
+    rules: &RuleSet,
 ) -> Result<Output, AllocError>
     requires { IsLinkedJob job }
     ensures { IfOk result (λ o. (n : ℕ) → files_of files.items ≡ made_files n out.now → LoadHeadline n (job_of job) out.now (out_of o)) }
 {
-    let mut ran = run_linked(alloc, bench, job, out)?;
+    let mut ran = run_linked(alloc, bench, job, out, rules)?;
     files.append(&mut ran.files)?;
     Ok(Output {
         files,

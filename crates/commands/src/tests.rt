@@ -1,6 +1,8 @@
 //! Commands over the stores and sinks in memory, and what they answer where files or the sink fail. What commands do over the
 //! system's files stands in the rows under `tests/` at the top of the repository.
 
+mod rules;
+
 use super::*;
 use outside::{MemSink, MemStore, SureSink, SureStore};
 use std::mem::forget;
@@ -30,7 +32,8 @@ goes =c {"captures": [{"switch": "s1", "port": 1, "file": "h.pcap"}], "network":
 /// and `?N` are the numbers of the calls of the store and of the sink that fail. `>` is the status and what was put, with `/`
 /// for each line feed. Behind `:` is a file that is written: as files are given, or `/NAME TEXT` with `/` for each line feed,
 /// or `?NAME` whatever it holds; and `!NAME` is not written. `^N K` is the number of a switch and of its entry that answers
-/// want of memory, and `;N NAME` says that the program of that switch is the one whose text the file holds.
+/// want of memory, and `;N NAME` says that the program of that switch is the one whose text the file holds. `+NAME TEXT` says
+/// that the text stands in a file that is written.
 const ROWS: &str = r#" @ >BadWords hydra: words/
 wire p f o @ &rejected @ >Done packets 1/sent 0/dropped 0/rejected 1/lost 0/reports 0/ @ :?o.linked.s1.p4 @ :?o.linked.s2.p4 @ :?o.linked.s3.p4 @ :!o.frame
 wire p f o @ &leaves @ >Done packets 1/sent 1/dropped 0/rejected 0/lost 0/reports 0/ @ :#o.frame 0102
@@ -362,6 +365,16 @@ fn is_built(store: &MemStore, bench: &StoppingBench, wanted: &str) -> bool {
     }
 }
 
+/// Whether a text stands in the file of a name.
+fn has_text(store: &MemStore, wanted: &str) -> bool {
+    let (name, text) = wanted.split_once(' ').unwrap_or((wanted, ""));
+    let text = text.as_bytes();
+    match store.file(name) {
+        None => false,
+        Some(bytes) => !text.is_empty() && bytes.windows(text.len()).any(|part| part == text),
+    }
+}
+
 /// What stands behind a call.
 #[derive(Clone, Copy)]
 struct Behind<'a> {
@@ -379,6 +392,8 @@ fn holds(rt: &impl Abort, alloc: Global, part: &str, behind: &Behind<'_>) -> boo
         is_written(rt, alloc, behind.store, wanted)
     } else if let Some(wanted) = part.strip_prefix(";") {
         is_built(behind.store, behind.bench, wanted)
+    } else if let Some(wanted) = part.strip_prefix("+") {
+        has_text(behind.store, wanted)
     } else {
         true
     }
@@ -395,7 +410,7 @@ fn first_wrong<'a>(rt: &impl Abort, alloc: Global, row: &'a str, behind: &Behind
 }
 
 /// Does what the words of a row say: the first part of it that does not hold then.
-fn wrong<'a>(rt: &impl Abort, alloc: Global, row: &'a str) -> &'a str {
+fn wrong<'a>(rt: &impl Abort, alloc: Global, row: &'a str, rules: &RuleSet) -> &'a str {
     let (line, _) = row.split_once(" @ ").unwrap_or((row, ""));
     let words = words_of(rt, alloc, line);
     let mut store = held(rt, alloc, row);
@@ -404,7 +419,7 @@ fn wrong<'a>(rt: &impl Abort, alloc: Global, row: &'a str) -> &'a str {
         texts: Vec::new(alloc),
         stop: stop_of(row),
     };
-    let status = hydra(alloc, &words, &mut store, &mut out, &mut bench);
+    let status = hydra(alloc, &words, &mut store, &mut out, &mut bench, rules);
     let behind = Behind {
         status,
         taken: out.taken(),
@@ -422,9 +437,10 @@ fn wrong<'a>(rt: &impl Abort, alloc: Global, row: &'a str) -> &'a str {
 #[test]
 fn rows_are_answered(rt: HostRuntime) {
     let alloc = rt.alloc();
+    let rules = RuleSet::new(alloc);
     for row in ROWS.lines() {
         let row = whole(&rt, alloc, row);
-        let part = wrong(&rt, alloc, row.as_str());
+        let part = wrong(&rt, alloc, row.as_str(), &rules);
         assert_eq!(rt; part, "", "{row}");
     }
 }
@@ -440,13 +456,22 @@ fn surely(rt: &impl Abort, alloc: Global, property: &str, frame: &[u8], wanted: 
     store.hold(alloc, "f", frame).expect(rt, "memory");
     let mut out = SureSink::new(alloc, 1000).expect(rt, "memory");
     let words = words_of(rt, alloc, "wire p f o");
-    let status = hydra(alloc, &words, &mut store, &mut out, &mut SwitchBench);
+    let rules = RuleSet::new(alloc);
+    let status = hydra(
+        alloc,
+        &words,
+        &mut store,
+        &mut out,
+        &mut SwitchBench,
+        &rules,
+    );
     let left = if wanted.contains("/sent 1/") {
         Some(frame)
     } else {
         None
     };
     let well = is_answer(rt, alloc, status, out.taken(), wanted) && store.file("o.frame") == left;
+    forget(rules);
     forget(store);
     forget(out);
     forget(words);

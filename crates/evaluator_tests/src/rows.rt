@@ -5,6 +5,7 @@ use crate::shown::{no_frames, put, put_number, put_record};
 use linked_run::run_linked;
 use outside::SureStore;
 use run_job::load_run;
+use simplify_rules::RuleSet;
 use std::alloc::Global;
 use std::mem::forget;
 use std::process::Abort;
@@ -277,7 +278,9 @@ fn case_agrees(rt: &impl Abort, alloc: Global, store: &mut SureStore, row: &str)
     match load_run(alloc, store, "c") {
         Ok(job) => {
             let shown = evaluated(rt, alloc, &job);
-            let ran = run_linked(alloc, &mut SwitchBench, job, "o").expect(rt, "memory");
+            let rules = RuleSet::new(alloc);
+            let ran = run_linked(alloc, &mut SwitchBench, job, "o", &rules).expect(rt, "memory");
+            forget(rules);
             shown.agrees(rt, alloc, &ran, row);
             forget(shown);
             forget(ran);

@@ -71,7 +71,7 @@ in_middle P (d ∷ done) e rest h = in_middle P done e rest (All-tail P d (done 
 
 module _ (j : Job) (l : Linked) (ready : IsReady j) (linked : IsLinked j l) where
   abbrev g : Given
-  g = given_in j.property j.program linked.controls
+  g = given_in j.property j.program linked.linked.controls
 
   abbrev first : (switch : ℕ) → ℕ → Contents
   first s = (world_of j).contents s
@@ -79,8 +79,8 @@ module _ (j : Job) (l : Linked) (ready : IsReady j) (linked : IsLinked j l) wher
   is_within : IsWithin g l.rows (map entries_in j.tables) j.contents j.events
   is_within =
       record {
-        given = faultless_is_given j.property j.program j.room ready.linkable linked.controls;
-        mapped = linked.tables;
+        given = faultless_is_given j.property j.program j.room ready.linkable linked.linked.controls;
+        mapped = linked.linked.tables;
         within = ready.items;
       }
 

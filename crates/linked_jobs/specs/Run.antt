@@ -1,5 +1,5 @@
 -- The run of a job: the network's run of its linked programs. Read `Job` before it, `Rows` of loaded_tables, `Maps` of
--- control_maps, `Linked` of program_linker, and `World` of the network's run.
+-- control_maps, `Simpler` of program_linker, and `World` of the network's run.
 use Rattle.std.specs.Prelude.{ℕ, List, [], length, map, get_or}
 use Rattle.std.specs.List.{range_with_len}
 use Rattle.p4_tree.specs.Tree.{Program}
@@ -19,7 +19,7 @@ use Rattle.control_maps.specs.Numbers.{Numbered}
 use Rattle.path_runner.specs.Nets.{controls_in}
 use Rattle.loaded_tables.specs.Rows.{Row, numbered_rows}
 use Rattle.linked_starts.specs.Starts.{found_row}
-use Rattle.program_linker.specs.Linked.{AreLinked}
+use Rattle.program_linker.specs.Simpler.{AreSimplyLinked}
 use Rattle.read_contents.specs.Fits.{contents_at}
 use Rattle.linked_jobs.specs.Job.{Job}
 
@@ -36,9 +36,16 @@ programs_of j l = map l.programs (range_with_len 0 (length j.network.names))
 abbrev pub maps_of : Job → Linked → List (List Numbered)
 maps_of j l = map (λ p. numbered_rows p j.property.decls l.rows) (programs_of j l)
 
--- these are a linker's programs, and its rows
+-- these are a linker's programs, or such with other values in them, and a linker's rows
 abbrev pub IsLinked : Job → Linked → Type 0
-IsLinked j l = AreLinked j.program j.property j.network (programs_of j l) (map found_row l.rows)
+IsLinked j l = AreSimplyLinked j.program j.property j.network (programs_of j l) (map found_row l.rows)
+
+-- programs in the network's order, and rows; without a switch there is no program
+abbrev pub no_program : Program
+no_program = record { at = 0; tops = []; main = [] }
+
+abbrev pub linked_in : List Program → List Row → Linked
+linked_in ps rows = record { programs = λ s. get_or ps s no_program; rows = rows }
 
 -- its world: what the tables of the given program hold at each switch, by their names, and the contents of control variables
 -- by their numbers

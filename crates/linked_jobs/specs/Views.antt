@@ -12,6 +12,7 @@ use Rattle.loaded_tables.specs.Rows.{Row}
 use Rattle.tele_layout.specs.Layouts.{IsLayoutOf}
 use Rattle.linked_starts.specs.Starts.{found_row}
 use Rattle.program_linker.specs.Linked.{AreLinked}
+use Rattle.program_linker.specs.Simpler.{AreSimplyLinked}
 use Rattle.program_linker.specs.declared.linking.Linked.{Linked}
 use Rattle.linked_jobs.specs.Job as jobs
 use Rattle.linked_jobs.specs.Job.{IsReady}
@@ -50,5 +51,12 @@ pub record AreThese (j : LinkedJob) (l : run.Linked) : Type 0 where
 pub record IsLinkedJob (j : LinkedJob) : Type 0 where
   pub ready : IsReady (job_of j)
   pub linked : AreLinked (program_of j.program) (property_of j.property) j.network (programs_in j.linked) (map found_row (rows_in j.linked))
+  pub spelled : All (λ t. CanSpell (program_of t)) j.linked.programs.items
+  pub layout : IsLayoutOf (property_of j.property) j.linked.layout
+
+-- the same of a job whose programs are a linker's with other values in them
+pub record IsSimplerJob (j : LinkedJob) : Type 0 where
+  pub ready : IsReady (job_of j)
+  pub linked : AreSimplyLinked (program_of j.program) (property_of j.property) j.network (programs_in j.linked) (map found_row (rows_in j.linked))
   pub spelled : All (λ t. CanSpell (program_of t)) j.linked.programs.items
   pub layout : IsLayoutOf (property_of j.property) j.linked.layout

@@ -4,7 +4,7 @@ use Rattle.linked_jobs.specs.declared.job.LinkedJob.{LinkedJob}
 use Rattle.p4_machine.specs.declared.pass.Pass.{Ghosts}
 use Rattle.linked_net.specs.declared.starting.Started.{Started}
 
-pub record IsHandedOn {P : Type 0} {g : Ghosts P} (j : LinkedJob) (s : Started P g) : Type 0 where
+pub record IsHandedOn {P Q : Type 0} {g : Ghosts P Q} (j : LinkedJob) (s : Started P Q g) : Type 0 where
   pub property : s.property ≡ j.property
   pub program : s.program ≡ j.program
   pub map : s.map ≡ j.linked.map

@@ -7,7 +7,7 @@ ghost use Rattle.p4_printer.specs.CanSpell.{CanSpell};
 ghost use Rattle.tele_layout.specs.Layouts.{IsLayoutOf};
 ghost use Rattle.path_runner.specs.Views.{is_given_up, state_of};
 ghost use Rattle.linked_starts.specs.Starts.{found_row};
-ghost use Rattle.program_linker.specs.Linked.{AreLinked};
+ghost use Rattle.program_linker.specs.Simpler.{AreSimplyLinked};
 ghost use Rattle.linked_jobs.specs.Job.{IsReady};
 ghost use Rattle.linked_jobs.specs.Run as run;
 ghost use Rattle.linked_jobs.specs.Views.{AreThese, job_of, programs_in, rows_in};
@@ -16,18 +16,17 @@ ghost use Rattle.linked_net.specs.First.{IsFirst};
 
 use crate::machines::net_before;
 use crate::tables::loaded_switches;
-use carried_entries::entries_have_places;
 use control_tables::ControlMap;
 use event_room::jobs_have_room;
 use indus_types::TypedProperty;
 use linked_jobs::LinkedJob;
-use linked_starts::linked_can_be_loaded;
 use network_file::Event;
 use p4_machine::Pass;
 use p4_types::TypedProgram;
 use path_runner::Net;
 use program_linker::Linked;
 use run_captures::Time;
+use simplified_links::simply_linked_can_be_loaded;
 use std::alloc::{AllocError, Global};
 use switch_benches::Bench;
 use tele_layout::Layout;
@@ -62,7 +61,7 @@ pub fn start<B: Bench>(
     job: LinkedJob,
 ) -> Result<Started<B::Unit>, AllocError>
     requires ready { IsReady (job_of job) }
-    requires linked { AreLinked (program_of job.program) (property_of job.property) job.network
+    requires linked { AreSimplyLinked (program_of job.program) (property_of job.property) job.network
         (programs_in job.linked) (map found_row (rows_in job.linked)) }
     requires spelled { All (λ t. CanSpell (program_of t)) job.linked.programs.items }
     requires layout { IsLayoutOf (property_of job.property) job.linked.layout }
@@ -70,8 +69,7 @@ pub fn start<B: Bench>(
     ensures given_up { IfOk result (λ s. is_given_up s.net ≡ false) }
     ensures rest { IfOk result (IsHandedOn job) }
 {
-    entries_have_places();
-    linked_can_be_loaded();
+    simply_linked_can_be_loaded();
     jobs_have_room();
     let LinkedJob {
         property,

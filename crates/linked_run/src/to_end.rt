@@ -8,7 +8,7 @@ ghost use Rattle.path_runner.specs.Nets.{IsSame, RunsTo, tables_of};
 ghost use Rattle.path_runner.specs.Views.{state_of};
 ghost use Rattle.forward_texts.specs.Switches.{log_view};
 ghost use Rattle.run_output.specs.Views.{parts_view};
-ghost use Rattle.linked_jobs.specs.Views.{IsLinkedJob, job_of};
+ghost use Rattle.linked_jobs.specs.Views.{IsSimplerJob, job_of};
 ghost use Rattle.linked_run.specs.Happening.{CanHappen};
 ghost use Rattle.linked_run.specs.Finished.{IsFinished};
 ghost use Rattle.linked_run.specs.Views.{parts_in};
@@ -62,7 +62,7 @@ pub(crate) fn run_to_end<B: Bench>(
     bench: &mut B,
     job: LinkedJob,
 ) -> Result<Finished<B::Unit>, AllocError>
-    requires { IsLinkedJob job }
+    requires { IsSimplerJob job }
     ensures finished { IfOk result (λ f. IsFinished (job_of job) (parts_in f) (log_view B.Unit.program B.Unit.tables B.Unit.cells f.log)) }
     ensures spelled { IfOk result (λ f. All (λ t. CanSpell (program_of t)) f.programs.items) }
 {

@@ -3,4 +3,5 @@ pub mod Fits
 pub mod Moved
 pub mod Worlds
 pub mod Mapped
+pub mod Simpler
 pub mod Claims

@@ -23,6 +23,7 @@ use Rattle.linkage.proofs.MovedLinkages.{moved}
 use Rattle.switch_machines.specs.Programs.{Controls, machine_with}
 use Rattle.monitor_laws.specs.Monitor.{telemetry_of}
 use Rattle.linked_halves.specs.Given.{registers_of}
+use Rattle.tree_linkage.specs.Trees.{linked_trees}
 use Rattle.whole_properties.specs.Whole as whole
 use Rattle.whole_properties.specs.Whole.{Given, lower_monitor}
 use Rattle.whole_properties.specs.Asked.{IsGiven}
@@ -30,7 +31,7 @@ use Rattle.control_maps.specs.Maps.{Lookup, map_controls}
 use Rattle.control_maps.specs.Numbers.{Numbered, named_in}
 use Rattle.path_runner.specs.Nets.{lookups_of}
 use Rattle.loaded_tables.specs.Rows.{Row, numbered_rows}
-use Rattle.linked_properties.specs.Linked.{given_in}
+use Rattle.linked_properties.specs.Linked.{given_in, trees_in}
 use Rattle.linked_properties.proofs.Linked.{faultless_is_given}
 use Rattle.linked_starts.specs.Starts.{found_row}
 use Rattle.linked_starts.proofs.Loaded.{rows_are_map}
@@ -42,7 +43,6 @@ use Rattle.read_contents.specs.Fits.{FitsVariable}
 use Rattle.linked_jobs.specs.Job.{Job, IsReady}
 use Rattle.linked_jobs.specs.Run.{Linked, programs_of, maps_of, controls_of, linked_programs, linked_machine}
 use Rattle.run_headline.specs.Worlds.{IsVariable, alone_machine}
-use Rattle.run_headline.specs.Law.{linked_of}
 use Rattle.run_headline.proofs.Fits.{named_is_numbered, numbered_is_named, fits_linkage, fits_map}
 use Rattle.run_headline.proofs.Moved.{fewer_worlds}
 
@@ -58,6 +58,28 @@ get_map f [] s none x e = absurd (cc e)
 get_map f (y ∷ ys) zero none x e = ap f (let same : y ≡ x = cc e in same)
 get_map f (y ∷ ys) (suc s) none x e = get_map f ys s none x e
 
+-- ---- the program and the map of a switch
+
+module _ (j : Job) (l : Linked) (s : ℕ) (lt : s < length j.network.names) where
+  program_at : slice_get (programs_of j l) s ≡ Some (l.programs s)
+  program_at = at_number l.programs 0 (length j.network.names) s lt ∙ ap (λ (n : ℕ). Some (l.programs n)) (omega arith)
+
+  map_at : get_or (maps_of j l) s [] ≡ numbered_rows (l.programs s) j.property.decls l.rows
+  map_at = get_map (λ (p : Program). numbered_rows p j.property.decls l.rows) (programs_of j l) s [] (l.programs s) program_at
+
+  pub controls_at : controls_of j l s ≡ map_controls (map (named_in (parts_of (l.programs s))) (numbered_rows (l.programs s) j.property.decls l.rows))
+  controls_at = ap (λ (ls : List Lookup). map_controls ls) (ap₂ (λ (o : Option Program) (ns : List Numbered). lookups_of o ns) program_at map_at)
+
+-- a linker's programs, at each switch, and its rows
+abbrev pub linked_of : (j : Job) (programs : List Program) (rows : List Row) → AreLinked j.program j.property j.network programs (map found_row rows) → Linked
+linked_of j programs rows are =
+    record {
+      programs =
+          linked_trees (trees_in j.property j.program are.controls) (lower_monitor (given_in j.property j.program are.controls)) j.program
+          (wiring_of j.network);
+      rows = rows;
+    }
+
 module _ (exact : ReachesIsExact) (j : Job) (ready : IsReady j) (programs : List Program) (rows : List Row) (are : AreLinked j.program j.property j.network programs (map found_row rows)) where
   abbrev l : Linked
   l = linked_of j programs rows are
@@ -68,26 +90,19 @@ module _ (exact : ReachesIsExact) (j : Job) (ready : IsReady j) (programs : List
   abbrev net : Wiring
   net = wiring_of j.network
 
-  given : IsGiven g
+  pub given : IsGiven g
   given = faultless_is_given j.property j.program j.room ready.linkable are.controls
 
   -- ---- the map of a switch
 
-  program_at : (s : ℕ) → s < length j.network.names → slice_get (programs_of j l) s ≡ Some (l.programs s)
-  program_at s lt = at_number l.programs 0 (length j.network.names) s lt ∙ ap (λ (n : ℕ). Some (l.programs n)) (omega arith)
-
-  map_at : (s : ℕ) → s < length j.network.names → get_or (maps_of j l) s [] ≡ numbered_rows (l.programs s) j.property.decls rows
-  map_at s lt = get_map (λ (p : Program). numbered_rows p j.property.decls rows) (programs_of j l) s [] (l.programs s) (program_at s lt)
-
-  same_controls : (s : ℕ) → s < length j.network.names → controls_of j l s ≡ map_controls (named_lookups g)
+  pub same_controls : (s : ℕ) → s < length j.network.names → controls_of j l s ≡ map_controls (named_lookups g)
   same_controls s lt =
       (let few = ready.few_switches in
       let small : s < 2 ^ 16 = omega (arith, lt, few) in
       let rows_of : map (named_in (parts_of (l.programs s))) (numbered_rows (l.programs s) j.property.decls rows) ≡ named_lookups g =
       ap (map (named_in (parts_of (l.programs s)))) (rows_are_map exact j.property j.program j.room ready.linkable are.controls net s small rows are.tables)
       ∙ numbers_are_lookups j.property j.program j.room ready.linkable are.controls net s in
-      ap (λ (ls : List Lookup). map_controls ls)
-      (ap₂ (λ (o : Option Program) (ns : List Numbered). lookups_of o ns) (program_at s lt) (map_at s lt) ∙ rows_of))
+      controls_at j l s lt ∙ ap (λ (ls : List Lookup). map_controls ls) rows_of)
 
   -- ---- the linkage
 
@@ -106,7 +121,7 @@ module _ (exact : ReachesIsExact) (j : Job) (ready : IsReady j) (programs : List
   abbrev Fits : (switch variable : ℕ) → Contents → Type 0
   Fits s = FitsVariable j.property.decls
 
-  all_fit : (c : ℕ → Contents) → ((v : ℕ) → IsVariable j.property v → FitsVariable j.property.decls v (c v)) → FitsMap g c
+  pub all_fit : (c : ℕ → Contents) → ((v : ℕ) → IsVariable j.property v → FitsVariable j.property.decls v (c v)) → FitsMap g c
   all_fit c h v x d found control is = fits_map g v (c v) (h v (named_is_numbered g v (x, d, found, control, is))) x d found control is
 
   map_moves : MovesTo net (λ s e. e) own (linked_machine j l) Any AnyQueued Fit (IsVariable j.property) Fits
@@ -127,7 +142,7 @@ module _ (exact : ReachesIsExact) (j : Job) (ready : IsReady j) (programs : List
         sets_good = λ s v a c lt k is fit. tt;
       }
 
-  plain_moves : MovesTo net (λ s e. e) (alone_machine j) (alone_machine j) Any AnyQueued Fit (IsVariable j.property) Fits
+  pub plain_moves : MovesTo net (λ s e. e) (alone_machine j) (alone_machine j) Any AnyQueued Fit (IsVariable j.property) Fits
   plain_moves =
       record {
         starts = λ s e c lt fit h. refl;

@@ -3,6 +3,7 @@
 -- network's run.
 use Rattle.std.specs.Prelude.{◌≡◌, ℕ, ◌+◌, ◌<◌, [], length, map, filter, not}
 use Rattle.p4_meaning.specs.Parts.{parts_of}
+use Rattle.p4_rules.specs.ProgramRules.{IsWellTyped}
 use Rattle.indus_tree.specs.State.{Held}
 use Rattle.network_run.specs.Network.{times, one_if}
 use Rattle.network_run.specs.PathMeaning.{rejects}
@@ -17,8 +18,9 @@ use Rattle.run_headline.specs.Worlds.{IsWorld, InEveryWorld}
 -- Every well-typed property that fits the header room is linked: there is a linked program for each switch, and which of its
 -- tables hold the contents of which control variables (`l`),
 pub record Claims (j : Job) (l : Linked) : Type 0 where
-  -- of the form of a linkage: well typed, and so on (`AreLinked` of program_linker),
+  -- of the form of a linkage: well typed, and so on (`AreSimplyLinked` of program_linker),
   pub form : IsLinked j l
+  pub typed : (s : ℕ) → s < length j.network.names → IsWellTyped (l.programs s)
   -- and for every network, table contents, list of packets and schedule (`InEveryWorld`; the job's world is one of these),
   pub world : IsWorld j (world_of j)
   -- the linked programs, which the texts spell,

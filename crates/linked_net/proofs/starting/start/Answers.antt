@@ -21,7 +21,7 @@ loaded_switches-requires g c =
     let job = c.args.job in
     let j = job_of job in
     rw (c.deref.ensures.value, c.deref-2.ensures.value, c.deref-3.ensures.value, c.deref-4.ensures.value, c.property.ensures.same)
-    (can_load_all j c.requires.ready (programs_in job.linked) (rows_in job.linked) c.requires.linked c.linked_can_be_loaded.ensures c.entries_have_places.ensures c.jobs_have_room.ensures)
+    (can_load_all j c.requires.ready (programs_in job.linked) (rows_in job.linked) c.requires.linked c.simply_linked_can_be_loaded.ensures c.jobs_have_room.ensures)
 
 pub net_before-requires-clause-start : goal.net_before-requires-clause-start
 net_before-requires-clause-start g c =

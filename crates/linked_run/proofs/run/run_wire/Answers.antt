@@ -6,6 +6,7 @@ use Rattle.forward_texts.specs.Switches.{log_view}
 use Rattle.run_output.specs.Ends.{IsEnd}
 use Rattle.run_output.specs.Wire.{IsWire}
 use Rattle.run_output.specs.Views.{parts_view}
+use Rattle.linked_jobs.specs.Job.{Job}
 use Rattle.linked_jobs.specs.Views.{job_of}
 use Rattle.linked_run.specs.Headline.{WireHeadline}
 use Rattle.linked_run.specs.Views.{parts_in}
@@ -22,9 +23,9 @@ wire_output_of-requires-clause-spelled g c = subst (λ ts. All (λ t. CanSpell (
 
 pub returns : goal.returns
 returns g c =
-    let j = job_of c.args.job in
+    let j = job_of c.in_ok-job.job in
     let x = parts_view c.parts-parts.result in
     let s = log_view g.B.Unit.Pass.program g.B.Unit.Pass.tables g.B.Unit.Pass.cells c.in_ok-end.end.log in
     let out = c.args.out.now in
-    if_ok (λ o. IsWire out x s (out_of o)) (λ o. WireHeadline j out (out_of o)) c.wire_output_of.result
-    (λ o h. wire_headline j x (parts_in c.in_ok-end.end) s c.parts-parts.ensures.parts c.in_ok-end.ensures.finished out (out_of o) h) c.wire_output_of.ensures
+    if_ok (λ o. IsWire out x s (out_of o)) (λ o. WireHeadline (job_of c.args.job) out (out_of o)) c.wire_output_of.result
+    (λ o h. subst (λ (i : Job). WireHeadline i out (out_of o)) c.in_ok-job.ensures.same (wire_headline j x (parts_in c.in_ok-end.end) s c.parts-parts.ensures.parts c.in_ok-end.ensures.finished out (out_of o) h)) c.wire_output_of.ensures
