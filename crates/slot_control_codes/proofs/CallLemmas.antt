@@ -8,15 +8,7 @@ use Rattle.slot_terms.specs.Places.{Place, Places, Means}
 use Rattle.slot_terms.specs.Known.{is_known}
 use Rattle.slot_statements.proofs.TreeLemmas.{drop_one}
 use Rattle.slot_controls.specs.StepRuns.{MeanAll}
-use Rattle.slot_control_codes.specs.Known.{has_port, has_error, are_known}
-
--- an equation of a function of two arguments
-pub two : {A B C : Type 0} (f : A → B → C) {a x : A} {b y : B} → a ≡ x → b ≡ y → f a b ≡ f x y
-two f {a} {x} {b} {y} e g = ap (λ z. f z b) e ∙ ap (f x) g
-
--- the port has a place of its width
-pub port_known : (o : Option Place) (r : Place) → o ≡ Some r → r.width ≡ 9 → has_port o ≡ true
-port_known o r e nine = ap has_port e ∙ ap (λ w. nat_eq w 9) nine
+use Rattle.slot_control_codes.specs.Known.{has_error, are_known}
 
 -- the error of checksums has a place of one bit
 pub error_known : (o : Option Place) (r : Place) → o ≡ Some r → r.width ≡ 1 → has_error o ≡ true

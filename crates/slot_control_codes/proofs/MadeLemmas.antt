@@ -9,6 +9,7 @@ use Rattle.p4_meaning.specs.Actions.{Action, action_named}
 use Rattle.slot_statements.specs.Actions.{DoesCall}
 use Rattle.slot_statements.specs.Known.{is_known_call}
 use Rattle.slot_statements.specs.Codes.{Code, skip}
+use Rattle.slot_statements.proofs.TreeLemmas.{two}
 use Rattle.slot_controls.specs.Steps.{Step, Target, plain, branch, by_term, reads, writes, tells, verifies, updates}
 use Rattle.slot_controls.specs.Callees.{Callees, register_number, register_width}
 use Rattle.slot_controls.specs.StepRuns.{Applies, DoesAct, MeanAll}
@@ -16,7 +17,6 @@ use Rattle.slot_controls.proofs.RegisterLemmas.{reads_into, reads_nowhere, write
 use Rattle.slot_controls.proofs.SumLemmas.{tells_do, verifies_do, updates_do, updates_nowhere}
 use Rattle.slot_controls.proofs.ActLemmas.{idle_does, runs_none, runs_some, applies_none}
 use Rattle.slot_control_codes.specs.Found.{IsTargetOf, IsErrorSlot}
-use Rattle.slot_control_codes.proofs.CallLemmas.{two}
 
 pub read_made :
     (k : Callees) (m : Places) (x : List ℕ) (p : List (List ℕ)) (i : Expr) (t : Typed) (u : Target) (n : ℕ) (z : Step) → IsLaid m → is_assignable p ≡ true → IsTargetOf m p u → Means m i 128 t → n ≡ register_number k.registers x → z ≡ reads n u t.term

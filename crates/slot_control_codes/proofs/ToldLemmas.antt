@@ -1,11 +1,10 @@
 -- How many digests steps give.
-use Rattle.std.proofs.Common.{◌≡◌, ℕ, ◌+◌, ◌<◌, ◌≤◌, List, [], ◌∷◌, ◌++◌, length, get_or, map, drop, Bool, Option, Some, None, refl, sym, ap, ap₂, ◌∙◌, subst, arith}
+use Rattle.std.proofs.Common.{◌≡◌, ℕ, ◌+◌, ◌<◌, List, [], ◌∷◌, ◌++◌, length, get_or, drop, Bool, Option, Some, None, refl, ap, arith}
 use Rattle.std.specs.Prelude.{max}
-use Rattle.p4_tree.specs.Tree.{stmts_from}
 use Rattle.p4_tree.specs.View.{stmt_of, stmts_of}
 use Rattle.p4_tree.specs.declared.statement.Stmt as code_stmt
 use Rattle.p4_meaning.specs.DigestBound.{none_told, most_of_test, most_of_stmt, most_of}
-use Rattle.slot_controls.specs.Steps.{Test, Step, branch, steps_from, most_told, most_told_all}
+use Rattle.slot_controls.specs.Steps.{Step, steps_from, most_told, most_told_all}
 use Rattle.slot_statements.proofs.TreeLemmas.{drop_one}
 
 -- a step behind others

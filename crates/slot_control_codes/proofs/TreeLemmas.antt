@@ -3,24 +3,18 @@ use Rattle.std.proofs.Common.{◌≡◌, ℕ, ◌+◌, ◌-◌, ◌<◌, ◌≤�
 use Rattle.std.proofs.lemmas.List.{take_rest}
 use Rattle.std.specs.Option.{option_and_then}
 use Rattle.std.specs.Global.{Vec}
-use Rattle.p4_tree.specs.Tree.{Expr, num, flag, path, valid, applied, error_name, negation, inversion, opposite, binary, conditional, slice, cast, Arg, one, many, Stmt, call}
+use Rattle.p4_tree.specs.Tree.{Expr, num, flag, path, valid, applied, error_name, negation, inversion, opposite, binary, conditional, slice, cast, Arg, one, many}
 use Rattle.p4_meaning.specs.Statements.{idle, sum_of}
-use Rattle.p4_tree.specs.View.{arg_of, expr_of, stmt_of, stmts_of, stmt_layer}
+use Rattle.p4_tree.specs.View.{arg_of, expr_of, stmt_of, stmts_of}
 use Rattle.p4_tree.specs.declared.statement.Arg as code_arg
 use Rattle.p4_tree.specs.declared.statement.Arg.TheVariants as arg
 use Rattle.p4_tree.specs.declared.statement.Expr as code_expr
 use Rattle.p4_tree.specs.declared.statement.Stmt as code_stmt
-use Rattle.p4_tree.specs.declared.statement.Stmt.TheVariants as stmt
-use Rattle.p4_tree.specs.declared.statement.Stmt.TheOpen as layer
 use Rattle.slot_terms.specs.Places.{Places}
-use Rattle.slot_statements.proofs.TreeLemmas.{drop_one}
+use Rattle.slot_statements.proofs.TreeLemmas.{drop_one, two}
 use Rattle.slot_controls.specs.Callees.{Callees}
 use Rattle.slot_control_codes.specs.Acts.{sum_at, sum_behind}
 use Rattle.slot_control_codes.specs.Known.{steps_behind, steps_behind_all}
-use Rattle.slot_control_codes.proofs.CallLemmas.{two}
-
-pub stmt_of-Call : (p : ℕ) (callee : Vec (List ℕ)) (args : Vec code_arg.Arg) → stmt_of (stmt.Call p callee args) ≡ call p callee.items (map arg_of args.items)
-stmt_of-Call p callee args = ap stmt_of (sym (stmt.rolls-Call p callee args)) ∙ code_stmt.fold-roll-Stmt Stmt stmt_layer (layer.Call p callee args)
 
 -- one statement more has a step
 pub known_more :

@@ -9,18 +9,13 @@ use Rattle.p4_meaning.specs.Actions.{Action, action_named}
 use Rattle.p4_meaning.specs.Tables.{Table, table_named}
 use Rattle.slot_terms.specs.Places.{Place, Places, place_at, header_number}
 use Rattle.slot_terms.specs.Known.{is_known}
-use Rattle.slot_statements.specs.Known.{only_if, places_behind, is_known_call, is_known_target, are_known_keys}
+use Rattle.slot_statements.specs.Known.{has_port, only_if, places_behind, is_known_call, is_known_target, are_known_keys}
 use Rattle.slot_controls.specs.Callees.{Callees}
 use Rattle.slot_control_codes.specs.declared.statements.Asked as code_asked
 
 -- the table that a test applies, and whether it asks for a hit, as the code has them
 abbrev pub asked_of : code_asked.Asked → List ℕ × Bool
 asked_of a = (a.table.now, a.hit)
-
--- the port by which a packet leaves has a place of its width
-abbrev pub has_port : Option Place → Bool
-has_port None = false
-has_port (Some r) = nat_eq r.width 9
 
 -- the error of checksums has a place of one bit
 abbrev pub has_error : Option Place → Bool

@@ -10,25 +10,24 @@ ghost use Rattle.p4_meaning.specs.Tables as tables;
 ghost use Rattle.slot_terms.specs.Places as sight;
 ghost use Rattle.slot_terms.specs.Places.{IsLaid, places_of};
 ghost use Rattle.slot_terms.specs.declared.fault.Fault.TheVariants.{Unknown};
-ghost use Rattle.slot_terms.specs.Terms.{constant};
-ghost use Rattle.slot_statements.specs.Codes.{code_of, set, skip};
+ghost use Rattle.slot_statements.specs.Codes.{code_of, skip};
 ghost use Rattle.slot_controls.specs.Steps.{application_of, applies, makes, most_told, plain, slots_of, step_of};
 ghost use Rattle.slot_controls.specs.StepRuns.{DoesAct};
 ghost use Rattle.slot_control_codes.specs.Callees.{callees_of};
 ghost use Rattle.slot_control_codes.specs.Acts.{act_in};
-ghost use Rattle.slot_control_codes.specs.Known.{can_apply, can_run, has_act, has_port, has_slots};
+ghost use Rattle.slot_statements.specs.Known.{has_port};
+ghost use Rattle.slot_control_codes.specs.Known.{can_apply, can_run, has_act, has_slots};
 
 use crate::callees::{Callees, application};
 use crate::calls::Act;
 use crate::externs::{read_step, tell_step, write_step};
 use crate::sums::{update_step, verify_step};
 use lex_text::Name;
-use p4_packets::standard_path;
 use p4_parts::action_named;
 use p4_tree::{Arg, Expr};
 use slot_controls::{Application, HeaderSlots, Step};
-use slot_statements::{Code, call_code};
-use slot_terms::{Fault, Places, Term, header_number, place_at};
+use slot_statements::{Code, call_code, drop_code};
+use slot_terms::{Fault, Places, header_number};
 use std::alloc::{AllocError, Global};
 
 /// Code as a step.
@@ -127,13 +126,6 @@ fn table_step(alloc: Global, places: &Places, k: &Callees<'_>, x: &str) -> Resul
     }
 }
 
-/// The code that makes the port 511, by which no packet leaves.
-fn port_code(slot: u32, header: Option<u32>) -> Code
-    ensures { code_of result ≡ set slot header (constant 511) }
-{
-    Code::Set(slot, header, Term::Word(511))
-}
-
 /// The step of mark_to_drop.
 fn drop_step(alloc: Global, places: &Places, k: &Callees<'_>) -> Result<Step, Fault>
     requires { IsLaid (places_of places.now) }
@@ -142,17 +134,8 @@ fn drop_step(alloc: Global, places: &Places, k: &Callees<'_>) -> Result<Step, Fa
     ensures told { IfOk result (λ c. most_told (step_of c) ≡ 0) }
     ensures blames { IfErr result (λ f. f ≡ Unknown → has_port (sight.place_at (places_of places.now).rows egress_spec) ≡ false) }
 {
-    let path = standard_path(alloc, "egress_spec")?;
-    match place_at(&places.rows, &path) {
-        None => Err(Fault::Unknown),
-        Some(row) => {
-            if row.width == 9 {
-                Ok(plain_step(port_code(row.slot, row.header)))
-            } else {
-                Err(Fault::Unknown)
-            }
-        }
-    }
+    let c = drop_code(alloc, places)?;
+    Ok(plain_step(c))
 }
 
 /// The step of setValid or setInvalid.

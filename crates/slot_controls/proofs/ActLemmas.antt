@@ -18,7 +18,7 @@ use Rattle.slot_statements.specs.Codes.{Code}
 use Rattle.slot_statements.specs.Runs as code_runs
 use Rattle.slot_statements.specs.Runs.{Ends}
 use Rattle.slot_statements.specs.Actions.{ActionCode, DoesCall}
-use Rattle.slot_statements.specs.Tables.{NumberedOutcome, DoesActionIf, Agrees, TestsEnd}
+use Rattle.slot_statements.specs.Tables.{NumberedOutcome, DoesActionIf, Agrees}
 use Rattle.slot_statements.proofs.TableLemmas.{applications_agree}
 use Rattle.slot_packets.specs.Validity.{with_validity}
 use Rattle.slot_packets.proofs.ValidityLemmas.{validity_follows}

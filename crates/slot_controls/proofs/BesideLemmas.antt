@@ -1,17 +1,19 @@
 -- What has code leaves registers and digests alone.
-use Rattle.std.proofs.Common.{◌≡◌, List, [], ◌∷◌, Bool, true, false, not, ◌&&◌, is_some, is_none, if◌then◌else◌, Option, Some, None, refl, sym, ap, ◌∙◌, subst}
+use Rattle.std.proofs.Common.{◌≡◌, List, Bool, true, false, ◌&&◌, is_some, is_none, if◌then◌else◌, Option, Some, None, refl, sym, ap, ◌∙◌, subst}
 use Rattle.std.specs.Option.{option_and_then}
 use Rattle.bit_values.specs.Bits.{Word}
 use Rattle.bit_values.specs.Widths.{holds}
-use Rattle.p4_tree.specs.Tree.{Expr, Stmt, Stmts, MaybeStmt, nothing, block, var, assign, choice, return_, exit_, call, done, next, without, otherwise}
+use Rattle.p4_tree.specs.Tree.{Stmt, Stmts, MaybeStmt, nothing, block, var, assign, choice, return_, exit_, call, done, next, without, otherwise}
+use Rattle.p4_meaning.specs.Standard.{egress_spec}
 use Rattle.p4_meaning.specs.Value.{value_of}
-use Rattle.p4_meaning.specs.Statements.{Flow, Go, Return, Exit, Run, Ended, Calls, after, application, tested_by, no_calls, in_store, meaning_of_stmt, meaning_of_else, meaning_of}
+use Rattle.p4_meaning.specs.Statements.{Flow, Go, Return, Exit, Run, Ended, Calls, after, application, tested_by, done_by, no_calls, in_store, meaning_of_stmt, meaning_of_else, meaning_of}
 use Rattle.p4_meaning.specs.Actions.{Action, bound, act}
-use Rattle.slot_terms.specs.Places.{Places}
+use Rattle.slot_terms.specs.Places.{Places, place_at}
 use Rattle.slot_terms.specs.Known.{is_known}
 use Rattle.slot_statements.specs.Parameters.{with_params}
-use Rattle.slot_statements.specs.Known.{is_known_test, only_if, places_behind, places_behind_all, has_else, has_action, are_free, have_code}
+use Rattle.slot_statements.specs.Known.{can_drop, has_port, is_drop, is_known_test, only_if, places_behind, places_behind_all, has_else, has_action, are_free, have_code}
 use Rattle.slot_statements.proofs.KnownLemmas.{and_first, and_second}
+use Rattle.slot_statements.proofs.DropLemmas.{drop_is}
 use Rattle.slot_controls.specs.StepRuns.{HoldsStill}
 
 pub still_same : (r : Run) → HoldsStill r r
@@ -61,7 +63,9 @@ module _ (calls : Calls) where
         (stmt_still a m (and_first (is_some (places_behind a m)) (has_else b m) rest) r) (else_still b m (and_second (is_some (places_behind a m)) (has_else b m) rest) r))
     stmt_still (return_ p) m e r = still_same r
     stmt_still (exit_ p) m e r = still_same r
-    stmt_still (call p callee args) m e r = absurd (cc e)
+    stmt_still (call p callee args) m e r =
+        let drop : is_drop callee ≡ true = and_first (is_drop callee) (has_port (place_at m.rows egress_spec)) (some_only (can_drop callee m) m e) in
+        subst (λ a. HoldsStill r (done_by calls a r).0) (sym (drop_is callee args drop)) (record { cells = refl; digests = refl })
 
     else_still : (st : MaybeStmt) (m : Places) → has_else st m ≡ true → (r : Run) → HoldsStill r (meaning_of_else calls st r).0
     else_still without m e r = still_same r

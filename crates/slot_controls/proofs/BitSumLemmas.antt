@@ -3,7 +3,7 @@ use Rattle.std.proofs.Common.{◌≡◌, ℕ, ◌+◌, ◌-◌, ◌*◌, ◌/◌
 use Rattle.std.proofs.Math.Nat.{div-lt_iff_lt-mul, mod-eq_of_lt}
 use Rattle.std.proofs.lemmas.Nat.{pow-add, pow_pos}
 use Rattle.bit_values.specs.Bits.{cast, concat, shr}
-use Rattle.bit_values.specs.BitLists.{number_bits, number_of}
+use Rattle.bit_values.specs.BitLists.{number_bits}
 use Rattle.bit_values.proofs.BitsLemmas.{bit_at-cast_low}
 use Rattle.bit_values.proofs.BitListsLemmas.{number_of-number_bits, number_bits-concat, number_bits-parts, number_bits_same, length-number_bits}
 use Rattle.bit_writer.specs.Bytes.{bytes_of}

@@ -3,7 +3,7 @@ use Rattle.std.proofs.Common.{◌≡◌, ℕ, zero, suc, ◌<◌, ◌≤◌, len
 use Rattle.std.proofs.lemmas.Bool.{cases_lt}
 use Rattle.std.proofs.lemmas.List.{set_past}
 use Rattle.std.specs.Prelude.{slice_set}
-use Rattle.bit_values.specs.Bits.{Word, word}
+use Rattle.bit_values.specs.Bits.{Word}
 use Rattle.bit_values.specs.Widths.{sound_width, cast_word}
 use Rattle.lex_text.specs.Names.{same_text}
 use Rattle.p4_tree.specs.Tree.{Expr}
@@ -23,7 +23,7 @@ use Rattle.slot_terms.proofs.PlaceLemmas.{sound_wide, sound_narrow}
 use Rattle.slot_statements.specs.Codes as codes
 use Rattle.slot_statements.specs.Tables.{key_word}
 use Rattle.slot_statements.proofs.StoreLemmas.{sound_is}
-use Rattle.slot_controls.specs.Steps.{SlotRun, plain, reads, writes, numbered_cells, stored, run}
+use Rattle.slot_controls.specs.Steps.{plain, reads, writes, numbered_cells, stored, run}
 use Rattle.slot_controls.specs.Callees.{Callees, AreWide, HaveWidth, named_cells, register_number, register_width}
 use Rattle.slot_controls.specs.StepRuns.{StepEnds, DoesAct, target_at}
 use Rattle.slot_controls.proofs.ActLemmas.{still_alike, nothing_ends}

@@ -1,9 +1,8 @@
 -- Digests and checksums.
 use Rattle.std.proofs.Common.{◌≡◌, ℕ, List, [], ◌∷◌, ◌++◌, map, take, Bool, true, false, if◌then◌else◌, nat_eq, Some, refl, sym, ap, ◌∙◌, subst, arith}
 use Rattle.std.specs.Prelude.{slice_set}
-use Rattle.bit_values.specs.Bits.{Word, word, IsWord}
+use Rattle.bit_values.specs.Bits.{word, IsWord}
 use Rattle.bit_values.specs.Widths.{holds}
-use Rattle.bit_writer.specs.Bytes.{words_bits, bytes_of}
 use Rattle.p4_tree.specs.Tree.{Expr, path}
 use Rattle.p4_meaning.specs.Standard.{checksum_error, is_assignable}
 use Rattle.p4_meaning.specs.Store.{Store, set_value}
@@ -18,7 +17,7 @@ use Rattle.slot_terms.specs.States.{State}
 use Rattle.slot_statements.specs.Codes as codes
 use Rattle.slot_statements.specs.Codes.{put}
 use Rattle.slot_statements.proofs.StoreLemmas.{set_follows}
-use Rattle.slot_controls.specs.Steps.{SlotRun, Step, plain, branch, by_term, tells, verifies, updates, in_state, stored, words_at, words_checksum, verified, run}
+use Rattle.slot_controls.specs.Steps.{SlotRun, plain, branch, by_term, tells, verifies, updates, in_state, stored, words_at, words_checksum, verified}
 use Rattle.slot_controls.specs.Callees.{Callees}
 use Rattle.slot_controls.specs.StepRuns.{HoldsAlike, StepEnds, DoesAct, MeanAll, target_at}
 use Rattle.slot_controls.proofs.ActLemmas.{still_alike, nothing_ends}

@@ -8,7 +8,6 @@ use Rattle.p4_meaning.specs.Tables.{Table, table_named, apply_if}
 use Rattle.slot_terms.specs.Terms.{constant}
 use Rattle.slot_terms.specs.Typed.{Typed, Gives}
 use Rattle.slot_terms.specs.Places.{Places, Means}
-use Rattle.slot_statements.specs.Tables.{TestsEnd}
 use Rattle.slot_controls.specs.Steps.{Application, by_term, by_table, is_asked, tested}
 use Rattle.slot_controls.specs.Callees.{Callees, table_number, calls_of}
 use Rattle.slot_controls.specs.StepRuns.{DoesTested, DoesTest, StepTestsEnd, IsApplication, Applies}

@@ -13,7 +13,7 @@ use Rattle.slot_terms.proofs.LaidLemmas.{added_or_old}
 use Rattle.slot_statements.specs.Runs.{Grows}
 use Rattle.slot_statements.specs.Starts.{IsNew}
 use Rattle.slot_statements.specs.Parameters.{with_row}
-use Rattle.slot_statements.specs.Known.{is_free, is_known_start, is_known_target, is_known_test, only_if, places_behind, places_behind_all, has_else}
+use Rattle.slot_statements.specs.Known.{can_drop, is_free, is_known_start, is_known_target, is_known_test, only_if, places_behind, places_behind_all, has_else}
 use Rattle.slot_statements.specs.Actions.{ActionCode, DoesAction, run_action}
 use Rattle.slot_statements.proofs.KnownLemmas.{free_name, and_second}
 use Rattle.slot_statements.proofs.FlowLemmas.{found_before, follows_before, grows_twice}
@@ -72,7 +72,7 @@ code_widens (assign p target v) m n e = kept_where (is_known_target m target v) 
 code_widens (choice p v a b) m n e = kept_where (is_known_test m v && (is_some (places_behind a m) && has_else b m)) m n e
 code_widens (return_ p) m n e = kept_where true m n e
 code_widens (exit_ p) m n e = kept_where true m n e
-code_widens (call p callee args) m n e = absurd (cc e)
+code_widens (call p callee args) m n e = kept_where (can_drop callee m) m n e
 
 -- ---- as many places are the same places
 

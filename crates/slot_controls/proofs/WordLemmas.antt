@@ -8,7 +8,7 @@ use Rattle.p4_tree.specs.Tree.{Expr}
 use Rattle.p4_meaning.specs.Standard.{is_assignable}
 use Rattle.p4_meaning.specs.Store.{Store, written, write}
 use Rattle.p4_meaning.specs.Value.{value_of}
-use Rattle.p4_meaning.specs.Statements.{Run, assigned}
+use Rattle.p4_meaning.specs.Statements.{assigned}
 use Rattle.slot_terms.specs.Terms.{number_in, eval}
 use Rattle.slot_terms.specs.Typed.{Typed, Gives, mask_of}
 use Rattle.slot_terms.specs.Places.{Place, Places, place_at, ShowsPlace, Follows, IsLaid, Means, header_at}
@@ -17,7 +17,7 @@ use Rattle.slot_terms.proofs.MaskedLemmas.{masked, cut_word}
 use Rattle.slot_statements.specs.Codes.{writes, put}
 use Rattle.slot_statements.specs.Tables.{key_word}
 use Rattle.slot_statements.proofs.StoreLemmas.{written_writable, written_fixed, sound_is, set_follows}
-use Rattle.slot_controls.specs.Steps.{Target, stored, words_at}
+use Rattle.slot_controls.specs.Steps.{stored, words_at}
 use Rattle.slot_controls.specs.StepRuns.{MeanAll, target_at}
 
 -- ---- writes

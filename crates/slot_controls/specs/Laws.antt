@@ -1,14 +1,14 @@
 -- That each step does what a statement means, by what its parts do. Read `StepRuns` before it.
 use Rattle.std.specs.Prelude.{◌≡◌, ℕ, List, [], ◌∷◌, ◌++◌, Bool, true, false, Some, None, if◌then◌else◌, slice_get}
 use Rattle.p4_tree.specs.Tree.{Expr, path, Stmt, Stmts, MaybeStmt, block, choice, stmts_from}
-use Rattle.p4_meaning.specs.Standard.{egress_spec, checksum_error, is_assignable}
+use Rattle.p4_meaning.specs.Standard.{checksum_error, is_assignable}
 use Rattle.p4_meaning.specs.Statements as meaning
 use Rattle.p4_meaning.specs.Statements.{application}
 use Rattle.p4_meaning.specs.Actions.{Action, action_named}
 use Rattle.slot_terms.specs.Terms.{constant}
 use Rattle.slot_terms.specs.Typed.{Typed}
 use Rattle.slot_terms.specs.Places.{Place, Places, IsLaid, Means, place_at, header_number}
-use Rattle.slot_statements.specs.Codes.{Code, skip, set}
+use Rattle.slot_statements.specs.Codes.{Code, skip}
 use Rattle.slot_statements.specs.Runs as code_runs
 use Rattle.slot_statements.specs.Runs.{Grows}
 use Rattle.slot_statements.specs.Actions.{DoesCall}
@@ -37,9 +37,9 @@ abbrev pub ValidityDoes : Type 0
 ValidityDoes =
     (k : Callees) (m : Places) (p : List (List ℕ)) (n : ℕ) (h : HeaderSlots) (b : Bool) → IsLaid m → header_number m.headers p ≡ Some n → slice_get k.headers n ≡ Some h → DoesAct k m (makes n h b) (meaning.makes p b)
 
--- mark_to_drop, where the port has a place of 9 bits
+-- mark_to_drop
 abbrev pub DropsDo : Type 0
-DropsDo = (k : Callees) (m : Places) (r : Place) → IsLaid m → place_at m.rows egress_spec ≡ Some r → r.width ≡ 9 → DoesAct k m (plain (set r.slot r.header (constant 511))) meaning.drops
+DropsDo = (k : Callees) (m : Places) (c : Code) → code_runs.DoesDrop m c → DoesAct k m (plain c) meaning.drops
 
 -- a register's read into a place, and into what no statement may write
 abbrev pub ReadsDo : Type 0

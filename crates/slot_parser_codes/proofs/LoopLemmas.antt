@@ -1,15 +1,9 @@
 -- Loops over lists, and the widths of keys.
 use Rattle.std.proofs.Common.{◌≡◌, ℕ, zero, suc, ◌+◌, ◌<◌, ◌≤◌, List, [], ◌∷◌, ◌++◌, map, length, take, drop, get_or, Bool, true, false, ◌&&◌, refl, sym, ap, ◌∙◌, subst, arith}
 use Rattle.std.proofs.lemmas.List.{map-append}
-use Rattle.std.specs.Global.{Vec}
 use Rattle.std.specs.Prelude.{Result, Ok, Err, IfOk}
 use Rattle.p4_tree.specs.Tree as tree
-use Rattle.p4_tree.specs.Tree.{Expr, Stmt, assign, call, ParserState}
-use Rattle.p4_tree.specs.View.{arg_of, stmt_of, stmt_layer}
-use Rattle.p4_tree.specs.declared.statement.Arg as code_arg
-use Rattle.p4_tree.specs.declared.statement.Stmt as code_stmt
-use Rattle.p4_tree.specs.declared.statement.Stmt.TheVariants as stmt
-use Rattle.p4_tree.specs.declared.statement.Stmt.TheOpen as layer
+use Rattle.p4_tree.specs.Tree.{Expr, Stmt, assign, ParserState}
 use Rattle.p4_meaning.specs.Parsing.{Header}
 use Rattle.slot_terms.specs.Typed.{Typed, typed_of}
 use Rattle.slot_terms.specs.Places.{Places, Means}
@@ -82,9 +76,6 @@ states_more m heads hs all [] (y ∷ sts) c st are one = absurd are
 states_more m heads hs all (x ∷ cs) (y ∷ sts) c st are one = (are.0, states_more m heads hs all cs sts c st are.1 one)
 
 -- ---- statements
-
-pub stmt_of-Call : (p : ℕ) (callee : Vec (List ℕ)) (args : Vec code_arg.Arg) → stmt_of (stmt.Call p callee args) ≡ call p callee.items (map arg_of args.items)
-stmt_of-Call p callee args = ap stmt_of (sym (stmt.rolls-Call p callee args)) ∙ code_stmt.fold-roll-Stmt Stmt stmt_layer (layer.Call p callee args)
 
 pub step_assigns :
     (m : Places) (heads : List HeaderSlots) (hs : List Header) (made : Result code_step.Step Fault) (p : ℕ) (names : List (List ℕ)) (e : Expr) (st : Stmt) → st ≡ assign p names e → IfOk made (λ c. DoesAssign m (step_of c) names e)

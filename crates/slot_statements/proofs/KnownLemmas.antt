@@ -3,7 +3,6 @@ use Rattle.std.proofs.Common.{◌≡◌, ℕ, suc, ◌<◌, ◌+◌, length, dro
 use Rattle.std.proofs.lemmas.Bool.Decides.{nat_tests}
 use Rattle.std.specs.Option.{option_and_then}
 use Rattle.bit_values.specs.Widths.{sound_width}
-use Rattle.p4_tree.specs.Tree.{Expr}
 use Rattle.p4_tree.specs.View.{expr_of, stmt_of, stmts_of}
 use Rattle.p4_tree.specs.declared.statement.Expr as code_expr
 use Rattle.p4_parts.specs.PartsIn.{key_in, param_in}

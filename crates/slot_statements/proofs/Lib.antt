@@ -1,6 +1,7 @@
 pub mod TreeLemmas
 pub mod StoreLemmas
 pub mod StatementLemmas
+pub mod DropLemmas
 pub mod VarLemmas
 pub mod FlowLemmas
 pub mod KnownLemmas

@@ -1,14 +1,15 @@
 -- Which statements have code, by the places in sight. Read `Runs` before it, and `Known` of `slot_terms`.
-use Rattle.std.specs.Prelude.{ℕ, nat_le, List, [], ◌∷◌, Bool, true, false, not, ◌&&◌, ◌||◌, is_some, is_none, Option, Some, None, if◌then◌else◌}
+use Rattle.std.specs.Prelude.{codes, ℕ, nat_eq, nat_le, List, [], ◌∷◌, Bool, true, false, not, ◌&&◌, ◌||◌, is_some, is_none, Option, Some, None, if◌then◌else◌}
 use Rattle.std.specs.Option.{option_and_then}
 use Rattle.bit_values.specs.Widths.{sound_width}
+use Rattle.lex_text.specs.Names.{same_text}
 use Rattle.p4_tree.specs.Tree.{Expr, Stmt, Stmts, MaybeStmt, nothing, block, var, assign, choice, return_, exit_, call, done, next, without, otherwise}
 use Rattle.p4_meaning.specs.Value.{width_of}
-use Rattle.p4_meaning.specs.Standard.{is_assignable}
+use Rattle.p4_meaning.specs.Standard.{egress_spec, is_assignable}
 use Rattle.p4_meaning.specs.Statements.{application}
 use Rattle.p4_meaning.specs.Actions.{Param, Action}
 use Rattle.p4_meaning.specs.Tables.{Key}
-use Rattle.slot_terms.specs.Places.{Places, place_at}
+use Rattle.slot_terms.specs.Places.{Place, Places, place_at}
 use Rattle.slot_terms.specs.Known.{is_known}
 use Rattle.slot_statements.specs.Parameters.{with_row, with_params}
 
@@ -37,12 +38,26 @@ is_known_target m p e = not (is_assignable p) || (is_some (place_at m.rows p) &&
 abbrev pub is_known_test : Places → Expr → Bool
 is_known_test m e = is_none (application e) && is_known m e
 
+-- the port by which a packet leaves has a place of its width
+abbrev pub has_port : Option Place → Bool
+has_port None = false
+has_port (Some r) = nat_eq r.width 9
+
+-- a call is mark_to_drop
+abbrev pub is_drop : (callee : List (List ℕ)) → Bool
+is_drop [] = false
+is_drop (x ∷ []) = same_text x (codes "mark_to_drop")
+is_drop (x ∷ y ∷ rest) = false
+
+abbrev pub can_drop : (callee : List (List ℕ)) → Places → Bool
+can_drop callee m = is_drop callee && has_port (place_at m.rows egress_spec)
+
 -- these places, where a test holds
 abbrev pub only_if : Bool → Places → Option Places
 only_if b m = if b then Some m else None
 
 abbrev mutual
-  -- the places in sight behind a statement that has code; a call has none here
+  -- the places in sight behind a statement that has code; of calls mark_to_drop alone has some here
   pub places_behind : Stmt → Places → Option Places
   places_behind (nothing p) m = Some m
   places_behind (block p ss) m = only_if (is_some (places_behind_all ss m)) m
@@ -51,7 +66,7 @@ abbrev mutual
   places_behind (choice p e a b) m = only_if (is_known_test m e && (is_some (places_behind a m) && has_else b m)) m
   places_behind (return_ p) m = Some m
   places_behind (exit_ p) m = Some m
-  places_behind (call p callee args) m = None
+  places_behind (call p callee args) m = only_if (can_drop callee m) m
 
   -- whether an `else`, where there is one, has code
   pub has_else : MaybeStmt → Places → Bool

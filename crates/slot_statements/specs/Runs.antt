@@ -1,8 +1,8 @@
 -- Code does what statements mean. Read `Codes` before it, `Places` of `slot_terms`, and `Statements` of the trees' meaning;
 -- `Actions` after it.
-use Rattle.std.specs.Prelude.{◌≡◌, take, length}
-use Rattle.p4_tree.specs.Tree.{Stmt, Stmts, MaybeStmt}
-use Rattle.p4_meaning.specs.Statements.{Flow, Go, Run, Calls, Ended, meaning_of_stmt, meaning_of, meaning_of_else}
+use Rattle.std.specs.Prelude.{◌≡◌, ℕ, List, take, length}
+use Rattle.p4_tree.specs.Tree.{Arg, Stmt, Stmts, MaybeStmt, call}
+use Rattle.p4_meaning.specs.Statements.{Flow, Go, Run, Calls, Ended, drops, done_by, meaning_of_stmt, meaning_of, meaning_of_else}
 use Rattle.slot_terms.specs.Places.{Places, Follows}
 use Rattle.slot_terms.specs.States.{State}
 use Rattle.slot_statements.specs.Codes.{Code, Codes, exec, exec_all}
@@ -16,6 +16,14 @@ pub record Ends (m n : Places) (x : State × Flow) (y : Ended) : Type 0 where
 -- over slots that follow the store of a run, code does what a statement means, whatever calls do
 abbrev pub Does : Places → Places → Code → Stmt → Type 0
 Does m n c st = (calls : Calls) (s : State) (r : Run) → Follows m s.slots s.valid r.store → Ends m n (exec c s) (meaning_of_stmt calls st r)
+
+-- the same of mark_to_drop
+abbrev pub DoesDrop : Places → Code → Type 0
+DoesDrop m c = (calls : Calls) (s : State) (r : Run) → Follows m s.slots s.valid r.store → Ends m m (exec c s) (done_by calls drops r)
+
+-- the same of a call by these names, whatever its arguments are
+abbrev pub DoesCallee : Places → Code → (callee : List (List ℕ)) → Type 0
+DoesCallee m c callee = (args : List Arg) → Does m m c (call 0 callee args)
 
 -- the same of an `else` that may be there
 abbrev pub DoesElse : Places → Code → MaybeStmt → Type 0

@@ -8,7 +8,7 @@
 //!
 //! Follows: P4_16 Language Specification and v1model, this project's subset. Statements may be any
 //! trees, also ill-typed ones; where a path has no place there is no code (`Fault::Unknown`). Of calls
-//! there is none yet but an action's or a table's, each by itself.
+//! mark_to_drop has code among statements, and an action's and a table's have some each by itself.
 //!
 //! What runs takes no memory. Nothing is promised of the speed of what makes code.
 #![tactic(auto)]
@@ -24,5 +24,5 @@ pub use actions::{ActionCode, action_code, run_action};
 pub use calls::call_code;
 pub use code::{Code, exec, exec_all};
 pub use p4_statements::Flow;
-pub use statements::{stmt_code, stmts_code};
+pub use statements::{drop_code, stmt_code, stmts_code};
 pub use tables::{NumberedOutcome, NumberedTables, apply_table, key_terms, put_keys};

@@ -6,22 +6,28 @@ ghost use Rattle.bit_values.specs.Widths.{sound_width};
 ghost use Rattle.p4_meaning.specs.Value.{width_of};
 ghost use Rattle.p4_tree.specs.View.{expr_of, stmt_of, else_of, stmts_of};
 ghost use Rattle.p4_tree.specs.Tree.{assign, block, var};
+ghost use Rattle.p4_meaning.specs.Standard.{egress_spec};
 ghost use Rattle.p4_meaning.specs.Statements.{application};
+ghost use Rattle.slot_terms.specs.Places as sight;
 ghost use Rattle.slot_terms.specs.Places.{IsLaid, places_of};
+ghost use Rattle.slot_terms.specs.Terms.{constant as constant_term};
 ghost use Rattle.slot_terms.specs.Typed.{typed_of};
 ghost use Rattle.slot_terms.specs.declared.fault.Fault.TheVariants.{Unknown};
 ghost use Rattle.slot_statements.specs.Codes.{code_of, codes_of, skip, set, branch, group};
-ghost use Rattle.slot_statements.specs.Runs.{Does, DoAll, DoesElse, Grows};
+ghost use Rattle.slot_statements.specs.Runs.{Does, DoAll, DoesCallee, DoesDrop, DoesElse, Grows};
 ghost use Rattle.slot_statements.specs.Starts.{Starts, IsNew};
-ghost use Rattle.slot_statements.specs.Known.{is_free, is_full, is_known_start, is_known_target, has_else, places_behind, places_behind_all};
+ghost use Rattle.slot_statements.specs.Known.{can_drop, has_port, is_drop, is_free, is_full, is_known_start, is_known_target, has_else, places_behind, places_behind_all};
 
 use crate::code::Code;
 use bit_values::sound_width;
 use lex_text::Name;
+use p4_packets::standard_path;
 use p4_parts::is_assignable;
 use p4_tree::{Expr, PTy, Stmt};
-use p4_values::{path_of_one, width_of};
-use slot_terms::{Fault, Places, Typed, add_place, constant, place_at, term_in_place, typed_term};
+use p4_values::{path_of_one, same_text, width_of};
+use slot_terms::{
+    Fault, Places, Term, Typed, add_place, constant, place_at, term_in_place, typed_term,
+};
 use std::alloc::{AllocError, Global};
 
 /// A test that applies no table; one that does is `Unknown`.
@@ -63,6 +69,61 @@ fn assign_code(alloc: Global, places: &Places, path: &[Name], e: &Expr) -> Resul
         }
     } else {
         Ok(Code::Skip)
+    }
+}
+
+/// The code that makes the port 511, by which no packet leaves.
+fn port_code(slot: u32, header: Option<u32>) -> Code
+    ensures { code_of result ≡ set slot header (constant_term 511) }
+{
+    Code::Set(slot, header, Term::Word(511))
+}
+
+/// The code of mark_to_drop. `Unknown` where the port has no place of 9 bits.
+pub fn drop_code(alloc: Global, places: &Places) -> Result<Code, Fault>
+    requires { IsLaid (places_of places.now) }
+    ensures known { OnOk result (has_port (sight.place_at (places_of places.now).rows egress_spec) ≡ true) }
+    ensures does { IfOk result (λ c. DoesDrop (places_of places.now) (code_of c)) }
+    ensures blames { IfErr result (λ f. f ≡ Unknown → has_port (sight.place_at (places_of places.now).rows egress_spec) ≡ false) }
+{
+    let path = standard_path(alloc, "egress_spec")?;
+    match place_at(&places.rows, &path) {
+        None => Err(Fault::Unknown),
+        Some(row) => {
+            if row.width == 9 {
+                Ok(port_code(row.slot, row.header))
+            } else {
+                Err(Fault::Unknown)
+            }
+        }
+    }
+}
+
+/// Whether a call is mark_to_drop.
+fn is_drop(callee: &[Name]) -> bool
+    ensures { result ≡ is_drop callee.now }
+{
+    match callee {
+        [] => false,
+        [x, rest @ ..] => match rest {
+            [] => same_text(x.as_str(), "mark_to_drop"),
+            [_, ..] => false,
+        },
+    }
+}
+
+/// The code of a call. `Unknown` for any but mark_to_drop, and where the port has no place of 9 bits.
+fn callee_code(alloc: Global, places: &Places, callee: &[Name]) -> Result<Code, Fault>
+    requires { IsLaid (places_of places.now) }
+    ensures known { OnOk result (can_drop callee.now (places_of places.now) ≡ true) }
+    ensures does { IfOk result (λ c. DoesCallee (places_of places.now) (code_of c) callee.now) }
+    ensures blames { IfErr result (λ f. f ≡ Unknown → can_drop callee.now (places_of places.now) ≡ false) }
+{
+    if is_drop(callee) {
+        let c = drop_code(alloc, places)?;
+        Ok(c)
+    } else {
+        Err(Fault::Unknown)
     }
 }
 
@@ -160,8 +221,9 @@ fn group_code(codes: Vec<Code>) -> Code
 }
 
 /// The code of a statement; behind it the places of what it declares are in sight. `Unknown` where a path
-/// has no place, where a variable's name has one or no slot is left, for a call, and for a test that
-/// applies a table. After an `Err` nothing is said of the places.
+/// has no place, where a variable's name has one or no slot is left, for a call of any but mark_to_drop, which
+/// wants a place of 9 bits of the port, and for a test that applies a table. After an `Err` nothing is said
+/// of the places.
 #[cycle(statements)]
 pub fn stmt_code(alloc: Global, places: &mut Places, s: &Stmt) -> Result<Code, Fault>
     requires { IsLaid (places_of places.old) }
@@ -194,7 +256,10 @@ pub fn stmt_code(alloc: Global, places: &mut Places, s: &Stmt) -> Result<Code, F
         }
         Stmt::Return(_) => Ok(Code::Return),
         Stmt::Exit(_) => Ok(Code::Exit),
-        Stmt::Call(_, _, _) => Err(Fault::Unknown),
+        Stmt::Call(_, callee, _) => {
+            let c = callee_code(alloc, places, callee)?;
+            Ok(c)
+        }
     }
 }
 

@@ -25,6 +25,7 @@ x 8 | a = x; x = 9; b = x; } | 8w7 => 7 9 513 171 99, go
 x 8 | a = x; return; a = 9; } | 8w7 => 7 64 513 171 99, go
 x 8 | a = x; exit; a = 9; } | 8w7 => 7 64 513 171 99, exit
 x 8 | bit<8> v = x; a = v; } | 8w7 => 7 64 513 171 99, go
+x 9 | standard_metadata.egress_spec = x; mark_to_drop(standard_metadata); c = (bit<16>) standard_metadata.egress_spec; } | 9w7 => 1 64 511 171 99, go
 a 8 | b = a; } | 8w7 => unknown
 x 8, x 8 | b = x; } | 8w7 8w8 => unknown
 x 8 | a = y; } | 8w7 => unknown

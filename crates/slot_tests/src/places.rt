@@ -1,7 +1,8 @@
-//! Five places, what their slots hold, and trees from texts.
+//! Six places, what their slots hold, and trees from texts.
 //!
 //! `a` and `b` have 8 bits and the slots 0 and 1, `c` has 16 bits and slot 2, and `h.f` and `g.f`, fields of
-//! two headers, have 8 bits and the slots 3 and 4. The header `h` is valid, and `g` is not.
+//! two headers, have 8 bits and the slots 3 and 4. The header `h` is valid, and `g` is not. The port by which a
+//! packet leaves has 9 bits and slot 5.
 
 ghost use Rattle.slot_terms.specs.Places.{IsLaid, places_of};
 
@@ -62,23 +63,31 @@ fn headers(rt: &impl Abort, alloc: Global) -> Vec<Vec<Name>> {
     all
 }
 
-/// The five places, and three slots that are free.
+/// The six places, and three slots that are free.
 pub fn places(rt: &impl Abort, alloc: Global) -> Places
     ensures { IsLaid (places_of result) }
 {
-    let mut places = no_places(alloc, headers(rt, alloc), 8);
+    let mut places = no_places(alloc, headers(rt, alloc), 9);
     add(rt, alloc, &mut places, "a", 8, None);
     add(rt, alloc, &mut places, "b", 8, None);
     add(rt, alloc, &mut places, "c", 16, None);
     add(rt, alloc, &mut places, "h.f", 8, Some(0));
     add(rt, alloc, &mut places, "g.f", 8, Some(1));
+    add(
+        rt,
+        alloc,
+        &mut places,
+        "standard_metadata.egress_spec",
+        9,
+        None,
+    );
     places
 }
 
 /// What the slots hold.
 pub fn state(rt: &impl Abort, alloc: Global) -> State {
     State {
-        slots: vec![in alloc; 1, 64, 513, 171, 99, 0, 0, 0].expect(rt, "memory"),
+        slots: vec![in alloc; 1, 64, 513, 171, 99, 0, 0, 0, 0].expect(rt, "memory"),
         valid: vec![in alloc; true, false].expect(rt, "memory"),
     }
 }

@@ -1,5 +1,4 @@
-use Rattle.std.proofs.Common.{◌≡◌, true, List, map, sym, ap, ◌∙◌, subst}
-use Rattle.p4_tree.specs.Tree.{Expr}
+use Rattle.std.proofs.Common.{◌≡◌, true, map, sym, ap, ◌∙◌, subst}
 use Rattle.p4_tree.specs.View.{arg_of, expr_of}
 use Rattle.p4_meaning.specs.Statements.{values_in}
 use Rattle.p4_parts.specs.PartsIn.{action_in}

@@ -1,25 +1,13 @@
-use Rattle.std.proofs.Common.{◌≡◌, map, sym, ap, ◌∙◌, subst}
-use Rattle.p4_meaning.specs.Standard.{egress_spec}
+use Rattle.std.proofs.Common.{sym, subst}
 use Rattle.p4_meaning.specs.Statements.{drops}
-use Rattle.slot_terms.specs.Places.{place_at, place_of, places_of}
-use Rattle.slot_controls.specs.Steps.{plain}
+use Rattle.slot_terms.specs.Places.{places_of}
+use Rattle.slot_statements.specs.Codes.{code_of}
 use Rattle.slot_controls.specs.StepRuns.{DoesAct}
 use Rattle.slot_controls.proofs.DropLemmas.{drops_does}
 use Rattle.slot_control_codes.specs.Callees.{callees_of}
-use Rattle.slot_control_codes.specs.Known.{has_port}
-use Rattle.slot_control_codes.proofs.CallLemmas.{two, port_known}
 use Rattle.slot_control_codes.proofs.acts.drop_step.Goals as goal
 
-pub returns-in-None-clause-blames : goal.returns-in-None-clause-blames
-returns-in-None-clause-blames c u = ap has_port (two place_at (ap (map place_of) (sym c.deref.ensures.value)) (sym (c.deref-2.ensures.value ∙ c.in_ok-path.ensures)) ∙ sym c.in-None.ensures)
-
-pub returns-then-row-eq9-clause-known : goal.returns-then-row-eq9-clause-known
-returns-then-row-eq9-clause-known c =
-    port_known (place_at (places_of c.args.places.now).rows egress_spec) (place_of c.in-Some.row.now)
-    (two place_at (ap (map place_of) (sym c.deref.ensures.value)) (sym (c.deref-2.ensures.value ∙ c.in_ok-path.ensures)) ∙ sym c.in-Some.ensures) c.if-row-eq9.true
-
-pub returns-then-row-eq9-clause-does : goal.returns-then-row-eq9-clause-does
-returns-then-row-eq9-clause-does c =
-    subst (λ z. DoesAct (callees_of c.args.k.now) (places_of c.args.places.now) z drops) (sym (c.plain_step.ensures ∙ ap plain c.port_code.ensures))
-    (drops_does (callees_of c.args.k.now) (places_of c.args.places.now) (place_of c.in-Some.row.now) c.requires
-    (two place_at (ap (map place_of) (sym c.deref.ensures.value)) (sym (c.deref-2.ensures.value ∙ c.in_ok-path.ensures)) ∙ sym c.in-Some.ensures) c.if-row-eq9.true)
+pub returns-clause-does : goal.returns-clause-does
+returns-clause-does c =
+    subst (λ z. DoesAct (callees_of c.args.k.now) (places_of c.args.places.now) z drops) (sym c.plain_step.ensures)
+    (drops_does (callees_of c.args.k.now) (places_of c.args.places.now) (code_of c.in_ok-c.c) c.in_ok-c.ensures.does)

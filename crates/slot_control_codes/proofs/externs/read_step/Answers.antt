@@ -1,4 +1,4 @@
-use Rattle.std.proofs.Common.{sym, ◌∙◌}
+use Rattle.std.proofs.Common.{sym}
 use Rattle.p4_tree.specs.View.{expr_of}
 use Rattle.slot_terms.specs.Places.{places_of}
 use Rattle.slot_terms.specs.Typed.{typed_of}

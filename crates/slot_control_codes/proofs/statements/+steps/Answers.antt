@@ -6,7 +6,7 @@ use Rattle.p4_meaning.specs.DigestBound.{none_told, most_of_stmt, most_of_else, 
 use Rattle.p4_meaning.specs.Statements.{application}
 use Rattle.slot_terms.specs.Places.{places_of}
 use Rattle.slot_statements.proofs.FlowLemmas.{grows_twice}
-use Rattle.slot_statements.proofs.TreeLemmas.{stmt_of-Block, stmt_of-If, one_more, all_of}
+use Rattle.slot_statements.proofs.TreeLemmas.{stmt_of-Block, stmt_of-If, one_more, all_of, stmt_of-Call}
 use Rattle.slot_controls.specs.Steps.{branch, step_of, steps_of, steps_from, test_of, most_told, most_told_all}
 use Rattle.slot_control_codes.specs.Callees.{callees_of}
 use Rattle.slot_controls.specs.StepRuns.{DoesStep, DoesStepElse, DoAllSteps}
@@ -14,7 +14,7 @@ use Rattle.slot_control_codes.specs.Known.{steps_behind_all}
 use Rattle.slot_controls.proofs.VariableLemmas.{widens_twice}
 use Rattle.slot_controls.proofs.FlowLemmas.{choice_does, block_does, branch_does, else_does, all_more}
 use Rattle.slot_control_codes.proofs.ToldLemmas.{told_more, branch_told}
-use Rattle.slot_control_codes.proofs.TreeLemmas.{known_more, stmt_of-Call}
+use Rattle.slot_control_codes.proofs.TreeLemmas.{known_more}
 use Rattle.slot_control_codes.proofs.statements.+steps.Goals as goal
 
 pub stmt_step-returns-in_ok-c-in-Block-clause-does : goal.stmt_step-returns-in_ok-c-in-Block-clause-does

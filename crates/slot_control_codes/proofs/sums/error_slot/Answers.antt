@@ -1,8 +1,9 @@
-use Rattle.std.proofs.Common.{◌≡◌, Some, map, refl, sym, ap, ◌∙◌}
+use Rattle.std.proofs.Common.{map, refl, sym, ap, ◌∙◌}
 use Rattle.p4_meaning.specs.Standard.{checksum_error}
 use Rattle.slot_terms.specs.Places.{place_at, place_of, places_of}
 use Rattle.slot_control_codes.specs.Known.{has_error}
-use Rattle.slot_control_codes.proofs.CallLemmas.{two, error_known, error_unknown}
+use Rattle.slot_statements.proofs.TreeLemmas.{two}
+use Rattle.slot_control_codes.proofs.CallLemmas.{error_known, error_unknown}
 use Rattle.slot_control_codes.proofs.sums.error_slot.Goals as goal
 
 pub returns-in-None-clause-blames : goal.returns-in-None-clause-blames

@@ -1,4 +1,4 @@
-use Rattle.std.proofs.Common.{◌≡◌, ◌<◌, ◌+◌, ◌-◌, ◌^◌, sym, subst, arith}
+use Rattle.std.proofs.Common.{◌≡◌, ◌<◌, ◌+◌, ◌-◌, ◌^◌, subst, arith}
 use Rattle.slot_controls.proofs.BitSumLemmas.{shr_below}
 use Rattle.slot_controls.proofs.sums.first_byte.Goals as goal
 

@@ -1,5 +1,4 @@
-use Rattle.std.proofs.Common.{◌≡◌, ◌<◌, ◌≤◌, ◌+◌, ◌^◌, sym, subst, arith}
-use Rattle.bit_values.specs.Bits.{concat}
+use Rattle.std.proofs.Common.{◌<◌, ◌+◌, ◌^◌, sym, subst, arith}
 use Rattle.bit_values.proofs.BitsLemmas.{concat-lt}
 use Rattle.bit_values.proofs.WideLemmas.{concat_wide}
 use Rattle.slot_controls.proofs.sums.joined.Goals as goal

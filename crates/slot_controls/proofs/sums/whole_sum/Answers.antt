@@ -1,4 +1,4 @@
-use Rattle.std.proofs.Common.{◌≡◌, ◌∙◌, ap}
+use Rattle.std.proofs.Common.{◌∙◌, ap}
 use Rattle.slot_controls.specs.Sums.{sum_behind}
 use Rattle.slot_controls.proofs.BitSumLemmas.{whole_more}
 use Rattle.slot_controls.proofs.sums.whole_sum.Goals as goal

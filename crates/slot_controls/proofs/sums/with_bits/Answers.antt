@@ -1,4 +1,4 @@
-use Rattle.std.proofs.Common.{◌≡◌, ◌+◌, ◌∙◌, ap, arith, ◌≤◌}
+use Rattle.std.proofs.Common.{◌≡◌, ◌+◌, ◌∙◌, ap, arith}
 use Rattle.slot_controls.specs.Sums.{sum_behind}
 use Rattle.slot_controls.proofs.BitSumLemmas.{bits_more}
 use Rattle.slot_controls.proofs.sums.with_bits.Goals as goal

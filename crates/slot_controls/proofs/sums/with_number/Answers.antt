@@ -1,4 +1,4 @@
-use Rattle.std.proofs.Common.{◌≡◌, ◌<◌, ◌≤◌, ◌+◌, ◌-◌, ◌%◌, ◌^◌, ℕ, List, [], ◌++◌, bit_and, sym, ap, ◌∙◌, subst, arith}
+use Rattle.std.proofs.Common.{◌≡◌, ◌<◌, ◌+◌, ◌-◌, ◌^◌, ℕ, ◌++◌, bit_and, sym, ap, ◌∙◌, subst, arith}
 use Rattle.bit_values.specs.Bits.{cast, shr}
 use Rattle.bit_values.specs.BitLists.{number_bits}
 use Rattle.bit_values.proofs.BitsLemmas.{cast-lt}

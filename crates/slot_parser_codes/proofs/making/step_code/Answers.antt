@@ -3,12 +3,12 @@ use Rattle.p4_tree.specs.Tree.{call}
 use Rattle.p4_tree.specs.View.{arg_of, expr_of, stmt_of}
 use Rattle.p4_parts.specs.PartsIn.{parts_in}
 use Rattle.slot_terms.specs.Places.{places_of}
-use Rattle.slot_statements.proofs.TreeLemmas.{stmt_of-Assign}
+use Rattle.slot_statements.proofs.TreeLemmas.{stmt_of-Assign, stmt_of-Call}
 use Rattle.slot_parsers.specs.Code.{step_of}
 use Rattle.slot_parsers.specs.Parses.{DoesStep, heads_of}
 use Rattle.slot_parsers.specs.Extracts.{call_of}
 use Rattle.slot_parsers.proofs.MakingLemmas.{call_does}
-use Rattle.slot_parser_codes.proofs.LoopLemmas.{stmt_of-Call, step_assigns}
+use Rattle.slot_parser_codes.proofs.LoopLemmas.{step_assigns}
 use Rattle.slot_parser_codes.proofs.making.step_code.Goals as goal
 
 pub returns-in-Assign-clause-does : goal.returns-in-Assign-clause-does

@@ -1,6 +1,6 @@
 use Rattle.std.proofs.Common.{sym, subst, ap, ◌∙◌, ◌+◌, ◌++◌, ◌∷◌, [], map, take}
 use Rattle.p4_tree.specs.Tree.{block, stmts_from}
-use Rattle.p4_tree.specs.View.{expr_of, stmt_of, stmts_of, else_of}
+use Rattle.p4_tree.specs.View.{arg_of, expr_of, stmt_of, stmts_of, else_of}
 use Rattle.slot_terms.specs.Typed.{typed_of}
 use Rattle.slot_terms.specs.Places.{places_of}
 use Rattle.slot_statements.specs.Codes.{branch, code_of, codes_from, codes_of}
@@ -8,7 +8,7 @@ use Rattle.slot_statements.specs.Runs.{Does, DoesElse, DoAll}
 use Rattle.slot_statements.proofs.FlowLemmas.{block_does, branch_does, else_does, choice_does, grows_twice, all_more}
 use Rattle.slot_statements.specs.Known.{places_behind_all}
 use Rattle.slot_statements.proofs.KnownLemmas.{known_more}
-use Rattle.slot_statements.proofs.TreeLemmas.{stmt_of-Block, stmt_of-Var, stmt_of-Assign, stmt_of-If, one_more, all_of}
+use Rattle.slot_statements.proofs.TreeLemmas.{stmt_of-Block, stmt_of-Var, stmt_of-Assign, stmt_of-If, stmt_of-Call, one_more, all_of}
 use Rattle.slot_statements.proofs.statements.+statements.Goals as goal
 
 pub stmt_code-returns-in_ok-c-in-Block-clause-does : goal.stmt_code-returns-in_ok-c-in-Block-clause-does
@@ -35,6 +35,11 @@ stmt_code-returns-in_ok-branch_code-in-If-clause-does t c =
     (choice_does (places_of c.args.places.now) c.in-If.field-0 (expr_of c.in-If.e) (typed_of c.in_ok-t-in-If.t) (code_of c.in_ok-a-in-If.a) (code_of c.in_ok-b-in-If.b) (stmt_of c.in-If.a.value) (else_of c.in-If.b)
     c.in_ok-plain_test-in-If.ensures.plain c.in_ok-t-in-If.ensures.means (rw c.deref-in-If.ensures at c.in_ok-a-in-If.ensures.does)
     (subst (λ m. DoesElse m (code_of c.in_ok-b-in-If.b) (else_of c.in-If.b)) c.in_ok-a-in-If.ensures.same c.in_ok-b-in-If.ensures.does))))
+
+pub stmt_code-returns-in_ok-c-in-Call-clause-does : goal.stmt_code-returns-in_ok-c-in-Call-clause-does
+stmt_code-returns-in_ok-c-in-Call-clause-does t c =
+    subst (λ x. Does (places_of c.args.places.now) (places_of c.args.places.now) (code_of c.in_ok-c-in-Call.c) x) (sym (ap stmt_of c.in-Call.is ∙ stmt_of-Call c.in-Call.field-0 c.in-Call.callee c.in-Call.field-2))
+    ((rw c.deref-in-Call.ensures.value at c.in_ok-c-in-Call.ensures.does) (map arg_of c.in-Call.field-2.items))
 
 pub in_block-returns-clause-does : goal.in_block-returns-clause-does
 in_block-returns-clause-does t c =
