@@ -7,8 +7,9 @@ pub mod Packets
 pub mod Maps
 pub mod Switches
 pub mod Views
--- What serves the proofs: where packets are, what holds of their places, what becomes of those that leave a switch, and
--- that maps being maps is a fact.
+-- What serves the proofs: which places a switch may take again, where packets are, what holds of their places, what
+-- becomes of those that leave a switch, and that maps being maps is a fact.
+pub mod Spares
 pub mod Places
 pub mod Sound
 pub mod Departures

@@ -26,7 +26,7 @@ pub(crate) fn stations<P: Pass + Drop>(
 {
     let mut stations = Vec::with_capacity(alloc, count as usize)?;
     for (switch, buf) in switches.into_iter().zip(bufs) {
-        stations.push(Station { switch, buf })?;
+        stations.push(Station::new(switch, buf))?;
     }
     Ok(stations)
 }
@@ -59,7 +59,7 @@ pub(crate) fn switches<P: Pass + Drop>(
 {
     let mut switches = Vec::new(alloc);
     for station in stations {
-        switches.push(station.switch)?;
+        switches.push(station.into_switch())?;
     }
     Ok(switches)
 }

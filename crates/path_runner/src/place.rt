@@ -15,15 +15,31 @@ pub(crate) struct Flight {
     pub passed: u8,
 }
 
+/// A place of a switch for a packet that waits, and for how many bytes of rest it has room.
+pub(crate) struct Seat<P: Pass + Drop> {
+    pub place: P::Place,
+    pub room: u32,
+    ghost sized: { (P.place place).room ≡ room },
+}
+
+impl<P: Pass + Drop> Drop for Seat<P> {
+    fn drop(self) {
+        let Seat {
+            place: _place,
+            room: _,
+        } = self;
+    }
+}
+
 /// A packet that waits between the halves of its passage of a switch, to which it came by a port.
 #[derive(Drop)]
 pub(crate) struct Parked<P: Pass + Drop> {
     pub switch: u16,
     pub port: u16,
-    pub queued: P::Place,
+    pub queued: Seat<P>,
     /// How many switches it has passed.
     pub passed: u8,
-    ghost full: { is_some_packet (P.place queued).waiting ≡ true },
+    ghost full: { is_some_packet (P.place queued.place).waiting ≡ true },
 }
 
 /// Where a packet is.
