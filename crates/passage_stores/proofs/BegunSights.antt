@@ -96,7 +96,7 @@ core_no_struct x =
     (if_no is_struct (same_text x (codes "update_checksum")) _ _ refl
     (if_no is_struct (same_text x (codes "HashAlgorithm")) _ _ refl refl))))))))
 
-core_no_header : (x : List ℕ) → is_header (thing_at (core_name x)) ≡ false
+pub core_no_header : (x : List ℕ) → is_header (thing_at (core_name x)) ≡ false
 core_no_header x =
     if_no is_header (same_text x (codes "standard_metadata_t")) _ _ refl
     (if_no is_header (same_text x (codes "packet_in")) _ _ refl
@@ -130,7 +130,7 @@ pub record IsEnd (p : Program) (S : Scope) : Type 0 where
   pub headers : (x : List ℕ) → is_header (thing_at (S (x ∷ []))) ≡ true → HeaderAt S p.tops x
   pub core : (x : List ℕ) (xs : List (List ℕ)) → is_missing (core_name x) ≡ false → S (x ∷ xs) ≡ core (x ∷ xs)
 
-core_is : (x : List ℕ) → core (x ∷ []) ≡ core_name x
+pub core_is : (x : List ℕ) → core (x ∷ []) ≡ core_name x
 unfolding core
 core_is x = refl
 
@@ -156,7 +156,7 @@ the_end p well names values =
 
 -- ---- parameters
 
-named_type : (t : PTy) (x : List ℕ) → is_named t x ≡ true → t ≡ type.Named x
+pub named_type : (t : PTy) (x : List ℕ) → is_named t x ≡ true → t ≡ type.Named x
 named_type (type.Bit w) x h = broken (sym h)
 named_type type.Bool x h = broken (sym h)
 named_type (type.Named y) x h = ap type.Named (text_is y x h)

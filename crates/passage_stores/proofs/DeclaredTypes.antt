@@ -139,7 +139,7 @@ no_scalar_header PacketOut h = broken h
 
 module _ (main : List (List ℕ)) where
   -- the declared name is another, or it stands for what was declared to the end
-  either_name : {A : Type 0} (s : Scope) (n : List ℕ) (w : What) (ts : List Top) → is_missing (s (n ∷ [])) ≡ true → is_missing (behind s w []) ≡ false → IsFine (tops_tests main (declare s n w) ts) → (x : List ℕ) → is_missing (s (x ∷ [])) ≡ true
+  pub either_name : {A : Type 0} (s : Scope) (n : List ℕ) (w : What) (ts : List Top) → is_missing (s (n ∷ [])) ≡ true → is_missing (behind s w []) ≡ false → IsFine (tops_tests main (declare s n w) ts) → (x : List ℕ) → is_missing (s (x ∷ [])) ≡ true
       → (n ≡ x → ((xs : List (List ℕ)) → after_tops (declare s n w) ts (x ∷ xs) ≡ behind s w xs) → A) → (same_text n x ≡ false → is_missing (declare s n w (x ∷ [])) ≡ true → A) → A
   either_name {A} s n w ts new some f x h this that = go (same_text n x) refl
     where
@@ -153,7 +153,7 @@ module _ (main : List (List ℕ)) where
       go false e = that e (ap is_missing (other_kept s n w x (λ q. (let c : true ≡ false = sym (text_same n x q) ∙ e in cc))) ∙ h)
 
   -- what is declared does not pass the test
-  skip : {A : Type 0} (fits : Thing → Bool) (s : Scope) (n : List ℕ) (w : What) (ts : List Top) → is_missing (s (n ∷ [])) ≡ true → is_missing (behind s w []) ≡ false → fits (thing_at (behind s w [])) ≡ false → IsFine (tops_tests main (declare s n w) ts) → (x : List ℕ) → is_missing (s (x ∷ [])) ≡ true
+  pub skip : {A : Type 0} (fits : Thing → Bool) (s : Scope) (n : List ℕ) (w : What) (ts : List Top) → is_missing (s (n ∷ [])) ≡ true → is_missing (behind s w []) ≡ false → fits (thing_at (behind s w [])) ≡ false → IsFine (tops_tests main (declare s n w) ts) → (x : List ℕ) → is_missing (s (x ∷ [])) ≡ true
       → fits (thing_at (after_tops (declare s n w) ts (x ∷ []))) ≡ true → (is_missing (declare s n w (x ∷ [])) ≡ true → A) → A
   skip fits s n w ts new some misfit f x h k more =
       either_name s n w ts new some f x h (λ e same. (let c : true ≡ false = sym k ∙ ap (λ (st : Stands). fits (thing_at st)) (same []) ∙ misfit in absurd (cc))) (λ e m. more m)
@@ -169,7 +169,7 @@ module _ (main : List (List ℕ)) where
       (λ e m. subst (λ (b : Bool). FieldsAt All (after_tops (declare s y (fields t fs)) ts) (cond b fs gs) x) (sym e) (more m))
 
   -- nothing is no type
-  none_fits : (fits : Thing → Bool) → fits (Scalar Unknown) ≡ false → (st : Stands) → is_missing st ≡ true → fits (thing_at st) ≡ true → ⊥
+  pub none_fits : (fits : Thing → Bool) → fits (Scalar Unknown) ≡ false → (st : Stands) → is_missing st ≡ true → fits (thing_at st) ≡ true → ⊥
   none_fits fits no_type missing i j = broken (sym j ∙ no_type)
   none_fits fits no_type (typed b t) i j = broken (sym i)
   none_fits fits no_type (held a t) i j = broken (sym i)

@@ -18,7 +18,7 @@ use Rattle.p4_declaration_rules.specs.Declarations.{has_twice}
 use Rattle.p4_declaration_rules.specs.Parsers.{with_ways, in_states, with_ends}
 use Rattle.p4_declaration_rules.specs.Controls.{part_in, after_tops, control_tests}
 use Rattle.p4_declaration_rules.proofs.FirstsLemmas.{all_first}
-use Rattle.p4_rules.specs.Mains.{names_parts, has_controls, Structs, structs_of, parser_wants, checksum_wants, apply_wants, wanted_tests, parser_params, control_params, parts_params, main_tests}
+use Rattle.p4_rules.specs.Mains.{names_parts, has_controls, Structs, structs_of, parser_wants, checksum_wants, apply_wants, deparser_wants, wanted_tests, parser_params, control_params, parts_params, main_tests}
 use Rattle.p4_rules.specs.ProgramRules.{IsWellTyped}
 use Rattle.p4_typing_laws.specs.Plain.{HavePlainNames, HavePlainValues}
 use Rattle.p4_typing_laws.specs.Stores.{Fits}
@@ -64,6 +64,7 @@ pub record AreParts (ts : List Top) (R : Structs) (at : ℕ) (main : List (List 
   pub ingress_wanted : IsFine (control_params at R apply_wants (control_named ts (named_in main 2)))
   pub egress_wanted : IsFine (control_params at R apply_wants (control_named ts (named_in main 3)))
   pub compute_wanted : IsFine (control_params at R checksum_wants (control_named ts (named_in main 4)))
+  pub deparser_wanted : IsFine (control_params at R deparser_wants (control_named ts (named_in main 5)))
 
 no_parts : (ts : List Top) (R : Structs) (at : ℕ) (main : List (List ℕ)) → false ≡ true → AreParts ts R at main
 no_parts ts R at main h = broken (sym h)
@@ -76,7 +77,7 @@ apart_first x y ys h = (let k = neither (same_text y x) (is_among ys x) h in (ot
 abbrev Chosen : (a b c g j : Bool) → Part
 Chosen a b c g j = cond a place.Verify (cond b place.Apply (cond c place.Apply (cond g place.Compute (cond j place.Deparser place.Other))))
 
-parts_are : (ts : List Top) (R : Structs) (at : ℕ) (main : List (List ℕ)) → names_parts ts main ≡ true → IsFine (parts_params at R ts main) → AreParts ts R at main
+pub parts_are : (ts : List Top) (R : Structs) (at : ℕ) (main : List (List ℕ)) → names_parts ts main ≡ true → IsFine (parts_params at R ts main) → AreParts ts R at main
 parts_are ts R at [] h f = no_parts ts R at [] h
 parts_are ts R at (d ∷ []) h f = no_parts ts R at (d ∷ []) h
 parts_are ts R at (d ∷ v ∷ []) h f = no_parts ts R at (d ∷ v ∷ []) h
@@ -110,6 +111,7 @@ parts_are ts R at (d ∷ v ∷ i ∷ e ∷ k ∷ m ∷ []) h f =
       ingress_wanted = f.1.1.0;
       egress_wanted = f.1.1.1.0;
       compute_wanted = f.1.1.1.1.0;
+      deparser_wanted = f.1.1.1.1.1;
     }
   where
     chosen : (a b c g j : Bool) → a ≡ true → Chosen a b c g j ≡ place.Verify

@@ -151,7 +151,7 @@ module _ (port len : ℕ) (s : Store) where
 
 -- ---- names that stand once
 
-struct_once : (main : List (List ℕ)) (ts : List Top) (s : Scope) → IsFine (tops_tests main s ts) → (x : List ℕ) → has_twice (field_names (struct_fields ts x)) ≡ false
+pub struct_once : (main : List (List ℕ)) (ts : List Top) (s : Scope) → IsFine (tops_tests main s ts) → (x : List ℕ) → has_twice (field_names (struct_fields ts x)) ≡ false
 struct_once main [] s f x = refl
 struct_once main (constant p t y e ∷ ts) s f x = struct_once main ts (after_top s (constant p t y e)) f.1 x
 struct_once main (typedef p t y ∷ ts) s f x = struct_once main ts (after_top s (typedef p t y)) f.1 x
@@ -165,7 +165,7 @@ struct_once main (register p r ∷ ts) s f x = struct_once main ts (after_top s 
 struct_once main (parser p d ∷ ts) s f x = struct_once main ts (after_top s (parser p d)) f.1 x
 struct_once main (control p c ∷ ts) s f x = struct_once main ts (after_top s (control p c)) f.1 x
 
-header_once : (main : List (List ℕ)) (ts : List Top) (s : Scope) → IsFine (tops_tests main s ts) → (x : List ℕ) → has_twice (field_names (header_fields ts x)) ≡ false
+pub header_once : (main : List (List ℕ)) (ts : List Top) (s : Scope) → IsFine (tops_tests main s ts) → (x : List ℕ) → has_twice (field_names (header_fields ts x)) ≡ false
 header_once main [] s f x = refl
 header_once main (constant p t y e ∷ ts) s f x = header_once main ts (after_top s (constant p t y e)) f.1 x
 header_once main (typedef p t y ∷ ts) s f x = header_once main ts (after_top s (typedef p t y)) f.1 x
