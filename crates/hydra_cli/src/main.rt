@@ -1,7 +1,7 @@
 //! Hydra: runtime verification of networks.
 //!
 //! `main` calls `hydra` of `commands` with the words of the command line, over the system's files and
-//! standard output, a bench of plain switches, and the three rules that simplify linked programs.
+//! standard output, a bench of switches over slots, and the three rules that simplify linked programs.
 //!
 //! Not promised: what the system's files and standard output hold.
 #![tactic(auto)]
@@ -14,12 +14,12 @@ use commands::hydra;
 use job_course::Status;
 use lex_text::Name;
 use outside::{RealSink, RealStore, Sink};
+use p4_slots::SlotBench;
 use p4_tree::Expr;
 use simplify_rules::{Rewrite, Rule, RuleSet, drop_neutral, fold_choice, fold_numbers};
 use std::alloc::{AllocError, Global};
 use std::process::ExitCode;
 use std::{env, io};
-use switch_benches::SwitchBench;
 
 fn main(rt: HostRuntime) -> ExitCode {
     let alloc = rt.alloc();
@@ -66,7 +66,7 @@ fn answer<K: Sink>(rt: &HostRuntime, out: &mut K, rules: &RuleSet) -> Status {
     match words(rt) {
         Ok(words) => {
             let mut store = RealStore::new(rt);
-            hydra(rt.alloc(), &words, &mut store, out, &mut SwitchBench, rules)
+            hydra(rt.alloc(), &words, &mut store, out, &mut SlotBench, rules)
         }
         Err(Status::BadWords) => {
             let _ = out.put(b"hydra: words\n");

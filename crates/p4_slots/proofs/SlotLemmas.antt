@@ -6,7 +6,7 @@ use Rattle.std.specs.Option.{option_map}
 use Rattle.bit_values.specs.Bits.{Word}
 use Rattle.p4_tree.specs.View.{program_of}
 use Rattle.p4_meaning.specs.Parts.{Parts, parts_of}
-use Rattle.p4_meaning.specs.Pass.{Registers, parts_leave, start_cells}
+use Rattle.p4_meaning.specs.Pass.{parts_leave, start_cells}
 use Rattle.p4_parts.specs.PartsIn.{parts_in}
 use Rattle.p4_statements.specs.Runs.{digest_of}
 use Rattle.p4_statements.specs.Cells.{cells_in}
@@ -30,7 +30,6 @@ use Rattle.slot_passages.specs.Room.{HasRoom}
 use Rattle.slot_passages.specs.Laws.{HasSize, Begins, EntersAlike, LeavesAlike, EntriesAgree, ExitsAgree}
 use Rattle.slot_passages.specs.declared.work.Work as code_work
 use Rattle.slot_programs.specs.Room.{room_of}
-use Rattle.slot_programs.specs.Chooses.{Chooses}
 use Rattle.slot_tables.specs.Choices.{TablesChoose, choices_in}
 use Rattle.p4_slots.specs.SlotPlaces.{places_for, queued_by}
 use Rattle.p4_slots.specs.Machines.{cells_by}

@@ -80,10 +80,29 @@ fn fits(c: &ProgramCode, header_bytes: u32, most: u32) -> Result<bool, AllocErro
     )
 }
 
-/// The code of a program, where it has one.
+/// How many paths, actions and tables a program may have that is made code of: what makes code looks at all
+/// of them for each name, so its time is bounded by this and by the length of the program's text.
+const MOST_NAMES: usize = 512;
+
+/// Whether a program has few paths, actions and tables.
+fn has_few_names(p: &Parts) -> bool {
+    let mut paths = p.metadata.len();
+    for header in &p.headers {
+        if paths > MOST_NAMES || header.fields.len() > MOST_NAMES {
+            return false;
+        }
+        paths += header.fields.len();
+    }
+    paths <= MOST_NAMES && p.actions.len() <= MOST_NAMES && p.tables.len() <= MOST_NAMES
+}
+
+/// The code of a program, where it has one, and few names.
 fn code_of(alloc: Global, p: &Parts) -> Result<Option<Coded>, AllocError>
     ensures { IfOk result (λ c. IfSome c (IsCoded (parts_in p.now))) }
 {
+    if !has_few_names(p) {
+        return Ok(None);
+    }
     match program_code(alloc, p) {
         Ok(coded) => Ok(Some(coded)),
         Err(Fault::Unknown) => Ok(None),

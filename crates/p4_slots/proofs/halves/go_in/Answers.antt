@@ -1,6 +1,4 @@
-use Rattle.std.proofs.Common.{sym, subst, length, arith, ap}
-use Rattle.slot_passages.specs.Room.{HasRoom}
-use Rattle.p4_slots.specs.Plans.{code_in}
+use Rattle.std.proofs.Common.{length, arith, ap}
 use Rattle.p4_slots.proofs.SlotLemmas.{entered_alike, has_room}
 use Rattle.p4_slots.proofs.halves.go_in.Goals as goal
 

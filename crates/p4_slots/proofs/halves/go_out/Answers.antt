@@ -1,7 +1,6 @@
 use Rattle.std.proofs.Common.{length, drop, arith, ap, ◌∙◌}
 use Rattle.slot_controls.specs.Steps.{slot_run}
 use Rattle.bit_values.specs.Bytes.{bits_of}
-use Rattle.p4_slots.specs.Plans.{code_in}
 use Rattle.p4_slots.proofs.SlotLemmas.{left_alike, has_room, going_is}
 use Rattle.p4_slots.proofs.halves.go_out.Goals as goal
 

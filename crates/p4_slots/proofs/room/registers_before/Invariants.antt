@@ -1,5 +1,4 @@
-use Rattle.std.proofs.Common.{◌≡◌, ◌++◌, map, take}
-use Rattle.p4_meaning.specs.Pass.{start_cells}
+use Rattle.std.proofs.Common.{◌≡◌, map, take}
 use Rattle.p4_parts.specs.PartsIn.{cells_decl}
 use Rattle.p4_slots.proofs.RegisterLemmas.{cells_from}
 use Rattle.p4_slots.proofs.room.registers_before.Given as goal

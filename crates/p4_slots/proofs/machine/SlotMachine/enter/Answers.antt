@@ -1,16 +1,12 @@
-use Rattle.std.proofs.Common.{◌≡◌, ◌++◌, ℕ, List, [], length, map, drop, Option, Some, None, sym, ap, ◌∙◌, subst, arith}
+use Rattle.std.proofs.Common.{◌≡◌, ◌++◌, List, length, map, Some, None, sym, ap, ◌∙◌, subst, arith}
 use Rattle.p4_tree.specs.View.{program_of}
 use Rattle.p4_tree.specs.declared.program.Program.{Program}
 use Rattle.p4_meaning.specs.Statements.{Digest}
-use Rattle.p4_meaning.specs.Parts.{parts_of}
 use Rattle.p4_machine.specs.Buffers.{IsMadeFor}
 use Rattle.p4_statements.specs.Runs.{digest_of}
 use Rattle.slot_terms.specs.States.{state_of}
 use Rattle.slot_controls.specs.Steps.{slot_run}
-use Rattle.slot_controls.specs.Callees.{AreWide}
 use Rattle.slot_passages.specs.Halves.{entered_of}
-use Rattle.slot_passages.specs.Laws.{HasSize}
-use Rattle.p4_slots.specs.SlotPlaces.{places_for}
 use Rattle.p4_slots.specs.Machines.{MachineState, machine_of, cells_by}
 use Rattle.p4_slots.specs.declared.plan.SlotPlan.{SlotPlan}
 use Rattle.p4_slots.proofs.SlotLemmas.{ready_after}

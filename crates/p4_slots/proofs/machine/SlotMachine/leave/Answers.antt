@@ -1,20 +1,20 @@
-use Rattle.std.proofs.Common.{◌≡◌, ◌++◌, ℕ, List, [], length, map, drop, Option, Some, None, refl, sym, ap, ◌∙◌, subst, arith}
+use Rattle.std.proofs.Common.{◌≡◌, ◌++◌, List, [], length, map, drop, Option, refl, sym, ap, ◌∙◌, subst, arith}
 use Rattle.bit_values.specs.Bytes.{bits_of}
 use Rattle.p4_tree.specs.View.{program_of}
 use Rattle.p4_tree.specs.declared.program.Program.{Program}
 use Rattle.p4_meaning.specs.Statements.{Digest}
 use Rattle.p4_meaning.specs.Pass.{Queued}
-use Rattle.p4_machine.specs.Passages.{Passage, exit_in, entry_in}
+use Rattle.p4_machine.specs.Passages.{exit_in}
 use Rattle.p4_machine.specs.Buffers.{IsMadeFor, goes_out}
 use Rattle.p4_statements.specs.Runs.{digest_of}
 use Rattle.slot_terms.specs.States.{state_of}
 use Rattle.slot_controls.specs.Steps.{slot_run}
-use Rattle.slot_passages.specs.Halves.{SlotLeft, entered_of}
+use Rattle.slot_passages.specs.Halves.{SlotLeft}
 use Rattle.p4_slots.specs.Machines.{MachineState, machine_of, cells_by, cells_of}
 use Rattle.p4_slots.specs.declared.plan.SlotPlan.{SlotPlan}
 use Rattle.p4_slots.proofs.SlotLemmas.{ready_after}
 use Rattle.p4_slots.proofs.PlaceLemmas.{size_along, size_back, stored_back}
-use Rattle.p4_slots.proofs.MachineLemmas.{lent_plan, lent_tables, lent_ready, left_by, waits, none_waits, cells_after, most_is, bytes_are, size_in, size_out, stored_in, wide_in, entered_by, entered_at, passage_is}
+use Rattle.p4_slots.proofs.MachineLemmas.{lent_plan, lent_tables, lent_ready, left_by, waits, none_waits, cells_after, most_is, bytes_are, size_in, size_out, stored_in}
 use Rattle.p4_slots.proofs.machine.SlotMachine.leave.Goals as goal
 
 pub release-requires-clause-size : goal.release-requires-clause-size

@@ -1,4 +1,4 @@
-use Rattle.std.proofs.Common.{◌≡◌, ◌++◌, ℕ, List, [], map, drop, ◌%◌, Option, Some, None, ap, ◌∙◌}
+use Rattle.std.proofs.Common.{◌≡◌, ◌++◌, ℕ, List, map, drop, ◌%◌, Option, Some, None, ap, ◌∙◌}
 use Rattle.bit_values.specs.Bytes.{bits_of}
 use Rattle.p4_tree.specs.View.{program_of}
 use Rattle.p4_tree.specs.declared.program.Program.{Program}
