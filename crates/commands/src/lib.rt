@@ -19,8 +19,6 @@ mod forward;
 mod link;
 mod load;
 mod run;
-#[cfg(test)]
-mod tests;
 mod wire;
 
 use job_course::{Status, deliver, refuse, say};

@@ -1,13 +1,15 @@
 //! Commands over the stores and sinks in memory, and what they answer where files or the sink fail. What commands do over the
 //! system's files stands in the rows under `tests/` at the top of the repository.
 
-mod rules;
-
-use super::*;
+use commands::hydra;
+use job_course::Status;
 use outside::{MemSink, MemStore, SureSink, SureStore};
+use p4_slots::SlotBench;
+use simplify_rules::RuleSet;
+use std::alloc::Global;
 use std::mem::forget;
 use std::process::Abort;
-use switch_benches::{StoppingBench, SwitchBench};
+use switch_benches::{Bench, StoppingBench};
 
 /// Parts of rows, by their names: networks, programs, cases, and properties.
 const PARTS: &str = r#"one =n {"switches": ["s1"], "links": []}
@@ -242,7 +244,7 @@ fn named<'a>(table: &'a str, name: &str) -> &'a str {
 }
 
 /// A row with the parts for which names stand.
-fn whole(rt: &impl Abort, alloc: Global, row: &str) -> String {
+pub fn whole(rt: &impl Abort, alloc: Global, row: &str) -> String {
     let mut text = String::new(alloc);
     for (at, part) in row.split(" @ ").enumerate() {
         if at > 0 {
@@ -409,17 +411,30 @@ fn first_wrong<'a>(rt: &impl Abort, alloc: Global, row: &'a str, behind: &Behind
     ""
 }
 
-/// Does what the words of a row say: the first part of it that does not hold then.
-fn wrong<'a>(rt: &impl Abort, alloc: Global, row: &'a str, rules: &RuleSet) -> &'a str {
+/// Does what the words of a row say with the switches of a bench: the status, what was put, and the files.
+fn done<B: Bench>(
+    rt: &impl Abort,
+    alloc: Global,
+    row: &str,
+    bench: &mut B,
+    rules: &RuleSet,
+) -> (Status, MemSink, MemStore) {
     let (line, _) = row.split_once(" @ ").unwrap_or((row, ""));
     let words = words_of(rt, alloc, line);
     let mut store = held(rt, alloc, row);
     let mut out = MemSink::new(alloc, 1000, failing(rt, alloc, row, "?")).expect(rt, "memory");
+    let status = hydra(alloc, &words, &mut store, &mut out, bench, rules);
+    forget(words);
+    (status, out, store)
+}
+
+/// The first part of a row that does not hold behind its words, on a bench of plain switches that may stop.
+pub fn wrong<'a>(rt: &impl Abort, alloc: Global, row: &'a str, rules: &RuleSet) -> &'a str {
     let mut bench = StoppingBench {
         texts: Vec::new(alloc),
         stop: stop_of(row),
     };
-    let status = hydra(alloc, &words, &mut store, &mut out, &mut bench, rules);
+    let (status, out, store) = done(rt, alloc, row, &mut bench, rules);
     let behind = Behind {
         status,
         taken: out.taken(),
@@ -427,7 +442,26 @@ fn wrong<'a>(rt: &impl Abort, alloc: Global, row: &'a str, rules: &RuleSet) -> &
         bench: &bench,
     };
     let first = first_wrong(rt, alloc, row, &behind);
-    forget(words);
+    forget(store);
+    forget(out);
+    forget(bench);
+    first
+}
+
+/// The same on a bench of switches over slots, for a row in which no switch stops.
+fn wrong_over_slots<'a>(rt: &impl Abort, alloc: Global, row: &'a str, rules: &RuleSet) -> &'a str {
+    let (status, out, store) = done(rt, alloc, row, &mut SlotBench, rules);
+    let bench = StoppingBench {
+        texts: Vec::new(alloc),
+        stop: None,
+    };
+    let behind = Behind {
+        status,
+        taken: out.taken(),
+        store: &store,
+        bench: &bench,
+    };
+    let first = first_wrong(rt, alloc, row, &behind);
     forget(store);
     forget(out);
     forget(bench);
@@ -445,6 +479,19 @@ fn rows_are_answered(rt: HostRuntime) {
     }
 }
 
+#[test]
+fn rows_are_answered_over_slots(rt: HostRuntime) {
+    let alloc = rt.alloc();
+    let rules = RuleSet::new(alloc);
+    for row in ROWS.lines() {
+        let row = whole(&rt, alloc, row);
+        if stop_of(row.as_str()).is_none() {
+            let part = wrong_over_slots(&rt, alloc, row.as_str(), &rules);
+            assert_eq!(rt; part, "", "{row}");
+        }
+    }
+}
+
 // ---- stores and sinks without faults
 
 /// Whether `wire` answers so, and whether the frame leaves, over the kinds that have no faults.
@@ -457,14 +504,7 @@ fn surely(rt: &impl Abort, alloc: Global, property: &str, frame: &[u8], wanted: 
     let mut out = SureSink::new(alloc, 1000).expect(rt, "memory");
     let words = words_of(rt, alloc, "wire p f o");
     let rules = RuleSet::new(alloc);
-    let status = hydra(
-        alloc,
-        &words,
-        &mut store,
-        &mut out,
-        &mut SwitchBench,
-        &rules,
-    );
+    let status = hydra(alloc, &words, &mut store, &mut out, &mut SlotBench, &rules);
     let left = if wanted.contains("/sent 1/") {
         Some(frame)
     } else {

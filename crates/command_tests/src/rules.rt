@@ -1,9 +1,12 @@
 //! A run by no rule and by three: texts of programs get simpler, and what is sent, told and kept stays.
 
-use super::*;
+use crate::rows::{whole, wrong};
 use lex_text::Name;
 use p4_tree::Expr;
-use simplify_rules::{Rewrite, Rule, drop_neutral, fold_choice, fold_numbers};
+use simplify_rules::{Rewrite, Rule, RuleSet, drop_neutral, fold_choice, fold_numbers};
+use std::alloc::Global;
+use std::mem::forget;
+use std::process::Abort;
 
 /// A run over a program in which a sum of two numbers is compared, and all that it writes but for the programs.
 const ROW: &str =

@@ -1,0 +1,8 @@
+//! Tests of commands over stores and sinks in memory: whole command lines, with what fails, what is answered and what is
+//! written, on plain switches and on switches over slots.
+#![tactic(auto)]
+
+#[cfg(test)]
+mod rows;
+#[cfg(test)]
+mod rules;
