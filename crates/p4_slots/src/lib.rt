@@ -7,8 +7,9 @@
 //! share it with its code: `new` makes the first of them, and `another` each further one.
 //!
 //! A program that has no code over slots (`has_code` of `slot_programs`), whose code is not known to fit
-//! a buffer (`IsSlotPlan`), or that has more than 512 paths, actions or tables, runs on the plain machine of
-//! `p4_machine` in a `SlotSwitch`: there a passage takes memory. No law says yet which programs these are.
+//! a buffer (`IsSlotPlan`), or that has more than 512 paths, actions or tables, or more than 64 registers, runs on
+//! the plain machine of `p4_machine` in a `SlotSwitch`: there a passage takes memory. No law says yet which
+//! programs these are.
 //!
 //! Follows: P4_16 Language Specification and v1model, this project's subset.
 #![tactic(auto)]

@@ -84,7 +84,10 @@ fn fits(c: &ProgramCode, header_bytes: u32, most: u32) -> Result<bool, AllocErro
 /// of them for each name, so its time is bounded by this and by the length of the program's text.
 const MOST_NAMES: usize = 512;
 
-/// Whether a program has few paths, actions and tables.
+/// How many registers such a program may have: a cell that is asked for is looked for by its register's name.
+const MOST_REGISTERS: usize = 64;
+
+/// Whether a program has few paths, actions, tables and registers.
 fn has_few_names(p: &Parts) -> bool {
     let mut paths = p.metadata.len();
     for header in &p.headers {
@@ -93,7 +96,10 @@ fn has_few_names(p: &Parts) -> bool {
         }
         paths += header.fields.len();
     }
-    paths <= MOST_NAMES && p.actions.len() <= MOST_NAMES && p.tables.len() <= MOST_NAMES
+    paths <= MOST_NAMES
+        && p.actions.len() <= MOST_NAMES
+        && p.tables.len() <= MOST_NAMES
+        && p.registers.len() <= MOST_REGISTERS
 }
 
 /// The code of a program, where it has one, and few names.

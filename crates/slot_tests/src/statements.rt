@@ -50,7 +50,7 @@ if (a == 1) a = 2; else x = 3; } => unknown
 mark_to_drop(standard_metadata); c = (bit<16>) standard_metadata.egress_spec; } => 1 64 511 171 99, go
 if (a == 2) mark_to_drop(standard_metadata); c = (bit<16>) standard_metadata.egress_spec; } => 1 64 0 171 99, go
 mark_to_dro(standard_metadata); } => unknown
-digest<bit<8>>(1, { a }); } => unknown
+digest(1, { a }); } => unknown
 h.setInvalid(); } => unknown
 go(a); } => unknown
 t.apply(); } => unknown
