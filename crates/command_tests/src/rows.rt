@@ -428,13 +428,15 @@ fn done<B: Bench>(
     (status, out, store)
 }
 
-/// The first part of a row that does not hold behind its words, on a bench of plain switches that may stop.
-pub fn wrong<'a>(rt: &impl Abort, alloc: Global, row: &'a str, rules: &RuleSet) -> &'a str {
-    let mut bench = StoppingBench {
-        texts: Vec::new(alloc),
-        stop: stop_of(row),
-    };
-    let (status, out, store) = done(rt, alloc, row, &mut bench, rules);
+/// The first part of a row that does not hold behind its words. The bench is asked for the texts that it kept.
+fn wrong_behind<'a>(
+    rt: &impl Abort,
+    alloc: Global,
+    row: &'a str,
+    done: (Status, MemSink, MemStore),
+    bench: StoppingBench,
+) -> &'a str {
+    let (status, out, store) = done;
     let behind = Behind {
         status,
         taken: out.taken(),
@@ -448,24 +450,24 @@ pub fn wrong<'a>(rt: &impl Abort, alloc: Global, row: &'a str, rules: &RuleSet) 
     first
 }
 
+/// The first part of a row that does not hold on a bench of plain switches, of which one may stop.
+pub fn wrong<'a>(rt: &impl Abort, alloc: Global, row: &'a str, rules: &RuleSet) -> &'a str {
+    let mut bench = StoppingBench {
+        texts: Vec::new(alloc),
+        stop: stop_of(row),
+    };
+    let done = done(rt, alloc, row, &mut bench, rules);
+    wrong_behind(rt, alloc, row, done, bench)
+}
+
 /// The same on a bench of switches over slots, for a row in which no switch stops.
 fn wrong_over_slots<'a>(rt: &impl Abort, alloc: Global, row: &'a str, rules: &RuleSet) -> &'a str {
-    let (status, out, store) = done(rt, alloc, row, &mut SlotBench, rules);
+    let done = done(rt, alloc, row, &mut SlotBench, rules);
     let bench = StoppingBench {
         texts: Vec::new(alloc),
         stop: None,
     };
-    let behind = Behind {
-        status,
-        taken: out.taken(),
-        store: &store,
-        bench: &bench,
-    };
-    let first = first_wrong(rt, alloc, row, &behind);
-    forget(store);
-    forget(out);
-    forget(bench);
-    first
+    wrong_behind(rt, alloc, row, done, bench)
 }
 
 #[test]
