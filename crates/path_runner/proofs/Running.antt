@@ -1,11 +1,11 @@
 -- Events one behind the other.
-use Rattle.std.proofs.Common.{◌≡◌, ℕ, zero, suc, ◌+◌, List, [], ◌∷◌, ◌++◌, refl, ap, ap₂, sym, ◌∙◌, subst, arith}
+use Rattle.std.proofs.Common.{◌≡◌, ℕ, zero, suc, ◌+◌, ◌-◌, ◌≤◌, List, [], ◌∷◌, ◌++◌, get_or, refl, ap, ap₂, sym, ◌∙◌, subst, arith}
 use Rattle.p4_meaning.specs.Pass.{Kept, Queued}
 use Rattle.indus_tree.specs.State.{Contents}
-use Rattle.network_run.specs.Network.{Net}
+use Rattle.network_run.specs.Network.{Place, Over, Net}
 use Rattle.network_run.specs.Events.{Event, Enter, Leave, to_its_end}
 use Rattle.network_run.proofs.Ends.{run_append}
-use Rattle.network_run.specs.NetworkRun.{Limits, run_of_halves}
+use Rattle.network_run.specs.NetworkRun.{Limits, enters, leaves, run_of_halves}
 use Rattle.network_file.specs.Wiring.{wiring_of}
 use Rattle.switch_machines.specs.Programs.{Controls, Programs, machine_with}
 use Rattle.path_runner.specs.Nets.{State, controls_in, controls_of, Shows, RunsTo, AreKept, IsSame, run_in}
@@ -42,3 +42,39 @@ end_more s t u v i n same runs same' enters leaves =
     let all : RunsTo s (to_its_end i n ++ (Enter i ∷ Leave i ∷ [])) v = runs_then s t v (to_its_end i n) (Enter i ∷ Leave i ∷ []) same runs both in
     let is : n + 1 ≡ suc n = omega arith in
     subst (λ (es : List (Event Contents)). RunsTo s es v) (sym (ap (to_its_end i) is ∙ ends_more i n)) all
+
+-- a packet that is at its end stays where it is
+over_enters : (t : State) (i : ℕ) → get_or t.places i Over ≡ Over → RunsTo t (Enter i ∷ []) t
+over_enters t i over p w h =
+    let m = machine_with (controls_of t) p in
+    let at : w.packets i ≡ Over = h.packets i ∙ over in
+    subst (λ (x : Place Queued). Shows p t (enters m (wiring_of t.network) t.limits w i x)) (sym at) h
+
+over_leaves : (t : State) (i : ℕ) → get_or t.places i Over ≡ Over → RunsTo t (Leave i ∷ []) t
+over_leaves t i over p w h =
+    let m = machine_with (controls_of t) p in
+    let at : w.packets i ≡ Over = h.packets i ∙ over in
+    subst (λ (x : Place Queued). Shows p t (leaves m (wiring_of t.network) t.limits w i x)) (sym at) h
+
+same_self : (t : State) → IsSame t t
+same_self t = record { kept = record { network = refl; programs = refl; shapes = refl }; maps = refl; limits = refl; packets = refl }
+
+-- so that what is left of its way changes nothing
+over_more :
+    (s t : State) (i n k : ℕ) → IsSame s t → RunsTo s (to_its_end i n) t → get_or t.places i Over ≡ Over →
+    RunsTo s (to_its_end i (k + n)) t
+over_more s t i n zero same runs over =
+    let is : n ≡ 0 + n = omega arith in
+    subst (λ j. RunsTo s (to_its_end i j) t) is runs
+over_more s t i n (suc k) same runs over =
+    let before = over_more s t i n k same runs over in
+    let is : k + n + 1 ≡ suc k + n = omega arith in
+    subst (λ j. RunsTo s (to_its_end i j) t) is
+    (end_more s t t t i (k + n) same before (same_self t) (over_enters t i over) (over_leaves t i over))
+
+pub over_ends :
+    (s t : State) (i n m : ℕ) → n ≤ m → IsSame s t → RunsTo s (to_its_end i n) t → get_or t.places i Over ≡ Over →
+    RunsTo s (to_its_end i m) t
+over_ends s t i n m most same runs over =
+    let is : m - n + n ≡ m = omega (arith, most) in
+    subst (λ j. RunsTo s (to_its_end i j) t) is (over_more s t i n (m - n) same runs over)

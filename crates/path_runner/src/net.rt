@@ -49,8 +49,9 @@ pub struct Net<P: Pass + Drop> {
 }
 
 impl<P: Pass + Drop> Net<P> {
-    ghost use Rattle.std.specs.Prelude.{◌≡◌, ◌<◌, ◌↔◌, [], ◌∷◌, length, map as each, false, IfOk, IsErr, IsTrue, OnOk};
+    ghost use Rattle.std.specs.Prelude.{◌≡◌, ◌<◌, ◌↔◌, [], ◌∷◌, length, get_or, map as each, false, IfOk, IsErr, IsTrue, OnOk};
     ghost use Rattle.network_run.specs.Events.{Enter, Leave, Set, to_its_end, closing};
+    ghost use Rattle.network_run.specs.Network.{Over};
     ghost use Rattle.indus_values.specs.View.{contents_of};
     ghost use Rattle.network_file.specs.Events.{event_of};
     ghost use Rattle.path_runner.specs.Nets.{AreKept, IsSame, LeavesTables, RunsTo, tables_of, tables_after};
@@ -215,7 +216,16 @@ impl<P: Pass + Drop> Net<P> {
         done
     }
 
-    /// A packet goes on to its end, through as many further switches as it may pass at most.
+    /// Whether a packet is at its end.
+    fn is_over(&self, packet: u32) -> bool
+        requires { packet < length (state_of self.now).places }
+        ensures over { IsTrue result → get_or (state_of self.now).places packet Over ≡ Over }
+    {
+        matches!(self.places[packet as usize], Place::Over)
+    }
+
+    /// A packet goes on to its end, through as many further switches as it may pass at most. Where it is at its end
+    /// before, what is left of this changes nothing.
     fn end(&mut self, alloc: Global, packet: u32) -> Result<(), AllocError>
         requires { packet < length (state_of self.old).places }
         ensures same { IsSame (state_of self.old) (state_of self.new) }
@@ -224,6 +234,9 @@ impl<P: Pass + Drop> Net<P> {
     {
         self.leave(alloc, packet)?;
         for _ in 0..self.limits.hops {
+            if self.is_over(packet) {
+                return Ok(());
+            }
             self.enter(alloc, packet)?;
             self.leave(alloc, packet)?;
         }
