@@ -1,11 +1,12 @@
 -- A net before the first event, and its events.
-use Rattle.std.proofs.Common.{◌≡◌, ℕ, zero, suc, List, [], ◌∷◌, ◌++◌, length, map, get_or, Option, Some, None, All, refl, ap, sym, ◌∙◌, subst, arith, append_assoc}
+use Rattle.std.proofs.Common.{◌≡◌, ℕ, zero, suc, List, [], ◌∷◌, ◌++◌, length, map, get_or, Option, Some, None, Bor, All, refl, ap, sym, ◌∙◌, subst, arith, append_assoc}
 use Rattle.std.specs.Prelude.{slice_get}
+use Rattle.std.specs.Option.{IfSome, option_copied}
 use Rattle.std.proofs.lemmas.List.{length-map, map-append}
 use Rattle.std.proofs.lemmas.List.Elements.{All-head, All-tail}
 use Rattle.p4_tree.specs.Tree.{Program}
 use Rattle.p4_meaning.specs.Parts.{parts_of}
-use Rattle.p4_meaning.specs.Pass.{Queued, Registers, kept_before, start_cells}
+use Rattle.p4_meaning.specs.Pass.{Queued, kept_before}
 use Rattle.p4_machine.specs.Buffers.{Buffer, IsMadeFor}
 use Rattle.p4_tables.specs.Named.{tables_in}
 use Rattle.p4_tables.specs.State.{Held}
@@ -100,12 +101,11 @@ event_stays s t e same none h = event_fits t (length s.places) (length s.switche
 
 -- ---- switches that are made one by one
 
-same_switch : (p q : Program) (t u : List Held) (c d : Registers) → p ≡ q → t ≡ u → c ≡ d → record { program = p; tables = t; cells = c } ≡ (let x : Switch = record { program = q; tables = u; cells = d } in x)
-same_switch p q t u c d a b e = rw (a, b, e) refl
-
-pub made_of : (p q r : Program) (t held : List Held) (c : Registers) → q ≡ p → r ≡ q → t ≡ held → c ≡ start_cells (parts_of q).registers → record { program = r; tables = t; cells = c } ≡ switch_before p held
-made_of p q r t held c same program tables cells =
-    same_switch r p t held c (start_cells (parts_of p).registers) (program ∙ same) tables (cells ∙ ap (λ (g : Program). start_cells (parts_of g).registers) same)
+-- of items that all pass, the first one, where there is one
+pub first_passes : {X : Type 0} (P : X → Type 0) (xs : List X) (first : Option (Bor X)) → option_copied first ≡ slice_get xs 0 → All P xs → IfSome first (λ x. P x.now)
+first_passes P xs None is all = tt
+first_passes P [] (Some x) is all = absurd (cc)
+first_passes P (y ∷ ys) (Some x) is all = let same : x.now ≡ y = (cc) in subst P (sym same) (All-head P y ys all)
 
 pub one_made :
     {X : Type 0} (view : X → Switch) (p : Program) (made now : List X) (x : X) (held : List Held) (left rest : List (List Held)) (all : List Switch) → left ≡ held ∷ rest → now ≡ made ++ x ∷ [] →

@@ -1,6 +1,6 @@
 //! The run of a job.
 
-ghost use Rattle.std.specs.Prelude.{◌≡◌, ◌≤◌, length, map, All, IfOk, OnOk};
+ghost use Rattle.std.specs.Prelude.{◌≡◌, ◌≤◌, length, map, All, IfOk, IfSome, OnOk};
 ghost use Rattle.p4_tree.specs.View.{program_of};
 ghost use Rattle.p4_machine.specs.Buffers.{IsMadeFor};
 ghost use Rattle.p4_printer.specs.CanSpell.{CanSpell};
@@ -106,10 +106,29 @@ fn switches<B: Bench>(
 {
     let mut switches = Vec::new(alloc);
     for held in tables {
-        let switch = bench.build(alloc, program.copy(alloc)?, held)?;
+        let switch = one_more(alloc, bench, switches.first(), program, held)?;
         switches.push(switch)?;
     }
     Ok(switches)
+}
+
+/// A switch with these tables, which runs the program. It may share with the first switch what both have in common.
+fn one_more<B: Bench>(
+    alloc: Global,
+    bench: &mut B,
+    first: Option<&B::Unit>,
+    program: &TypedProgram,
+    tables: TableState,
+) -> Result<B::Unit, AllocError>
+    requires runs { IfSome first (λ u. B.Unit.program u.now ≡ program_of program.now) }
+    requires spelled { CanSpell (program_of program.now) }
+    requires tables { IsStateOf (program_of program.now) tables }
+    ensures { IfOk result (λ u. switch_of B.Unit.program B.Unit.tables B.Unit.cells u ≡ switch_before (program_of program.now) tables) }
+{
+    match first {
+        Some(unit) => bench.another(alloc, unit, program, tables),
+        None => bench.build(alloc, program.copy(alloc)?, tables),
+    }
 }
 
 /// So many buffers for passages of the program.

@@ -1,25 +1,25 @@
--- A loop that makes a list beside another, item by item.
-use Rattle.std.proofs.Common.{◌≡◌, ℕ, ◌+◌, ◌<◌, ◌≤◌, List, [], ◌∷◌, ◌++◌, map, length, get_or, take, subst, sym}
-use Rattle.std.proofs.lemmas.List.{take_all}
-use Rattle.std.proofs.lemmas.List.Elements.{all_zip_more}
+-- A loop that makes a list of another, which it takes item by item.
+use Rattle.std.proofs.Common.{◌≡◌, List, [], ◌∷◌, ◌++◌, length, map, subst, sym, ap, ◌∙◌, arith, append_assoc, append-nil}
+use Rattle.std.proofs.lemmas.List.{map-append}
 use Rattle.std.specs.List.{AllZip}
 
 module _ {X A : Type 0} (view : X → A) (R : A → A → Type 0) where
-  -- the items that were gone over, and those made
-  abbrev pub AreMade : List X → List X → Type 0
-  AreMade = AllZip (λ x y. R (view x) (view y))
+  -- whatever is made of the items that are left goes behind what is made
+  abbrev pub AreMade : (all left made : List X) → Type 0
+  AreMade all left made = (ys : List A) → AllZip R (map view left) ys → AllZip R (map view all) (map view made ++ ys)
 
-  pub one_more : (xs ys made : List X) (i : ℕ) (x y : X) → i < length xs → x ≡ get_or xs i x → AreMade (take i xs) ys → R (view x) (view y) → made ≡ ys ++ y ∷ [] → AreMade (take (i + 1) xs) made
-  one_more xs ys made i x y lt is h r e = subst (AreMade (take (i + 1) xs)) (sym e) (all_zip_more (λ x y. R (view x) (view y)) xs ys i x y lt is h r)
+  pub none_made : (all : List X) → AreMade all all []
+  none_made all ys h = h
 
-  viewed : (xs ys : List X) → AreMade xs ys → AllZip R (map view xs) (map view ys)
-  viewed [] [] h = h
-  viewed [] (y ∷ ys) h = absurd h
-  viewed (x ∷ xs) [] h = absurd h
-  viewed (x ∷ xs) (y ∷ ys) h = (h.0, viewed xs ys h.1)
+  pub one_more : (all left rest made now : List X) (x y : X) → left ≡ x ∷ rest → R (view x) (view y) → now ≡ made ++ y ∷ [] → AreMade all left made → AreMade all rest now
+  one_more all left rest made now x y l r n h ys more =
+      let both : AllZip R (map view left) (view y ∷ ys) = subst (λ (zs : List X). AllZip R (map view zs) (view y ∷ ys)) (sym l) (r, more) in
+      let is : map view now ++ ys ≡ map view made ++ (view y ∷ ys) =
+      ap (λ (zs : List X). map view zs ++ ys) n
+      ∙ ap (λ (zs : List A). zs ++ ys) (map-append view made (y ∷ []))
+      ∙ append_assoc (map view made) (view y ∷ []) ys in
+      subst (AllZip R (map view all)) (sym is) (h (view y ∷ ys) both)
 
-  pub all_gone : (xs ys : List X) (i : ℕ) → length xs ≤ i → AreMade (take i xs) ys → AreMade xs ys
-  all_gone xs ys i le h = subst (λ (zs : List X). AreMade zs ys) (take_all i xs le) h
-
-  pub all_made : (xs ys : List X) (i : ℕ) → length xs ≤ i → AreMade (take i xs) ys → AllZip R (map view xs) (map view ys)
-  all_made xs ys i le h = viewed xs ys (all_gone xs ys i le h)
+  pub all_made : (all left made : List X) → length left ≡ 0 → AreMade all left made → AllZip R (map view all) (map view made)
+  all_made all [] made none h = subst (AllZip R (map view all)) (append-nil (map view made)) (h [] tt)
+  all_made all (x ∷ xs) made none h = absurd (omega (arith, none))

@@ -14,18 +14,18 @@ use simplify_programs::simplify;
 use simplify_rules::Offers;
 use std::alloc::{AllocError, Global};
 
-/// The program of each switch with answers of the rules in it.
+/// The program of each switch with answers of the rules in it. Each is let go of when its own is made.
 fn simplified_programs<R: Offers>(
     alloc: Global,
-    programs: &[TypedProgram],
+    programs: Vec<TypedProgram>,
     rules: &R,
 ) -> Result<Vec<TypedProgram>, AllocError>
     ensures { IfOk result (λ v. AllZip (IsSimplifiedProgram (R.Answers rules.now))
-        (map program_of programs.now) (map program_of v.items)) }
+        (map program_of programs.items) (map program_of v.items)) }
 {
     let mut made = Vec::new(alloc);
     for program in programs {
-        made.push(simplify(alloc, rules, program)?)?;
+        made.push(simplify(alloc, rules, &program)?)?;
     }
     Ok(made)
 }
@@ -49,7 +49,7 @@ pub fn simplify_linked<R: Offers>(alloc: Global, l: Linked, rules: &R) -> Result
         map,
         layout,
     } = l;
-    let programs = simplified_programs(alloc, &programs, rules)?;
+    let programs = simplified_programs(alloc, programs, rules)?;
     Ok(Linked {
         programs,
         map,
