@@ -8,9 +8,6 @@ module _ {X A : Type 0} (view : X → A) (R : A → A → Type 0) where
   abbrev pub AreMade : (all left made : List X) → Type 0
   AreMade all left made = (ys : List A) → AllZip R (map view left) ys → AllZip R (map view all) (map view made ++ ys)
 
-  pub none_made : (all : List X) → AreMade all all []
-  none_made all ys h = h
-
   pub one_more : (all left rest made now : List X) (x y : X) → left ≡ x ∷ rest → R (view x) (view y) → now ≡ made ++ y ∷ [] → AreMade all left made → AreMade all rest now
   one_more all left rest made now x y l r n h ys more =
       let both : AllZip R (map view left) (view y ∷ ys) = subst (λ (zs : List X). AllZip R (map view zs) (view y ∷ ys)) (sym l) (r, more) in
