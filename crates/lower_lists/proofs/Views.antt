@@ -1,6 +1,6 @@
 -- Flat expressions of a list, and the equations of the views.
 use Rattle.std.proofs.Common.{◌≡◌, ◌⊎◌, inl, inr, ℕ, suc, ◌+◌, List, [], ◌∷◌, ◌++◌, map, refl, sym, ap, ap₂, ◌∙◌, arith, append_assoc, append-nil}
-use Rattle.indus_tree.specs.Tree.{Expr, Exprs, more, exprs_from, Stmt, choice, done, block_from, Decl}
+use Rattle.indus_tree.specs.Tree.{more, exprs_from, Stmt, choice, done, block_from, Decl}
 use Rattle.indus_tree.specs.View.{expr_of}
 use Rattle.indus_tree.specs.declared.tree.Expr as code
 use Rattle.lower_lists.specs.declared.place.Bound.{Bound}

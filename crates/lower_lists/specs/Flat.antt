@@ -3,18 +3,16 @@
 use Rattle.std.specs.Prelude.{ℕ, zero, suc, ◌+◌, ◌-◌, ◌/◌, List, [], ◌∷◌, ◌++◌, length, map, slice_index, Bool, true, false, nat_eq, nat_le, if◌then◌else◌, Option, Some, None}
 use Rattle.std.specs.List.{list_any}
 use Rattle.lex_text.specs.Names.{same_text}
-use Rattle.lex_text.specs.declared.literal.Literal.{Literal}
 use Rattle.indus_tree.specs.Tree.{Shape, one, list, set, dict, Expr, Exprs, num, flag, read, count, index, member, negation, inversion, binary, cast, none, more, Stmt, Stmts, assign, cell, push, choice, loop, reject, report, done, next, block_from, Decl}
 use Rattle.indus_tree.specs.State.{lookup}
 use Rattle.indus_tree.specs.Hops.{variable_number}
 use Rattle.indus_tree.specs.declared.tree.DeclKind.{DeclKind}
 use Rattle.indus_tree.specs.declared.tree.DeclKind.TheVariants.{Tele, Sensor, Header, Control}
 use Rattle.indus_tree.specs.declared.tree.Op.{Op}
-use Rattle.indus_tree.specs.declared.tree.Op.TheVariants.{Add, Less, Equal, Both, Either}
-use Rattle.indus_tree.specs.declared.tree.Ty.{Ty}
-use Rattle.indus_tree.specs.declared.tree.Ty.TheVariants as ty
+use Rattle.indus_tree.specs.declared.tree.Op.TheVariants.{Less, Equal, Both, Either}
 use Rattle.indus_types.specs.Sums.{smallest}
-use Rattle.lower_lists.specs.Names.{item_name, count_name}
+use Rattle.list_pushes.specs.Names.{item_name, count_name}
+pub use Rattle.list_pushes.specs.Pushes.{byte, only, move, moves, nothing, clear, count_more, pushed, push_to}
 use Rattle.lower_lists.specs.declared.place.ListPlace.{ListPlace}
 use Rattle.lower_lists.specs.declared.place.Bound.{Bound}
 
@@ -71,10 +69,6 @@ source ds bs x = or_item (found bs x) (target ds x)
 
 -- ---- tests
 
--- a number of 8 bits, as a count is
-abbrev pub byte : (at n : ℕ) → Expr
-byte p n = num p (record { width = 8; value = n })
-
 -- the list has an item at a place
 abbrev pub has_item : (at variable place : ℕ) → Expr
 has_item p v i = binary p Less (byte p i) (read p (count_name v))
@@ -129,39 +123,7 @@ module _ (ds : List Decl) (bs : List Bound) where
     flat_exprs none = none
     flat_exprs (more e es) = more (flat_expr e) (flat_exprs es)
 
--- ---- pushes: the last place of a list with room is unused, so the value is written there first, and moves from there
-
-abbrev pub only : Stmt → Stmts
-only s = next s done
-
--- where the count is i, the value at the last place m goes to i
-abbrev pub move : (at variable m i : ℕ) → Stmt
-move p v m i = choice p (binary p Equal (read p (count_name v)) (byte p i)) (only (assign p (item_name v i) (read p (item_name v m)))) done
-
--- to one of the first n places
-abbrev pub moves : (at variable m n : ℕ) → List Stmt
-moves p v m zero = []
-moves p v m (suc i) = moves p v m i ++ move p v m i ∷ []
-
--- 0 or false
-abbrev pub nothing : (at : ℕ) → Ty → Expr
-nothing p (ty.Bit w) = num p (record { width = w; value = 0 })
-nothing p ty.Bool = flag p false
-
--- the last place m is emptied where the count is below it
-abbrev pub clear : (at variable m : ℕ) → Ty → Stmt
-clear p v m t = choice p (binary p Less (read p (count_name v)) (byte p m)) (only (assign p (item_name v m) (nothing p t))) done
-
-abbrev pub count_more : (at variable : ℕ) → Stmt
-count_more p v = assign p (count_name v) (binary p Add (read p (count_name v)) (byte p 1))
-
--- what a push does where there is room; the count changes last
-abbrev pub pushed : (at : ℕ) → Expr → (variable m : ℕ) → Ty → List Stmt
-pushed p e v m t = (assign p (item_name v m) e ∷ moves p v m m) ++ clear p v m t ∷ count_more p v ∷ []
-
-abbrev pub push_to : (at : ℕ) → Expr → (variable size : ℕ) → Ty → List Stmt
-push_to p e v zero t = []
-push_to p e v (suc m) t = choice p (binary p Less (read p (count_name v)) (byte p (suc m))) (block_from (pushed p e v m t)) done ∷ []
+-- ---- pushes
 
 abbrev pub flat_push : (at : ℕ) → Expr → Option ListPlace → List Stmt
 flat_push p e None = []

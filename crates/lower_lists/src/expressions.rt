@@ -1,52 +1,17 @@
 //! Flat expressions.
 
 ghost use Rattle.std.specs.Prelude.{◌≡◌, ◌+◌, ◌<◌, ◌≤◌, false, true, length, map, slice_index, IfOk};
-ghost use Rattle.indus_tree.specs.Tree.{binary, read};
 ghost use Rattle.indus_tree.specs.View.{expr_of, exprs_of, property_of};
 ghost use Rattle.indus_tree.specs.declared.tree.Op.TheVariants.{Both, Either};
-ghost use Rattle.lower_lists.specs.Flat.{all_have, any_item, byte, flat_expr, flat_exprs, flat_member, halves, has_item, is_item, list_of};
-ghost use Rattle.lower_lists.specs.Names.{count_name, item_name};
+ghost use Rattle.lower_lists.specs.Flat.{all_have, any_item, flat_expr, flat_exprs, flat_member, halves, has_item, is_item, list_of};
 
-use crate::names::{count_name, item_name, list_number, list_of, source};
+use crate::names::{list_number, list_of, source};
 use crate::place::{Bound, ListPlace};
 use indus_tree::{Expr, Op};
 use indus_types::TypedProperty;
-use lex_text::{Literal, Name};
+use lex_text::Name;
+use list_pushes::{binary, byte, count, item};
 use std::alloc::{AllocError, Global};
-
-/// An operator with its operands.
-pub fn binary(alloc: Global, at: u32, op: Op, a: Expr, b: Expr) -> Result<Expr, AllocError>
-    ensures { IfOk result (λ e. expr_of e ≡ binary at op (expr_of a) (expr_of b)) }
-{
-    Ok(Expr::Bin(at, op, Box::new(alloc, a)?, Box::new(alloc, b)?))
-}
-
-/// A number of 8 bits.
-pub fn byte(at: u32, n: u8) -> Expr
-    ensures { expr_of result ≡ byte at n }
-{
-    Expr::Num(
-        at,
-        Literal {
-            width: 8,
-            value: u128::from(n),
-        },
-    )
-}
-
-/// The count of a list.
-pub fn count(alloc: Global, at: u32, list: usize) -> Result<Expr, AllocError>
-    ensures { IfOk result (λ e. expr_of e ≡ read at (count_name list)) }
-{
-    Ok(Expr::Read(at, count_name(alloc, list)?))
-}
-
-/// The item at a place of a list.
-pub fn item(alloc: Global, at: u32, list: usize, place: u8) -> Result<Expr, AllocError>
-    ensures { IfOk result (λ e. expr_of e ≡ read at (item_name list place)) }
-{
-    Ok(Expr::Read(at, item_name(alloc, list, place)?))
-}
 
 /// Whether a list has an item at a place.
 fn has_item(alloc: Global, at: u32, list: usize, place: u8) -> Result<Expr, AllocError>

@@ -19,5 +19,5 @@ mod place;
 mod property;
 
 pub use fault::LowerFault;
-pub use names::{count_name, item_name};
+pub use list_pushes::{count_name, item_name};
 pub use property::{FlatProperty, flatten};

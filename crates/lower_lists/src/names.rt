@@ -5,31 +5,13 @@ ghost use Rattle.std.specs.Option.{option_map};
 ghost use Rattle.indus_tree.specs.State.{lookup};
 ghost use Rattle.indus_tree.specs.View.{decl_of, property_of, shape_of};
 ghost use Rattle.lower_lists.specs.Flat.{list_number, list_of, list_of_shape, name_of_kind, source, target};
-ghost use Rattle.lower_lists.specs.Names.{count_name, item_name};
 
 use crate::place::{Bound, ListPlace};
 use indus_tree::{Decl, DeclKind, Shape};
 use indus_types::TypedProperty;
 use lex_text::Name;
+use list_pushes::item_name;
 use std::alloc::{AllocError, Global};
-
-/// The name of a list's item, or of a scalar.
-#[tactic(auto, unfolding(crate::specs::Names::item_name))]
-pub fn item_name(alloc: Global, number: usize, item: u8) -> Result<Name, AllocError>
-    ensures { IfOk result (λ n. n ≡ item_name number item) }
-{
-    let text = format!(in alloc; "{number}_{item}")?;
-    Name::new(alloc, text.as_str())
-}
-
-/// The name of a list's count.
-#[tactic(auto, unfolding(crate::specs::Names::count_name))]
-pub fn count_name(alloc: Global, number: usize) -> Result<Name, AllocError>
-    ensures { IfOk result (λ n. n ≡ count_name number) }
-{
-    let text = format!(in alloc; "{number}_c")?;
-    Name::new(alloc, text.as_str())
-}
 
 /// The declaration of a name.
 pub fn find<'a>(typed: &'a TypedProperty, name: &Name) -> Option<&'a Decl>

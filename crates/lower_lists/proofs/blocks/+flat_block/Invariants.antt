@@ -1,6 +1,6 @@
 use Rattle.std.proofs.Common.{◌≡◌, ◌++◌, map, drop}
 use Rattle.indus_tree.specs.View.{block_of, property_of, stmt_of}
-use Rattle.lower_lists.specs.Flat.{flat_block, list_number, turns}
+use Rattle.lower_lists.specs.Flat.{flat_block, turns}
 use Rattle.lower_lists.proofs.blocks.+flat_block.Given as goal
 
 abbrev pub invariant-flat_block-loop-s : goal.invariant-flat_block-loop-s
