@@ -7,7 +7,7 @@ ghost use Rattle.p4_printer.specs.CanSpell.{CanSpell};
 ghost use Rattle.p4_tables.specs.Programs.{IsStateOf};
 ghost use Rattle.network_file.specs.Events.{event_of};
 ghost use Rattle.path_runner.specs.Conditions.{IsAtEdge};
-ghost use Rattle.path_runner.specs.Maps.{maps_of};
+ghost use Rattle.set_contents.specs.Maps.{maps_of};
 ghost use Rattle.path_runner.specs.Nets.{IsSame, RunsTo};
 ghost use Rattle.path_runner.specs.Starts.{Starts, state_before};
 ghost use Rattle.path_runner.specs.Packets.{arrival_of};

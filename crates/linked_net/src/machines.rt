@@ -3,7 +3,7 @@
 ghost use Rattle.std.specs.Prelude.{◌≡◌, false, map, All, IfOk};
 ghost use Rattle.p4_tree.specs.View.{program_of};
 ghost use Rattle.p4_printer.specs.CanSpell.{CanSpell};
-ghost use Rattle.path_runner.specs.Maps.{maps_of};
+ghost use Rattle.set_contents.specs.Maps.{maps_of};
 ghost use Rattle.path_runner.specs.Packets.{arrival_of};
 ghost use Rattle.path_runner.specs.Starts.{StartsWorlds, state_before};
 ghost use Rattle.path_runner.specs.Switches.{switch_of};

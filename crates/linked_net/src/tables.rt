@@ -5,7 +5,7 @@ ghost use Rattle.indus_tree.specs.View.{decl_of};
 ghost use Rattle.indus_values.specs.View.{contents_of};
 ghost use Rattle.p4_tree.specs.View.{program_of};
 ghost use Rattle.control_file.specs.Views.{contents_view};
-ghost use Rattle.path_runner.specs.Maps.{map_of, maps_of};
+ghost use Rattle.set_contents.specs.Maps.{map_of, maps_of};
 ghost use Rattle.linked_net.specs.Loading.{AreLoadedTo, AreLoadedWith, CanLoad, CanLoadAll};
 
 use control_tables::ControlMap;

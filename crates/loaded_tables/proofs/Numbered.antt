@@ -16,7 +16,7 @@ use Rattle.indus_tree.specs.View.{shape_of, decl_of}
 use Rattle.indus_tree.specs.declared.tree.Decl as code
 use Rattle.control_maps.specs.Numbers.{Numbered, IsOfForm}
 use Rattle.control_maps.proofs.Places.{all_at, form_at}
-use Rattle.path_runner.specs.Maps.{numbered_of, map_of}
+use Rattle.set_contents.specs.Maps.{numbered_of, map_of}
 use Rattle.loaded_tables.specs.Rows.{Row, row_place, first_action, declared_shape, numbered_row, numbered_rows, IsNumberedMap}
 use Rattle.loaded_tables.specs.Steps.{IsNumberable}
 use Rattle.loaded_tables.proofs.Placed.{shape_at, shape_there}

@@ -10,7 +10,7 @@ ghost use Rattle.p4_tables.specs.Faults.{IsReplaceable};
 ghost use Rattle.p4_tables.specs.Programs.{shapes};
 ghost use Rattle.control_tables.specs.Contents.{entries_for, default_for};
 ghost use Rattle.control_maps.specs.Numbers.{put_in, load_in};
-ghost use Rattle.path_runner.specs.Maps.{map_of, numbered_of};
+ghost use Rattle.set_contents.specs.Maps.{map_of, numbered_of};
 ghost use Rattle.loaded_tables.specs.Loading.{AreTaken, keys_in};
 ghost use Rattle.loaded_tables.specs.Steps.{AreEmpty, seats_before};
 

@@ -10,7 +10,7 @@ ghost use Rattle.p4_tables.specs.Named.{tables_in};
 ghost use Rattle.p4_tables.specs.Programs.{IsStateOf};
 ghost use Rattle.p4_tables.specs.Carried.{StandsIn};
 ghost use Rattle.control_maps.specs.Numbers.{IsMapOf};
-ghost use Rattle.path_runner.specs.Maps.{map_of};
+ghost use Rattle.set_contents.specs.Maps.{map_of};
 ghost use Rattle.path_runner.specs.Starts.{IsLoaded};
 ghost use Rattle.loaded_tables.specs.Rows.{numbered_rows, IsNumberedMap};
 ghost use Rattle.loaded_tables.specs.Loading.{AddsOnly, AreNew, AreTaken, carried_entries, keys_in, switch_before};

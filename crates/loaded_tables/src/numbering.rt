@@ -8,7 +8,7 @@ ghost use Rattle.p4_parts.specs.PartsIn.{parts_in, table_in};
 ghost use Rattle.p4_tables.specs.State.{held_at};
 ghost use Rattle.p4_tables.specs.Named.{table_place};
 ghost use Rattle.p4_tables.specs.Programs.{shapes, IsStateOf};
-ghost use Rattle.path_runner.specs.Maps.{map_of, numbered_of};
+ghost use Rattle.set_contents.specs.Maps.{map_of, numbered_of};
 ghost use Rattle.loaded_tables.specs.Rows.{row_place, first_action, numbered_row, numbered_rows, IsNumberedMap};
 ghost use Rattle.loaded_tables.specs.Steps.{IsNumberable};
 

@@ -4,7 +4,7 @@ use Rattle.p4_tree.specs.View.{program_of}
 use Rattle.network_run.specs.NetworkRun.{Limits}
 use Rattle.control_maps.specs.Numbers.{Numbered}
 use Rattle.path_runner.specs.Conditions.{AreFor}
-use Rattle.path_runner.specs.Maps.{maps_of}
+use Rattle.set_contents.specs.Maps.{maps_of}
 use Rattle.path_runner.specs.Nets.{Switch}
 use Rattle.path_runner.specs.Starts.{Starts, state_before}
 use Rattle.path_runner.specs.Packets.{arrival_of}

@@ -1,7 +1,7 @@
 use Rattle.std.proofs.Common.{List, [], ◌∷◌, ◌++◌, map, ap, ◌∙◌}
 use Rattle.std.proofs.lemmas.List.{map-append, replicate_more}
 use Rattle.control_maps.specs.Numbers.{Numbered}
-use Rattle.path_runner.specs.Maps.{map_of, maps_of}
+use Rattle.set_contents.specs.Maps.{map_of, maps_of}
 use Rattle.forward_run.proofs.run.no_tables.Goals as goal
 
 pub loop-preserved : goal.loop-preserved

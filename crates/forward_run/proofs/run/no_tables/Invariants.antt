@@ -1,5 +1,5 @@
 use Rattle.std.proofs.Common.{◌≡◌}
-use Rattle.path_runner.specs.Maps.{maps_of}
+use Rattle.set_contents.specs.Maps.{maps_of}
 use Rattle.forward_run.specs.Switches.{no_maps}
 use Rattle.forward_run.proofs.run.no_tables.Given as goal
 

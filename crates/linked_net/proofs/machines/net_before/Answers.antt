@@ -3,7 +3,7 @@ use Rattle.p4_tree.specs.View.{program_of}
 use Rattle.p4_tree.specs.declared.program.Program as code
 use Rattle.network_run.specs.NetworkRun.{Limits}
 use Rattle.path_runner.specs.Conditions.{AreFor, AreMapped}
-use Rattle.path_runner.specs.Maps.{maps_of}
+use Rattle.set_contents.specs.Maps.{maps_of}
 use Rattle.path_runner.specs.Nets.{Switch}
 use Rattle.path_runner.specs.Packets.{arrival_of}
 use Rattle.path_runner.specs.Starts.{StartsWorlds, state_before}

@@ -4,7 +4,7 @@ use Rattle.indus_tree.specs.View.{decl_of}
 use Rattle.p4_tree.specs.View.{program_of}
 use Rattle.control_file.specs.Views.{contents_view}
 use Rattle.network_run.specs.NetworkRun.{longest_frame}
-use Rattle.path_runner.specs.Maps.{maps_of}
+use Rattle.set_contents.specs.Maps.{maps_of}
 use Rattle.path_runner.specs.Packets.{arrival_of}
 use Rattle.path_runner.specs.Views.{state_of}
 use Rattle.linked_jobs.specs.Views.{job_of, programs_in, rows_in}

@@ -4,7 +4,7 @@ use Rattle.indus_tree.specs.View.{decl_of}
 use Rattle.indus_values.specs.View.{contents_of, contents_from}
 use Rattle.p4_tree.specs.View.{program_of}
 use Rattle.p4_tables.specs.State.{entries_in}
-use Rattle.path_runner.specs.Maps.{map_of}
+use Rattle.set_contents.specs.Maps.{map_of}
 use Rattle.loaded_tables.specs.Rows.{numbered_rows}
 use Rattle.loaded_tables.specs.Loading.{AreTaken}
 use Rattle.linked_net.proofs.Loading.{same_contents, are_loaded}

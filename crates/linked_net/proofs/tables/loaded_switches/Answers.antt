@@ -4,7 +4,7 @@ use Rattle.indus_tree.specs.View.{decl_of}
 use Rattle.indus_values.specs.View.{contents_of}
 use Rattle.p4_tree.specs.View.{program_of}
 use Rattle.control_file.specs.Views.{contents_view}
-use Rattle.path_runner.specs.Maps.{map_of, maps_of}
+use Rattle.set_contents.specs.Maps.{map_of, maps_of}
 use Rattle.linked_net.proofs.Loading.{can_here, loaded_here}
 use Rattle.linked_net.proofs.tables.loaded_switches.Goals as goal
 

@@ -2,7 +2,7 @@ use Rattle.std.proofs.Common.{map}
 use Rattle.indus_tree.specs.View.{decl_of}
 use Rattle.p4_tree.specs.View.{program_of}
 use Rattle.control_file.specs.Views.{contents_view}
-use Rattle.path_runner.specs.Maps.{maps_of}
+use Rattle.set_contents.specs.Maps.{maps_of}
 use Rattle.linked_net.specs.Loading.{AreLoadedTo}
 use Rattle.linked_net.proofs.tables.loaded_switches.Given as goal
 

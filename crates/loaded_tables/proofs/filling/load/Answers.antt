@@ -9,7 +9,7 @@ use Rattle.p4_tables.specs.Faults.{IsReplaceable}
 use Rattle.control_tables.specs.Contents.{entries_for, default_for}
 use Rattle.control_maps.specs.Numbers.{Numbered, put_in}
 use Rattle.control_maps.proofs.Places.{all_at}
-use Rattle.path_runner.specs.Maps.{map_of, numbered_of}
+use Rattle.set_contents.specs.Maps.{map_of, numbered_of}
 use Rattle.loaded_tables.proofs.Filled.{there, takes, loaded_next, as_many_seats, contents_are}
 use Rattle.loaded_tables.proofs.filling.load.Goals as goal
 

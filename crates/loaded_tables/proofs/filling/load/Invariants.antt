@@ -1,7 +1,7 @@
 use Rattle.std.proofs.Common.{map}
 use Rattle.indus_tree.specs.View.{decl_of}
 use Rattle.indus_values.specs.View.{contents_from}
-use Rattle.path_runner.specs.Maps.{map_of}
+use Rattle.set_contents.specs.Maps.{map_of}
 use Rattle.loaded_tables.specs.Steps.{AreLoadedTo}
 use Rattle.loaded_tables.proofs.filling.load.Given as goal
 

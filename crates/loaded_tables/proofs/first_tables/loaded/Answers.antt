@@ -7,7 +7,7 @@ use Rattle.p4_tree.specs.View.{program_of}
 use Rattle.p4_meaning.specs.Parts.{parts_of}
 use Rattle.p4_tables.specs.Named.{tables_in}
 use Rattle.control_maps.specs.Numbers.{Numbered, load_in, IsMapOf}
-use Rattle.path_runner.specs.Maps.{map_of}
+use Rattle.set_contents.specs.Maps.{map_of}
 use Rattle.path_runner.specs.Starts.{IsLoaded}
 use Rattle.loaded_tables.specs.Loading.{carried_entries, keys_in, switch_before}
 use Rattle.loaded_tables.specs.Steps.{AreEmpty}

@@ -1,7 +1,7 @@
 use Rattle.std.proofs.Common.{◌≡◌, map, take}
 use Rattle.indus_tree.specs.View.{decl_of}
 use Rattle.p4_tree.specs.View.{program_of}
-use Rattle.path_runner.specs.Maps.{map_of}
+use Rattle.set_contents.specs.Maps.{map_of}
 use Rattle.loaded_tables.specs.Rows.{numbered_rows}
 use Rattle.loaded_tables.proofs.numbering.switch_map.Given as goal
 

@@ -1,0 +1,3 @@
+-- What callers rest on. To be read in this order.
+pub mod Maps
+pub mod Others
