@@ -31,14 +31,14 @@ none_waits (a ∷ rest) (suc i) s port n o full e = none_waits rest i s port n o
 module _ {P Q : Type 0} {g : Ghosts P Q} where
   -- what one place asks of the programs
   abbrev One : List Program → declared.Place P Q g → Type 0
-  One ps x = (k : Parked P Q g) (p : Program) → x ≡ code.Waiting k → slice_get ps k.switch ≡ Some p → IsPlaceFor p (g.place k.queued.place)
+  One ps x = (k : Parked P Q g) (p : Program) → x ≡ code.Waiting k → slice_get ps k.switch ≡ Some p → IsPlaceFor p (g.place k.queued.place.value)
 
   -- where a packet comes to a switch, or to its end
   new_place : (ps : List Program) (s : ℕ) (p : Program) (x : declared.Place P Q g) → slice_get ps s ≡ Some p → IsMadeAt s p x → One ps x
   new_place ps s p x there new k q is here =
-      let both : (k.switch ≡ s) × IsPlaceFor p (g.place k.queued.place) = subst (IsMadeAt s p) is new in
+      let both : (k.switch ≡ s) × IsPlaceFor p (g.place k.queued.place.value) = subst (IsMadeAt s p) is new in
       let same : p ≡ q = (let at = both.0 in cc) in
-      subst (λ (r : Program). IsPlaceFor r (g.place k.queued.place)) same both.1
+      subst (λ (r : Program). IsPlaceFor r (g.place k.queued.place.value)) same both.1
 
   made_moved : (ps : List Program) (places : List (declared.Place P Q g)) (i s : ℕ) (p : Program) (x : declared.Place P Q g)
       → AreMade ps places → slice_get ps s ≡ Some p → IsMadeAt s p x → AreMade ps (set places i x)
@@ -56,5 +56,5 @@ module _ {P Q : Type 0} {g : Ghosts P Q} where
   -- before the first event none waits
   pub made_before : (ps : List Program) (places : List (declared.Place P Q g)) (arrivals : List Arrival) → map place_in places ≡ in_flight arrivals → AreMade ps places
   made_before ps places arrivals same i k p at here =
-      absurd (none_waits arrivals i k.switch k.port k.passed (g.place k.queued.place).waiting k.full
+      absurd (none_waits arrivals i k.switch k.port k.passed (g.place k.queued.place.value).waiting k.full
       (ap (λ (l : List (Place Queued)). slice_get l i) (sym same) ∙ view_there place_in places i (code.Waiting k) at))

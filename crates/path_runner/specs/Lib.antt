@@ -4,7 +4,6 @@ pub mod Nets
 pub mod Starts
 pub mod Conditions
 pub mod Packets
-pub mod Maps
 pub mod Switches
 pub mod Views
 -- What serves the proofs: which places a switch may take again, where packets are, what holds of their places, what

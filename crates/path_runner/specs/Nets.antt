@@ -1,11 +1,10 @@
 -- What a net holds, and the networks of the definition that it stands for. Read `Programs` of switch_machines before
 -- it, `Network` and `NetworkRun` of the network's run, and `Maps` and `Numbers` of control_maps.
-use Rattle.std.specs.Prelude.{◌≡◌, ◌≢◌, ℕ, List, [], length, map, get_or, slice_get, slice_set, true, nat_eq, Option, Some, None}
-use Rattle.std.specs.List.{AllByRecursion}
+use Rattle.std.specs.Prelude.{◌≡◌, ◌≢◌, ℕ, List, [], length, map, get_or, slice_get, slice_set, Option, Some, None}
 use Rattle.p4_tree.specs.Tree.{Program}
 use Rattle.p4_meaning.specs.Parts.{parts_of}
 use Rattle.p4_meaning.specs.Pass.{Registers, Kept, Queued}
-use Rattle.p4_tables.specs.State.{Held, held_at}
+use Rattle.p4_tables.specs.State.{Held}
 use Rattle.p4_tables.specs.Named.{tables_in}
 use Rattle.p4_tables.specs.Programs.{shapes}
 use Rattle.indus_tree.specs.State.{Contents}
@@ -17,6 +16,7 @@ use Rattle.network_file.specs.Wiring.{wiring_of}
 use Rattle.switch_machines.specs.Programs.{Controls, Programs, machine_with}
 use Rattle.control_maps.specs.Maps.{Lookup, map_controls}
 use Rattle.control_maps.specs.Numbers.{Numbered, named_in, set_in}
+pub use Rattle.set_contents.specs.Others.{IsOther, OthersHold}
 
 -- a switch: its program, what its tables hold by their numbers, and the cells of its registers
 pub record Switch : Type 0 where
@@ -112,14 +112,6 @@ pub record IsSame (s t : State) : Type 0 where
   pub maps : t.maps ≡ s.maps
   pub limits : t.limits ≡ s.limits
   pub packets : length t.places ≡ length s.places
-
--- no table of the variable has this number
-abbrev pub IsOther : List Numbered → (variable table : ℕ) → Type 0
-IsOther ns v n = AllByRecursion (λ m. nat_eq m.variable v ≡ true → m.table ≢ n) ns
-
--- all other tables hold what they held
-abbrev pub OthersHold : List Numbered → (variable : ℕ) → (old now : List Held) → Type 0
-OthersHold ns v old now = (n : ℕ) → IsOther ns v n → held_at now n ≡ held_at old n
 
 -- at most the tables of a variable of one switch hold something else
 pub record OthersStay (ns : List Numbered) (k v : ℕ) (old now : List (List Held)) : Type 0 where

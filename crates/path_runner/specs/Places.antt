@@ -11,7 +11,7 @@ use Rattle.path_runner.specs.declared.place.Place.{Place}
 use Rattle.path_runner.specs.declared.place.Place.TheVariants as code
 
 abbrev pub parked_place : {P Q : Type 0} {g : Ghosts P Q} → Parked P Q g → network.Place Queued
-parked_place {P} {Q} {g} p = queued_or_over p.switch p.port p.passed (g.place p.queued.place).waiting
+parked_place {P} {Q} {g} p = queued_or_over p.switch p.port p.passed (g.place p.queued.place.value).waiting
 
 abbrev pub place_in : {P Q : Type 0} {g : Ghosts P Q} → Place P Q g → network.Place Queued
 place_in (code.Flying f) = Flying f.switch f.port f.frame.items f.passed

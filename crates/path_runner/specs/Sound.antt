@@ -37,11 +37,11 @@ IsNotWaiting Over = Unit {0}
 
 -- a packet that waits does so at this switch, in a place that was made for its program
 abbrev pub IsMadeAt : {P Q : Type 0} {g : Ghosts P Q} → (switch : ℕ) → Program → code_place.Place P Q g → Type 0
-IsMadeAt {P} {Q} {g} s p (code.Waiting k) = (k.switch ≡ s) × IsPlaceFor p (g.place k.queued.place)
+IsMadeAt {P} {Q} {g} s p (code.Waiting k) = (k.switch ≡ s) × IsPlaceFor p (g.place k.queued.place.value)
 IsMadeAt s p (code.Flying f) = Unit {0}
 IsMadeAt s p code.Over = Unit {0}
 
 -- each packet that waits has a place that was made for the program of its switch
 abbrev pub AreMade : {P Q : Type 0} {g : Ghosts P Q} → (programs : List Program) → List (code_place.Place P Q g) → Type 0
 AreMade {P} {Q} {g} programs places =
-    (i : ℕ) (k : Parked P Q g) (p : Program) → slice_get places i ≡ Some (code.Waiting k) → slice_get programs k.switch ≡ Some p → IsPlaceFor p (g.place k.queued.place)
+    (i : ℕ) (k : Parked P Q g) (p : Program) → slice_get places i ≡ Some (code.Waiting k) → slice_get programs k.switch ≡ Some p → IsPlaceFor p (g.place k.queued.place.value)

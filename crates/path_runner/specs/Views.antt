@@ -7,7 +7,7 @@ use Rattle.p4_machine.specs.declared.pass.Pass.{Ghosts}
 use Rattle.network_run.specs.NetworkRun.{Limits}
 use Rattle.path_runner.specs.Nets as nets
 use Rattle.path_runner.specs.Nets.{Switch, State}
-use Rattle.path_runner.specs.Maps.{maps_of}
+use Rattle.set_contents.specs.Maps.{maps_of}
 use Rattle.path_runner.specs.Packets.{sent_of, told_of}
 use Rattle.path_runner.specs.Places.{place_in, limits_of}
 use Rattle.path_runner.specs.Switches.{switch_of}

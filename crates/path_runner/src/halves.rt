@@ -73,17 +73,17 @@ fn sent<P: Pass + Drop>(
     switch: u16,
     queued: Seat<P>,
 ) -> Result<Option<Sent>, AllocError>
-    requires { IsPlaceFor (station_in station.old).program (P.place queued.place) }
+    requires { IsPlaceFor (station_in station.old).program (P.place queued.place.value) }
     ensures program { (station_in station.new).program ≡ (station_in station.old).program }
     ensures tables { (station_in station.new).tables ≡ (station_in station.old).tables }
     ensures cells { OnOk result ((station_in station.new).cells
-        ≡ (exit_at (station_in station.old) (P.place queued.place).waiting).registers) }
+        ≡ (exit_at (station_in station.old) (P.place queued.place.value).waiting).registers) }
     ensures out { IfOk result (λ x. option_map (λ s. (s.port, s.frame.items)) x
-        ≡ (exit_at (station_in station.old) (P.place queued.place).waiting).out) }
+        ≡ (exit_at (station_in station.old) (P.place queued.place.value).waiting).out) }
     ensures sender { IfOk result (λ x. IfSome x (λ s. (s.packet ≡ packet) × (s.switch ≡ switch))) }
     ensures told { OnOk result (traffic_in traffic.new ≡ record (traffic_in traffic.old) {
       told = (traffic_in traffic.old).told ++ told_by packet switch
-          (map network_digest (exit_at (station_in station.old) (P.place queued.place).waiting).digests);
+          (map network_digest (exit_at (station_in station.old) (P.place queued.place.value).waiting).digests);
     }) }
     ensures dropped { traffic.new.dropped ≡ traffic.old.dropped }
     ensures lost { traffic.new.lost ≡ traffic.old.lost }
@@ -114,20 +114,20 @@ pub(crate) fn leave<P: Pass + Drop>(
     packet: u32,
     parked: Parked<P>,
 ) -> Result<Place<P>, AllocError>
-    requires made { IsPlaceFor (station_in station.old).program (P.place parked.queued.place) }
+    requires made { IsPlaceFor (station_in station.old).program (P.place parked.queued.place.value) }
     requires passed { parked.passed < limits.hops }
     requires counted { traffic.old.dropped + traffic.old.lost < 4294967295 }
     ensures program { (station_in station.new).program ≡ (station_in station.old).program }
     ensures tables { (station_in station.new).tables ≡ (station_in station.old).tables }
     ensures cells { OnOk result ((station_in station.new).cells
-        ≡ (exit_at (station_in station.old) (P.place parked.queued.place).waiting).registers) }
+        ≡ (exit_at (station_in station.old) (P.place parked.queued.place.value).waiting).registers) }
     ensures place { IfOk result (λ x. place_in x ≡ (left_departure (wiring_of network.now) (limits_of limits)
         (traffic_in traffic.old) packet parked.switch parked.passed
-        (exit_at (station_in station.old) (P.place parked.queued.place).waiting)).place) }
+        (exit_at (station_in station.old) (P.place parked.queued.place.value).waiting)).place) }
     ensures made { IfOk result (IsMadeAt parked.switch (station_in station.new).program) }
     ensures traffic { OnOk result (traffic_in traffic.new ≡ (left_departure (wiring_of network.now) (limits_of limits)
         (traffic_in traffic.old) packet parked.switch parked.passed
-        (exit_at (station_in station.old) (P.place parked.queued.place).waiting)).traffic) }
+        (exit_at (station_in station.old) (P.place parked.queued.place.value).waiting)).traffic) }
     ensures counted { traffic.new.dropped + traffic.new.lost ≤ traffic.old.dropped + traffic.old.lost + 1 }
 {
     let Parked {

@@ -10,7 +10,7 @@
 //! asked of what is handed in.
 //!
 //! Tables that hold control variables are handed in as maps (`control_maps`); new contents go into all
-//! tables of their variable in one step. After want of memory a net is given up. Speed is not promised.
+//! tables of their variable in one step (`set_contents`). After want of memory a net is given up. Speed is not promised.
 #![tactic(auto)]
 
 mod halves;
@@ -21,7 +21,6 @@ mod packet;
 mod parked;
 mod place;
 mod sending;
-mod setting;
 mod station;
 mod traffic;
 

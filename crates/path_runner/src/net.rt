@@ -5,7 +5,7 @@ ghost use Rattle.std.specs.List.{list_all};
 ghost use Rattle.network_run.specs.Network.{IsWiring};
 ghost use Rattle.network_file.specs.Wiring.{wiring_of};
 ghost use Rattle.path_runner.specs.Conditions.{AreMapped};
-ghost use Rattle.path_runner.specs.Maps.{maps_of};
+ghost use Rattle.set_contents.specs.Maps.{maps_of};
 ghost use Rattle.path_runner.specs.Places.{place_in, limits_of};
 ghost use Rattle.path_runner.specs.Props.{mapped_prop};
 ghost use Rattle.path_runner.specs.Sound.{AreMade, is_within, going_on};
@@ -17,13 +17,13 @@ use crate::log::RunLog;
 use crate::packet::Packet;
 use crate::parked::take_parked;
 use crate::place::{Limits, Place};
-use crate::setting::{Mapped, set};
 use crate::station::Station;
 use crate::traffic::Traffic;
 use indus_tree::Decl;
 use indus_values::ControlValue;
 use network_file::{Event, Network};
 use p4_machine::{FrameBuf, Pass};
+use set_contents::Mapped;
 use std::alloc::{AllocError, Global};
 use std::mem;
 
@@ -162,13 +162,7 @@ impl<P: Pass + Drop> Net<P> {
             (Set switch variable (contents_of contents.now) ∷ []) (state_of self.new)) }
     {
         let at = switch as usize;
-        set(
-            alloc,
-            &mut self.stations[at],
-            &self.maps[at],
-            variable,
-            contents,
-        )
+        self.stations[at].set(alloc, &self.maps[at], variable, contents)
     }
 
     /// One event happens.

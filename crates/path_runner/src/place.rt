@@ -17,9 +17,9 @@ pub(crate) struct Flight {
 
 /// A place of a switch for a packet that waits, and for how many bytes of rest it has room.
 pub(crate) struct Seat<P: Pass + Drop> {
-    pub place: P::Place,
+    pub place: Box<P::Place>,
     pub room: u32,
-    ghost sized: { (P.place place).room ≡ room },
+    ghost sized: { (P.place place.value).room ≡ room },
 }
 
 impl<P: Pass + Drop> Drop for Seat<P> {
@@ -39,7 +39,7 @@ pub(crate) struct Parked<P: Pass + Drop> {
     pub queued: Seat<P>,
     /// How many switches it has passed.
     pub passed: u8,
-    ghost full: { is_some_packet (P.place queued.place).waiting ≡ true },
+    ghost full: { is_some_packet (P.place queued.place.value).waiting ≡ true },
 }
 
 /// Where a packet is.

@@ -1,18 +1,21 @@
 //! A switch with its buffer and a spare place.
 
-ghost use Rattle.std.specs.Prelude.{◌≡◌, ◌<◌, ◌≤◌, true, length, map, IfOk, IfSome, IsOk, OnOk, OnErr};
+ghost use Rattle.std.specs.Prelude.{◌≡◌, ◌≤◌, true, length, IfOk, IfSome, IsOk, OnOk};
 ghost use Rattle.std.specs.Option.{option_map, option_and_then};
 ghost use Rattle.std.proofs.Props.{props};
-ghost use Rattle.table_entries.specs.View.{entry_of, given_act};
-ghost use Rattle.p4_tables.specs.State.{replaced};
-ghost use Rattle.p4_tables.specs.Faults.{IsReplaceable};
+ghost use Rattle.indus_values.specs.View.{contents_of};
+ghost use Rattle.p4_meaning.specs.Parts.{parts_of};
+ghost use Rattle.p4_tables.specs.Programs.{shapes};
+ghost use Rattle.control_maps.specs.Numbers.{IsMapOf, IsSettable, set_in};
 ghost use Rattle.p4_machine.specs.Buffers.{IsMadeFor, IsPlaceFor, is_some_packet};
+ghost use Rattle.set_contents.specs.Maps.{map_of};
+ghost use Rattle.set_contents.specs.Others.{OthersHold};
 ghost use Rattle.path_runner.specs.Spares.{HasRoom, IsSpareFor};
 
 use crate::place::Seat;
-use bit_values::Bits;
+use indus_values::ControlValue;
 use p4_machine::{Entered, FrameBuf, Pass, Passed};
-use p4_tables::Entry;
+use set_contents::{Mapped, set_variable};
 use std::alloc::{AllocError, Global};
 
 /// A switch, a buffer for its passages, and a place that a packet left, for a next one.
@@ -21,7 +24,7 @@ pub(crate) struct Station<P: Pass + Drop> {
     pub buf: FrameBuf,
     pub spare: Option<Seat<P>>,
     ghost fits: { IsMadeFor (P.program switch) buf.needs },
-    ghost spare_fits: { IfSome spare (λ s. IsSpareFor (P.program switch) (P.place s.place)) } by { Prim.hlevel props },
+    ghost spare_fits: { IfSome spare (λ s. IsSpareFor (P.program switch) (P.place s.place.value)) } by { Prim.hlevel props },
 }
 
 impl<P: Pass + Drop> Drop for Station<P> {
@@ -65,14 +68,14 @@ impl<P: Pass + Drop> Station<P> {
     /// A place with room for so many bytes of rest: the spare one where it has it, else a new one.
     fn seat(&mut self, alloc: Global, bytes: u32) -> Result<Seat<P>, AllocError>
         ensures station { station_in self.new ≡ station_in self.old }
-        ensures made { IfOk result (λ s. IsSpareFor (station_in self.old).program (P.place s.place)) }
-        ensures room { IfOk result (λ s. bytes ≤ (P.place s.place).room) }
+        ensures made { IfOk result (λ s. IsSpareFor (station_in self.old).program (P.place s.place.value)) }
+        ensures room { IfOk result (λ s. bytes ≤ (P.place s.place.value).room) }
         ensures spare { HasRoom self.old.spare bytes → IsOk result }
     {
         match self.spare.take() {
             Some(spare) if spare.room >= bytes => Ok(spare),
             _ => Ok(Seat {
-                place: self.switch.room(alloc, bytes)?,
+                place: Box::new(alloc, self.switch.room(alloc, bytes)?)?,
                 room: bytes,
             }),
         }
@@ -80,7 +83,7 @@ impl<P: Pass + Drop> Station<P> {
 
     /// A place that a packet left is spare, unless a larger one is.
     fn give_back(&mut self, seat: Seat<P>)
-        requires { IsSpareFor (station_in self.old).program (P.place seat.place) }
+        requires { IsSpareFor (station_in self.old).program (P.place seat.place.value) }
         ensures station { station_in self.new ≡ station_in self.old }
         ensures spare { HasRoom self.new.spare seat.room }
         ensures frame { self.new.buf.frame ≡ self.old.buf.frame }
@@ -108,10 +111,10 @@ impl<P: Pass + Drop> Station<P> {
         ensures tables { (station_in self.new).tables ≡ (station_in self.old).tables }
         ensures cells { OnOk result ((station_in self.new).cells
             ≡ (entry_at (station_in self.old) port frame.now).registers) }
-        ensures queued { IfOk result (λ q. option_and_then (λ s. (P.place s.place).waiting) q
+        ensures queued { IfOk result (λ q. option_and_then (λ s. (P.place s.place.value).waiting) q
             ≡ (entry_at (station_in self.old) port frame.now).queued) }
-        ensures full { IfOk result (λ q. IfSome q (λ s. is_some_packet (P.place s.place).waiting ≡ true)) }
-        ensures made { IfOk result (λ q. IfSome q (λ s. IsPlaceFor (station_in self.new).program (P.place s.place))) }
+        ensures full { IfOk result (λ q. IfSome q (λ s. is_some_packet (P.place s.place.value).waiting ≡ true)) }
+        ensures made { IfOk result (λ q. IfSome q (λ s. IsPlaceFor (station_in self.new).program (P.place s.place.value))) }
         ensures digests { OnOk result (self.new.buf.digests
             ≡ (entry_at (station_in self.old) port frame.now).digests) }
     {
@@ -132,15 +135,15 @@ impl<P: Pass + Drop> Station<P> {
     /// out, or `None` where the packet is dropped. The buffer has the digests. The place that the packet
     /// leaves stays with the switch.
     pub fn leave(&mut self, alloc: Global, mut queued: Seat<P>) -> Result<Option<u16>, AllocError>
-        requires { IsPlaceFor (station_in self.old).program (P.place queued.place) }
+        requires { IsPlaceFor (station_in self.old).program (P.place queued.place.value) }
         ensures program { (station_in self.new).program ≡ (station_in self.old).program }
         ensures tables { (station_in self.new).tables ≡ (station_in self.old).tables }
         ensures cells { OnOk result ((station_in self.new).cells
-            ≡ (exit_at (station_in self.old) (P.place queued.place).waiting).registers) }
+            ≡ (exit_at (station_in self.old) (P.place queued.place.value).waiting).registers) }
         ensures out { IfOk result (λ port. option_map (λ p. (p, self.new.buf.frame)) port
-            ≡ (exit_at (station_in self.old) (P.place queued.place).waiting).out) }
+            ≡ (exit_at (station_in self.old) (P.place queued.place.value).waiting).out) }
         ensures digests { OnOk result (self.new.buf.digests
-            ≡ (exit_at (station_in self.old) (P.place queued.place).waiting).digests) }
+            ≡ (exit_at (station_in self.old) (P.place queued.place.value).waiting).digests) }
         ensures spare { OnOk result (HasRoom self.new.spare queued.room) }
     {
         let passed = self.switch.leave(alloc, &mut queued.place, &mut self.buf)?;
@@ -151,22 +154,24 @@ impl<P: Pass + Drop> Station<P> {
         }
     }
 
-    /// A table of the switch holds these entries, and, where one is given, this default.
-    pub fn set_table(
+    /// New contents of a control variable go into each of its tables.
+    pub fn set(
         &mut self,
         alloc: Global,
-        table: u32,
-        list: Vec<Entry>,
-        default: Option<(u32, Vec<Bits>)>,
+        map: &[Mapped],
+        variable: u32,
+        contents: &ControlValue,
     ) -> Result<(), AllocError>
-        requires there { table < length (station_in self.old).tables }
-        requires accepted { IsReplaceable (station_in self.old).tables table (map entry_of list.items) (option_map given_act default) }
+        requires mapped { IsMapOf (parts_of (station_in self.old).program) (station_in self.old).tables (map_of map.now) }
+        requires settable { IsSettable (station_in self.old).tables (map_of map.now) variable (contents_of contents.now) }
         ensures program { (station_in self.new).program ≡ (station_in self.old).program }
         ensures cells { (station_in self.new).cells ≡ (station_in self.old).cells }
+        ensures mapped { IsMapOf (parts_of (station_in self.old).program) (station_in self.new).tables (map_of map.now) }
+        ensures shapes { shapes (station_in self.new).tables ≡ shapes (station_in self.old).tables }
+        ensures others { OthersHold (map_of map.now) variable (station_in self.old).tables (station_in self.new).tables }
         ensures tables { OnOk result ((station_in self.new).tables
-            ≡ replaced (station_in self.old).tables table (map entry_of list.items) (option_map given_act default)) }
-        ensures kept { OnErr result ((station_in self.new).tables ≡ (station_in self.old).tables) }
+            ≡ set_in (map_of map.now) variable (contents_of contents.now) (station_in self.old).tables) }
     {
-        self.switch.set_table(alloc, table, list, default)
+        set_variable(alloc, &mut self.switch, map, variable, contents)
     }
 }

@@ -2,7 +2,7 @@ use Rattle.std.proofs.Common.{List, length, map, set, refl, sym, ap, ◌∙◌, 
 use Rattle.std.proofs.lemmas.List.{map-set, length-set, length-map}
 use Rattle.p4_tree.specs.Tree.{Program}
 use Rattle.p4_tables.specs.Programs.{shapes}
-use Rattle.path_runner.specs.Maps.{maps_of}
+use Rattle.set_contents.specs.Maps.{maps_of}
 use Rattle.path_runner.specs.Places.{place_in, limits_of}
 use Rattle.path_runner.specs.Nets.{Traffic}
 use Rattle.path_runner.specs.Sound.{AreMade, is_within}

@@ -4,7 +4,7 @@ use Rattle.network_run.specs.Network.{Over, Place}
 use Rattle.network_file.specs.Wiring.{wiring_of}
 use Rattle.p4_meaning.specs.Pass.{Queued}
 use Rattle.p4_tables.specs.Programs.{shapes}
-use Rattle.path_runner.specs.Maps.{maps_of}
+use Rattle.set_contents.specs.Maps.{maps_of}
 use Rattle.path_runner.specs.Places.{place_in, limits_of}
 use Rattle.path_runner.specs.Sound.{AreMade, is_within}
 use Rattle.path_runner.specs.Switches.{exit_at}
@@ -28,14 +28,14 @@ pub leave-requires-clause-counted : goal.leave-requires-clause-counted
 leave-requires-clause-counted g c =
     let n = c.args.self.now in
     let k = c.in-Some.parked in
-    let known = waiting_known (length n.network.names) (limits_of n.limits) (map place_in n.places.items) c.args.packet c.requires n.within k.switch k.port k.passed (g.P.Pass.place k.queued.place).waiting k.full c.in-Some.ensures.taken.1 in
+    let known = waiting_known (length n.network.names) (limits_of n.limits) (map place_in n.places.items) c.args.packet c.requires n.within k.switch k.port k.passed (g.P.Pass.place k.queued.place.value).waiting k.full c.in-Some.ensures.taken.1 in
     omega (arith, known.going, n.counted)
 
 pub leave-requires-clause-made : goal.leave-requires-clause-made
 leave-requires-clause-made g c =
     let n = c.args.self.now in
     let k = c.in-Some.parked in
-    let known = waiting_known (length n.network.names) (limits_of n.limits) (map place_in n.places.items) c.args.packet c.requires n.within k.switch k.port k.passed (g.P.Pass.place k.queued.place).waiting k.full c.in-Some.ensures.taken.1 in
+    let known = waiting_known (length n.network.names) (limits_of n.limits) (map place_in n.places.items) c.args.packet c.requires n.within k.switch k.port k.passed (g.P.Pass.place k.queued.place.value).waiting k.full c.in-Some.ensures.taken.1 in
     let x = c.index_mut-station.result.now in
     let unit = read_item n.stations.items (length n.stations.items) k.switch x refl (omega (arith, known.switch_there, n.switches)) c.index_mut-station.ensures.value in
     n.made c.args.packet k (g.P.Pass.program x.switch) c.in-Some.ensures.waited (view_there (λ s. g.P.Pass.program s.switch) n.stations.items k.switch x unit)
@@ -45,12 +45,12 @@ invariant_of-self-in-Break-1 g c =
     let n = c.args.self.now in
     let k = c.in-Some.parked in
     let ps = map place_in n.places.items in
-    let known = waiting_known (length n.network.names) (limits_of n.limits) ps c.args.packet c.requires n.within k.switch k.port k.passed (g.P.Pass.place k.queued.place).waiting k.full c.in-Some.ensures.taken.1 in
+    let known = waiting_known (length n.network.names) (limits_of n.limits) ps c.args.packet c.requires n.within k.switch k.port k.passed (g.P.Pass.place k.queued.place.value).waiting k.full c.in-Some.ensures.taken.1 in
     let x = c.index_mut-station.result.now in
     let unit = read_item n.stations.items (length n.stations.items) k.switch x refl (omega (arith, known.switch_there, n.switches)) c.index_mut-station.ensures.value in
     let programs = map (λ s. g.P.Pass.program s.switch) n.stations.items in
     let fewer_places : length c.take_parked.new.places.items ≡ length n.places.items = c.in-Some.ensures.length in
-    let fewer = taken_going ps c.args.packet k.switch k.port k.passed 0 (g.P.Pass.place k.queued.place).waiting c.requires k.full c.in-Some.ensures.taken.1 in
+    let fewer = taken_going ps c.args.packet k.switch k.port k.passed 0 (g.P.Pass.place k.queued.place.value).waiting c.requires k.full c.in-Some.ensures.taken.1 in
     record {
       switches = length-set n.stations.items k.switch c.leave.new.station ∙ n.switches;
       lists = n.lists;
@@ -71,7 +71,7 @@ returns-in_err-next-clause-same g c =
     let n = c.args.self.now in
     let k = c.in-Some.parked in
     let ps = map place_in n.places.items in
-    let known = waiting_known (length n.network.names) (limits_of n.limits) ps c.args.packet c.requires n.within k.switch k.port k.passed (g.P.Pass.place k.queued.place).waiting k.full c.in-Some.ensures.taken.1 in
+    let known = waiting_known (length n.network.names) (limits_of n.limits) ps c.args.packet c.requires n.within k.switch k.port k.passed (g.P.Pass.place k.queued.place.value).waiting k.full c.in-Some.ensures.taken.1 in
     let x = c.index_mut-station.result.now in
     let unit = read_item n.stations.items (length n.stations.items) k.switch x refl (omega (arith, known.switch_there, n.switches)) c.index_mut-station.ensures.value in
     record {
@@ -90,7 +90,7 @@ returns-in_err-next-clause-tables g c =
     let n = c.args.self.now in
     let k = c.in-Some.parked in
     let ps = map place_in n.places.items in
-    let known = waiting_known (length n.network.names) (limits_of n.limits) ps c.args.packet c.requires n.within k.switch k.port k.passed (g.P.Pass.place k.queued.place).waiting k.full c.in-Some.ensures.taken.1 in
+    let known = waiting_known (length n.network.names) (limits_of n.limits) ps c.args.packet c.requires n.within k.switch k.port k.passed (g.P.Pass.place k.queued.place.value).waiting k.full c.in-Some.ensures.taken.1 in
     let x = c.index_mut-station.result.now in
     let unit = read_item n.stations.items (length n.stations.items) k.switch x refl (omega (arith, known.switch_there, n.switches)) c.index_mut-station.ensures.value in
     views_same station_in (λ x. x.tables) n.stations.items k.switch x c.leave.new.station unit c.leave.ensures.tables
@@ -100,12 +100,12 @@ invariant_of-self-2 g c =
     let n = c.args.self.now in
     let k = c.in-Some.parked in
     let ps = map place_in n.places.items in
-    let o = (g.P.Pass.place k.queued.place).waiting in
+    let o = (g.P.Pass.place k.queued.place.value).waiting in
     let x = exit_at (station_in c.index_mut-station.result.now) o in
     let fewer_places : length c.take_parked.new.places.items ≡ length n.places.items = c.in-Some.ensures.length in
     let is : place_in c.replace-over.new.dest ≡ (left_departure (wiring_of n.network) (limits_of n.limits) (traffic_in n.traffic) c.args.packet k.switch k.passed x).place = ap place_in c.replace-over.ensures.after ∙ c.in_ok-next.ensures.place in
     let back = put_back c.take_parked.new.places.items n.places.items c.args.packet c.replace-over.new.dest c.in-Some.ensures.taken.0 in
-    let known = waiting_known (length n.network.names) (limits_of n.limits) ps c.args.packet c.requires n.within k.switch k.port k.passed (g.P.Pass.place k.queued.place).waiting k.full c.in-Some.ensures.taken.1 in
+    let known = waiting_known (length n.network.names) (limits_of n.limits) ps c.args.packet c.requires n.within k.switch k.port k.passed (g.P.Pass.place k.queued.place.value).waiting k.full c.in-Some.ensures.taken.1 in
     let u = c.index_mut-station.result.now in
     let unit = read_item n.stations.items (length n.stations.items) k.switch u refl (omega (arith, known.switch_there, n.switches)) c.index_mut-station.ensures.value in
     let programs = map (λ s. g.P.Pass.program s.switch) n.stations.items in
@@ -133,7 +133,7 @@ returns-clause-same g c =
     let n = c.args.self.now in
     let k = c.in-Some.parked in
     let ps = map place_in n.places.items in
-    let known = waiting_known (length n.network.names) (limits_of n.limits) ps c.args.packet c.requires n.within k.switch k.port k.passed (g.P.Pass.place k.queued.place).waiting k.full c.in-Some.ensures.taken.1 in
+    let known = waiting_known (length n.network.names) (limits_of n.limits) ps c.args.packet c.requires n.within k.switch k.port k.passed (g.P.Pass.place k.queued.place.value).waiting k.full c.in-Some.ensures.taken.1 in
     let x = c.index_mut-station.result.now in
     let unit = read_item n.stations.items (length n.stations.items) k.switch x refl (omega (arith, known.switch_there, n.switches)) c.index_mut-station.ensures.value in
     record {
@@ -154,7 +154,7 @@ returns-clause-tables g c =
     let n = c.args.self.now in
     let k = c.in-Some.parked in
     let ps = map place_in n.places.items in
-    let known = waiting_known (length n.network.names) (limits_of n.limits) ps c.args.packet c.requires n.within k.switch k.port k.passed (g.P.Pass.place k.queued.place).waiting k.full c.in-Some.ensures.taken.1 in
+    let known = waiting_known (length n.network.names) (limits_of n.limits) ps c.args.packet c.requires n.within k.switch k.port k.passed (g.P.Pass.place k.queued.place.value).waiting k.full c.in-Some.ensures.taken.1 in
     let x = c.index_mut-station.result.now in
     let unit = read_item n.stations.items (length n.stations.items) k.switch x refl (omega (arith, known.switch_there, n.switches)) c.index_mut-station.ensures.value in
     views_same station_in (λ x. x.tables) n.stations.items k.switch x c.leave.new.station unit c.leave.ensures.tables
@@ -164,10 +164,10 @@ returns-clause-leave g c =
     let n = c.args.self.now in
     let k = c.in-Some.parked in
     let ps = map place_in n.places.items in
-    let known = waiting_known (length n.network.names) (limits_of n.limits) ps c.args.packet c.requires n.within k.switch k.port k.passed (g.P.Pass.place k.queued.place).waiting k.full c.in-Some.ensures.taken.1 in
+    let known = waiting_known (length n.network.names) (limits_of n.limits) ps c.args.packet c.requires n.within k.switch k.port k.passed (g.P.Pass.place k.queued.place.value).waiting k.full c.in-Some.ensures.taken.1 in
     let x = c.index_mut-station.result.now in
     let unit = read_item n.stations.items (length n.stations.items) k.switch x refl (omega (arith, known.switch_there, n.switches)) c.index_mut-station.ensures.value in
-    left_runs (state_of n) c.args.packet k.switch k.port k.passed (g.P.Pass.place k.queued.place).waiting (station_in x) (station_in c.leave.new.station) _ _ _ c.requires k.full c.in-Some.ensures.taken.1
+    left_runs (state_of n) c.args.packet k.switch k.port k.passed (g.P.Pass.place k.queued.place.value).waiting (station_in x) (station_in c.leave.new.station) _ _ _ c.requires k.full c.in-Some.ensures.taken.1
     (view_there station_in n.stations.items k.switch x unit) c.leave.ensures.program c.leave.ensures.tables c.in_ok-next.ensures.cells
     (map-set station_in n.stations.items k.switch c.leave.new.station)
     (put_back c.take_parked.new.places.items n.places.items c.args.packet c.replace-over.new.dest c.in-Some.ensures.taken.0

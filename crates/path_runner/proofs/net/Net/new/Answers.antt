@@ -5,7 +5,7 @@ use Rattle.network_run.specs.World.{first_place}
 use Rattle.path_runner.specs.Conditions.{AreMapped}
 use Rattle.path_runner.specs.Nets.{Switch, Traffic}
 use Rattle.path_runner.specs.Starts.{in_flight}
-use Rattle.path_runner.specs.Maps.{map_of, maps_of}
+use Rattle.set_contents.specs.Maps.{map_of, maps_of}
 use Rattle.path_runner.specs.Packets.{arrival_of}
 use Rattle.path_runner.specs.Switches.{switch_of}
 use Rattle.path_runner.specs.Places.{place_in}

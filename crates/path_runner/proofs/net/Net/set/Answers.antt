@@ -8,7 +8,7 @@ use Rattle.p4_tables.specs.Programs.{shapes}
 use Rattle.indus_values.specs.View.{contents_of}
 use Rattle.network_run.specs.Events.{Set}
 use Rattle.control_maps.specs.Numbers.{Numbered, IsMapOf, IsSettable, set_in}
-use Rattle.path_runner.specs.Maps.{map_of, maps_of}
+use Rattle.set_contents.specs.Maps.{map_of, maps_of}
 use Rattle.path_runner.specs.Nets.{Switch, OthersHold, RunsTo}
 use Rattle.path_runner.specs.Sound.{AreMade}
 use Rattle.path_runner.specs.Views.{state_of, station_in}
@@ -53,7 +53,7 @@ invariant_of-self g c =
     let unit = read_item n.stations.items (length n.stations.items) k x refl there c.index_mut.ensures.value in
     let is : get_or (maps_of n.maps.items) k [] ≡ map_of c.deref.result.now =
     view_at (λ v. map_of v.items) n.maps.items k v [] (read_item n.maps.items (length n.maps.items) k v refl (omega (arith, there, n.switches, n.lists)) c.index.ensures) ∙ ap map_of (sym c.deref.ensures.value) in
-    let y = c.set.new.station in
+    let y = c.set.new.self in
     record {
       switches = length-set n.stations.items k y ∙ n.switches;
       lists = n.lists;
@@ -75,7 +75,7 @@ returns-clause-same g c =
     let v = c.index.result.now in
     let there : k < length n.stations.items = omega (arith, c.requires.0, length-map n.stations.items station_in) in
     let unit = read_item n.stations.items (length n.stations.items) k x refl there c.index_mut.ensures.value in
-    let y = c.set.new.station in
+    let y = c.set.new.self in
     record {
       kept = record {
         network = refl;
@@ -97,7 +97,7 @@ returns-clause-others g c =
     let unit = read_item n.stations.items (length n.stations.items) k x refl there c.index_mut.ensures.value in
     let is : get_or (maps_of n.maps.items) k [] ≡ map_of c.deref.result.now =
     view_at (λ v. map_of v.items) n.maps.items k v [] (read_item n.maps.items (length n.maps.items) k v refl (omega (arith, there, n.switches, n.lists)) c.index.ensures) ∙ ap map_of (sym c.deref.ensures.value) in
-    let y = c.set.new.station in
+    let y = c.set.new.self in
     others_stay station_in n.stations.items k x y unit c.args.variable (get_or (maps_of n.maps.items) k [])
     (subst (λ (ns : List Numbered). OthersHold ns c.args.variable (station_in x).tables (station_in y).tables) (sym is) c.set.ensures.others)
 
@@ -111,7 +111,7 @@ returns-clause-tables g c =
     let unit = read_item n.stations.items (length n.stations.items) k x refl there c.index_mut.ensures.value in
     let is : get_or (maps_of n.maps.items) k [] ≡ map_of c.deref.result.now =
     view_at (λ v. map_of v.items) n.maps.items k v [] (read_item n.maps.items (length n.maps.items) k v refl (omega (arith, there, n.switches, n.lists)) c.index.ensures) ∙ ap map_of (sym c.deref.ensures.value) in
-    let y = c.set.new.station in
+    let y = c.set.new.self in
     on_ok_weaker c.set.result
     (λ now. tables_then station_in n.stations.items k x y unit c.args.variable (get_or (maps_of n.maps.items) k []) (contents_of c.args.contents.now)
     (now ∙ ap (λ (ns : List Numbered). set_in ns c.args.variable (contents_of c.args.contents.now) (station_in x).tables) (sym is)))
@@ -127,7 +127,7 @@ returns-clause-set g c =
     let unit = read_item n.stations.items (length n.stations.items) k x refl there c.index_mut.ensures.value in
     let is : get_or (maps_of n.maps.items) k [] ≡ map_of c.deref.result.now =
     view_at (λ v. map_of v.items) n.maps.items k v [] (read_item n.maps.items (length n.maps.items) k v refl (omega (arith, there, n.switches, n.lists)) c.index.ensures) ∙ ap map_of (sym c.deref.ensures.value) in
-    let y = c.set.new.station in
+    let y = c.set.new.self in
     let s = state_of n in
     let ns = get_or (maps_of n.maps.items) k [] in
     let value = contents_of c.args.contents.now in
