@@ -48,7 +48,7 @@ pub(crate) fn place_in(main: &[Name], x: &Name) -> Place
 fn copy_stmts(alloc: Global, list: &[Stmt]) -> Result<Vec<Stmt>, AllocError>
     ensures { IfOk result (λ v. stmts_of v.items ≡ stmts_of list.now) }
 {
-    let mut copies = Vec::new(alloc);
+    let mut copies = Vec::with_capacity(alloc, list.len())?;
     for s in list {
         copies.push(s.copy(alloc)?)?;
     }

@@ -104,7 +104,7 @@ pub(crate) fn exprs_with(
 ) -> Result<Vec<Expr>, AllocError>
     ensures { IfOk result (λ v. map expr_of v.items ≡ map (expr_with (roots_in roots.now)) (map expr_of list.now)) }
 {
-    let mut copies = Vec::new(alloc);
+    let mut copies = Vec::with_capacity(alloc, list.len())?;
     for e in list {
         copies.push(expr_with(alloc, roots, e)?)?;
     }

@@ -39,7 +39,7 @@ fn keys_with(
 ) -> Result<Vec<(Expr, Name)>, AllocError>
     ensures { IfOk result (λ v. map key_of v.items ≡ map (key_with (roots_in roots.now)) (map key_of keys.now)) }
 {
-    let mut copies = Vec::new(alloc);
+    let mut copies = Vec::with_capacity(alloc, keys.len())?;
     for key in keys {
         copies.push(key_with(alloc, roots, key)?)?;
     }

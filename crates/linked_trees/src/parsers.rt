@@ -62,7 +62,7 @@ fn keyset_with(alloc: Global, roots: &Roots, k: &Keyset) -> Result<Keyset, Alloc
 fn keysets_with(alloc: Global, roots: &Roots, list: &[Keyset]) -> Result<Vec<Keyset>, AllocError>
     ensures { IfOk result (λ v. map keyset_of v.items ≡ map (keyset_with (roots_in roots.now)) (map keyset_of list.now)) }
 {
-    let mut copies = Vec::new(alloc);
+    let mut copies = Vec::with_capacity(alloc, list.len())?;
     for k in list {
         copies.push(keyset_with(alloc, roots, k)?)?;
     }
@@ -89,7 +89,7 @@ fn own_cases(
     ensures { IfOk result (λ v. map case_of v.items
         ≡ map renamed_case (map (case_with (roots_in roots.now)) (map case_of list.now))) }
 {
-    let mut copies = Vec::new(alloc);
+    let mut copies = Vec::with_capacity(alloc, list.len())?;
     for case in list {
         copies.push(own_case(alloc, roots, case)?)?;
     }
@@ -140,7 +140,7 @@ fn parse_with(alloc: Global, roots: &Roots, s: &Stmt) -> Result<Stmt, AllocError
 fn body_with(alloc: Global, roots: &Roots, list: &[Stmt]) -> Result<Vec<Stmt>, AllocError>
     ensures { IfOk result (λ v. map stmt_of v.items ≡ map (parse_with (roots_in roots.now)) (map stmt_of list.now)) }
 {
-    let mut copies = Vec::new(alloc);
+    let mut copies = Vec::with_capacity(alloc, list.len())?;
     for s in list {
         copies.push(parse_with(alloc, roots, s)?)?;
     }

@@ -26,7 +26,7 @@ fn arg_with(alloc: Global, roots: &Roots, a: &Arg) -> Result<Arg, AllocError>
 fn args_with(alloc: Global, roots: &Roots, list: &[Arg]) -> Result<Vec<Arg>, AllocError>
     ensures { IfOk result (λ v. map arg_of v.items ≡ map (arg_with (roots_in roots.now)) (map arg_of list.now)) }
 {
-    let mut copies = Vec::new(alloc);
+    let mut copies = Vec::with_capacity(alloc, list.len())?;
     for a in list {
         copies.push(arg_with(alloc, roots, a)?)?;
     }
@@ -139,7 +139,7 @@ pub(crate) fn stmts_with(
 ) -> Result<Vec<Stmt>, AllocError>
     ensures { IfOk result (λ v. stmts_of v.items ≡ stmts_with (roots_in roots.now) (stmts_of list.now)) }
 {
-    let mut copies = Vec::new(alloc);
+    let mut copies = Vec::with_capacity(alloc, list.len())?;
     for s in list {
         copies.push(stmt_with(alloc, roots, s)?)?;
     }

@@ -29,7 +29,7 @@ impl Param {
 pub fn copy_params(alloc: Global, list: &[Param]) -> Result<Vec<Param>, AllocError>
     ensures { IfOk result (λ v. v.items ≡ list.now) }
 {
-    let mut copies = Vec::new(alloc);
+    let mut copies = Vec::with_capacity(alloc, list.len())?;
     for p in list {
         copies.push(p.copy(alloc)?)?;
     }
@@ -54,7 +54,7 @@ impl Register {
 pub fn copy_fields(alloc: Global, list: &[(PTy, Name)]) -> Result<Vec<(PTy, Name)>, AllocError>
     ensures { IfOk result (λ v. v.items ≡ list.now) }
 {
-    let mut copies = Vec::new(alloc);
+    let mut copies = Vec::with_capacity(alloc, list.len())?;
     for field in list {
         copies.push(copy_field(alloc, field)?)?;
     }
@@ -95,7 +95,7 @@ fn copy_key(alloc: Global, key: &(Expr, Name)) -> Result<(Expr, Name), AllocErro
 fn copy_keys(alloc: Global, list: &[(Expr, Name)]) -> Result<Vec<(Expr, Name)>, AllocError>
     ensures { IfOk result (λ v. map key_of v.items ≡ map key_of list.now) }
 {
-    let mut copies = Vec::new(alloc);
+    let mut copies = Vec::with_capacity(alloc, list.len())?;
     for key in list {
         copies.push(copy_key(alloc, key)?)?;
     }
@@ -163,7 +163,7 @@ impl Local {
 pub(crate) fn copy_locals(alloc: Global, list: &[Local]) -> Result<Vec<Local>, AllocError>
     ensures { IfOk result (λ v. map local_of v.items ≡ map local_of list.now) }
 {
-    let mut copies = Vec::new(alloc);
+    let mut copies = Vec::with_capacity(alloc, list.len())?;
     for l in list {
         copies.push(l.copy(alloc)?)?;
     }

@@ -24,7 +24,7 @@ impl PTy {
 pub(crate) fn copy_path(alloc: Global, path: &[Name]) -> Result<Vec<Name>, AllocError>
     ensures { IfOk result (λ v. v.items ≡ path.now) }
 {
-    let mut copies = Vec::new(alloc);
+    let mut copies = Vec::with_capacity(alloc, path.len())?;
     for name in path {
         copies.push(name.copy(alloc)?)?;
     }
@@ -82,7 +82,7 @@ fn copy_boxed(alloc: Global, e: &Box<Expr>) -> Result<Box<Expr>, AllocError>
 pub(crate) fn copy_exprs(alloc: Global, list: &[Expr]) -> Result<Vec<Expr>, AllocError>
     ensures { IfOk result (λ v. map expr_of v.items ≡ map expr_of list.now) }
 {
-    let mut copies = Vec::new(alloc);
+    let mut copies = Vec::with_capacity(alloc, list.len())?;
     for e in list {
         copies.push(e.copy(alloc)?)?;
     }

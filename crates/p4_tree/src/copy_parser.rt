@@ -30,7 +30,7 @@ impl Keyset {
 fn copy_keysets(alloc: Global, list: &[Keyset]) -> Result<Vec<Keyset>, AllocError>
     ensures { IfOk result (λ v. map keyset_of v.items ≡ map keyset_of list.now) }
 {
-    let mut copies = Vec::new(alloc);
+    let mut copies = Vec::with_capacity(alloc, list.len())?;
     for k in list {
         copies.push(k.copy(alloc)?)?;
     }
@@ -51,7 +51,7 @@ fn copy_cases(
 ) -> Result<Vec<(Vec<Keyset>, Name)>, AllocError>
     ensures { IfOk result (λ v. map case_of v.items ≡ map case_of list.now) }
 {
-    let mut copies = Vec::new(alloc);
+    let mut copies = Vec::with_capacity(alloc, list.len())?;
     for c in list {
         copies.push(copy_case(alloc, c)?)?;
     }
@@ -92,7 +92,7 @@ impl ParserState {
 fn copy_states(alloc: Global, list: &[ParserState]) -> Result<Vec<ParserState>, AllocError>
     ensures { IfOk result (λ v. map state_of v.items ≡ map state_of list.now) }
 {
-    let mut copies = Vec::new(alloc);
+    let mut copies = Vec::with_capacity(alloc, list.len())?;
     for s in list {
         copies.push(s.copy(alloc)?)?;
     }

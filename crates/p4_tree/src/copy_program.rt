@@ -61,7 +61,7 @@ impl Top {
 fn copy_tops(alloc: Global, list: &[Top]) -> Result<Vec<Top>, AllocError>
     ensures { IfOk result (λ v. map top_of v.items ≡ map top_of list.now) }
 {
-    let mut copies = Vec::new(alloc);
+    let mut copies = Vec::with_capacity(alloc, list.len())?;
     for t in list {
         copies.push(t.copy(alloc)?)?;
     }

@@ -22,7 +22,7 @@ impl Arg {
 fn copy_args(alloc: Global, args: &[Arg]) -> Result<Vec<Arg>, AllocError>
     ensures { IfOk result (λ v. map arg_of v.items ≡ map arg_of args.now) }
 {
-    let mut copies = Vec::new(alloc);
+    let mut copies = Vec::with_capacity(alloc, args.len())?;
     for a in args {
         copies.push(a.copy(alloc)?)?;
     }
@@ -83,7 +83,7 @@ fn copy_else(alloc: Global, other: &Option<Box<Stmt>>) -> Result<Option<Box<Stmt
 pub(crate) fn copy_stmts(alloc: Global, list: &[Stmt]) -> Result<Vec<Stmt>, AllocError>
     ensures { IfOk result (λ v. map stmt_of v.items ≡ map stmt_of list.now) }
 {
-    let mut copies = Vec::new(alloc);
+    let mut copies = Vec::with_capacity(alloc, list.len())?;
     for s in list {
         copies.push(s.copy(alloc)?)?;
     }

@@ -39,7 +39,7 @@ pub fn parent(path: &[Name]) -> &[Name]
 pub fn copy_path(alloc: Global, path: &[Name]) -> Result<Vec<Name>, AllocError>
     ensures { IfOk result (λ v. v.items ≡ path.now) }
 {
-    let mut copies = Vec::new(alloc);
+    let mut copies = Vec::with_capacity(alloc, path.len())?;
     for name in path {
         copies.push(name.copy(alloc)?)?;
     }

@@ -18,7 +18,7 @@ fn exprs<R: Offers>(alloc: Global, rules: &R, list: &[Expr]) -> Result<Vec<Expr>
     ensures { IfOk result (λ v. AllZip (IsSimplified (R.Answers rules.now))
         (map expr_of list.now) (map expr_of v.items)) }
 {
-    let mut made = Vec::new(alloc);
+    let mut made = Vec::with_capacity(alloc, list.len())?;
     for e in list {
         made.push(simplified(alloc, rules, e)?)?;
     }
@@ -100,7 +100,7 @@ pub(crate) fn args<R: Offers>(
     ensures { IfOk result (λ v. ArgsRewritten (IsSimplified (R.Answers rules.now))
         (is_value callee.now) 0 (map arg_of list.now) (map arg_of v.items)) }
 {
-    let mut made = Vec::new(alloc);
+    let mut made = Vec::with_capacity(alloc, list.len())?;
     for (number, a) in list.iter().enumerate() {
         made.push(arg(alloc, rules, is_value(callee, number), a)?)?;
     }

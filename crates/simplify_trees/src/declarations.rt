@@ -42,7 +42,7 @@ fn keys<R: Offers>(
     ensures { IfOk result (λ v. AllZip (KeyRewritten (IsSimplified (R.Answers rules.now)))
         (map key_of list.now) (map key_of v.items)) }
 {
-    let mut made = Vec::new(alloc);
+    let mut made = Vec::with_capacity(alloc, list.len())?;
     for k in list {
         made.push(key(alloc, rules, k)?)?;
     }
@@ -82,7 +82,7 @@ fn locals<R: Offers>(alloc: Global, rules: &R, list: &[Local]) -> Result<Vec<Loc
     ensures { IfOk result (λ v. AllZip (LocalRewritten (IsSimplified (R.Answers rules.now)))
         (map local_of list.now) (map local_of v.items)) }
 {
-    let mut made = Vec::new(alloc);
+    let mut made = Vec::with_capacity(alloc, list.len())?;
     for l in list {
         made.push(local(alloc, rules, l)?)?;
     }

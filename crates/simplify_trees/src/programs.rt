@@ -33,7 +33,7 @@ fn tops<R: Offers>(alloc: Global, rules: &R, list: &[Top]) -> Result<Vec<Top>, A
     ensures { IfOk result (λ v. AllZip (TopRewritten (IsSimplified (R.Answers rules.now)))
         (map top_of list.now) (map top_of v.items)) }
 {
-    let mut made = Vec::new(alloc);
+    let mut made = Vec::with_capacity(alloc, list.len())?;
     for t in list {
         made.push(top(alloc, rules, t)?)?;
     }

@@ -145,7 +145,7 @@ pub(crate) fn stmts<R: Offers>(
     ensures { IfOk result (λ v. BlockRewritten (IsSimplified (R.Answers rules.now))
         (stmts_of list.now) (stmts_of v.items)) }
 {
-    let mut made = Vec::new(alloc);
+    let mut made = Vec::with_capacity(alloc, list.len())?;
     for s in list {
         made.push(stmt(alloc, rules, s)?)?;
     }

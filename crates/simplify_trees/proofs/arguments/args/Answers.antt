@@ -7,7 +7,7 @@ use Rattle.simplify_trees.proofs.ArgumentLists.{none_yet, one_arg_more, all_args
 use Rattle.simplify_trees.proofs.arguments.args.Goals as goal
 
 pub loop-number-init : goal.loop-number-init
-loop-number-init g c = none_yet (IsSimplified (g.R.Offers.Answers c.args.rules.now)) (is_value c.args.callee.now) c.new-made.result.items c.new-made.ensures.items
+loop-number-init g c = none_yet (IsSimplified (g.R.Offers.Answers c.args.rules.now)) (is_value c.args.callee.now) c.in_ok-made.made.items c.in_ok-made.ensures.items
 
 pub loop-number-preserved : goal.loop-number-preserved
 loop-number-preserved g c =
