@@ -7,9 +7,10 @@
 //! share it with its code: `new` makes the first of them, and `another` each further one.
 //!
 //! A program that has no code over slots (`has_code` of `slot_programs`), whose code is not known to fit
-//! a buffer (`IsSlotPlan`), or that has more than 512 paths, actions or tables, or more than 64 registers, runs on
-//! the plain machine of `p4_machine` in a `SlotSwitch`: there a passage takes memory. No law says yet which
-//! programs these are.
+//! a buffer (`IsSlotPlan`), that has more than 512 paths, actions or tables, or more than 64 registers, or whose
+//! code would be made of more than 262,144 nodes of trees, where an action counts anew at each call and at each
+//! application of a table that may run it, runs on the plain machine of `p4_machine` in a `SlotSwitch`: there a
+//! passage takes memory. No law says yet which programs these are.
 //!
 //! Follows: P4_16 Language Specification and v1model, this project's subset.
 #![tactic(auto)]
@@ -22,6 +23,7 @@ mod machine;
 mod place;
 mod plan;
 mod room;
+mod size;
 mod switch;
 
 pub use bench::SlotBench;

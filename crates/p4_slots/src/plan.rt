@@ -10,6 +10,7 @@ ghost use Rattle.slot_passages.specs.Codes.{control_of, program_of};
 ghost use Rattle.slot_passages.specs.Room.{most_digests};
 ghost use Rattle.p4_slots.specs.Plans.{FitsIn, IsCoded, IsPlanned, IsSlotPlan, digests_in};
 
+use crate::size::is_small;
 use p4_parts::{Parts, parts_of};
 use p4_types::TypedProgram;
 use slot_controls::most_digests;
@@ -102,11 +103,11 @@ fn has_few_names(p: &Parts) -> bool {
         && p.registers.len() <= MOST_REGISTERS
 }
 
-/// The code of a program, where it has one, and few names.
+/// The code of a program, where it has one, few names, and code that is not too much.
 fn code_of(alloc: Global, p: &Parts) -> Result<Option<Coded>, AllocError>
     ensures { IfOk result (λ c. IfSome c (IsCoded (parts_in p.now))) }
 {
-    if !has_few_names(p) {
+    if !has_few_names(p) || !is_small(alloc, p)? {
         return Ok(None);
     }
     match program_code(alloc, p) {

@@ -1,10 +1,12 @@
 -- Calls as the code has them, and statements with steps one after the other.
-use Rattle.std.proofs.Common.{◌≡◌, ℕ, ◌+◌, ◌-◌, ◌<◌, ◌≤◌, length, take, drop, map, get_or, List, [], ◌∷◌, Bool, Option, Some, refl, sym, ap, ◌∙◌, subst, arith}
+use Rattle.std.proofs.Common.{◌≡◌, ℕ, ◌+◌, ◌-◌, ◌<◌, ◌≤◌, length, take, drop, map, get_or, List, [], ◌∷◌, Bool, true, ◌&&◌, is_some, Option, Some, refl, sym, ap, ◌∙◌, subst, arith}
+use Rattle.std.proofs.lemmas.Bool.{and_from}
 use Rattle.std.proofs.lemmas.List.{take_rest}
 use Rattle.std.specs.Option.{option_and_then}
 use Rattle.std.specs.Global.{Vec}
-use Rattle.p4_tree.specs.Tree.{Expr, num, flag, path, valid, applied, error_name, negation, inversion, opposite, binary, conditional, slice, cast, Arg, one, many}
-use Rattle.p4_meaning.specs.Statements.{idle, sum_of}
+use Rattle.p4_tree.specs.Tree.{Stmt, MaybeStmt, choice, Expr, num, flag, path, valid, applied, error_name, negation, inversion, opposite, binary, conditional, slice, cast, Arg, one, many}
+use Rattle.p4_meaning.specs.Statements.{application, idle, sum_of}
+use Rattle.slot_statements.specs.Known.{only_if}
 use Rattle.p4_tree.specs.View.{arg_of, expr_of, stmt_of, stmts_of}
 use Rattle.p4_tree.specs.declared.statement.Arg as code_arg
 use Rattle.p4_tree.specs.declared.statement.Arg.TheVariants as arg
@@ -12,17 +14,26 @@ use Rattle.p4_tree.specs.declared.statement.Expr as code_expr
 use Rattle.p4_tree.specs.declared.statement.Stmt as code_stmt
 use Rattle.slot_terms.specs.Places.{Places}
 use Rattle.slot_statements.proofs.TreeLemmas.{drop_one, two}
-use Rattle.slot_controls.specs.Callees.{Callees}
 use Rattle.slot_control_codes.specs.Acts.{sum_at, sum_behind}
-use Rattle.slot_control_codes.specs.Known.{steps_behind, steps_behind_all}
+use Rattle.slot_control_codes.specs.Known.{KnownCalls, can_test, has_step_else, steps_behind, steps_behind_all}
 
 -- one statement more has a step
 pub known_more :
-    (k : Callees) (m n : Places) (o : Option Places) (list : List code_stmt.Stmt) (i : ℕ) (x : code_stmt.Stmt) → i < length list → x ≡ get_or list i x → steps_behind k (stmt_of x) m ≡ Some n → steps_behind_all k (stmts_of (drop i list)) m ≡ o
+    (k : KnownCalls) (m n : Places) (o : Option Places) (list : List code_stmt.Stmt) (i : ℕ) (x : code_stmt.Stmt) → i < length list → x ≡ get_or list i x → steps_behind k (stmt_of x) m ≡ Some n → steps_behind_all k (stmts_of (drop i list)) m ≡ o
     → steps_behind_all k (stmts_of (drop (i + 1) list)) n ≡ o
 known_more k m n o list i x lt is known all =
     let e : steps_behind_all k (stmts_of (x ∷ drop (i + 1) list)) m ≡ o = subst (λ xs. steps_behind_all k (stmts_of xs) m ≡ o) (drop_one list i x lt is) all in
     sym (ap (option_and_then (steps_behind_all k (stmts_of (drop (i + 1) list)))) known) ∙ e
+
+-- an `if` has a step where its test and its branches have; the places behind each are those before
+pub choice_known :
+    (k : KnownCalls) (at : ℕ) (e : Expr) (st : Stmt) (other : MaybeStmt) (m n q z : Places) → can_test k (application e) e m ≡ true → n ≡ m → is_some (steps_behind k st n) ≡ true → q ≡ n → has_step_else k other q ≡ true → z ≡ q
+    → steps_behind k (choice at e st other) m ≡ Some z
+choice_known k at e st other m n q z test first this second that third =
+    let a : is_some (steps_behind k st m) ≡ true = subst (λ p. is_some (steps_behind k st p) ≡ true) first this in
+    let b : has_step_else k other m ≡ true = subst (λ p. has_step_else k other p ≡ true) (second ∙ first) that in
+    ap (λ t. only_if t m) (and_from (can_test k (application e) e m) (is_some (steps_behind k st m) && has_step_else k other m) test (and_from (is_some (steps_behind k st m)) (has_step_else k other m) a b))
+    ∙ ap Some (sym (third ∙ second ∙ first))
 
 -- ---- checksum calls, argument by argument
 

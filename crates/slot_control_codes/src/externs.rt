@@ -11,12 +11,11 @@ ghost use Rattle.slot_terms.specs.declared.fault.Fault.TheVariants.{Unknown};
 ghost use Rattle.slot_statements.specs.Known.{is_known_target};
 ghost use Rattle.slot_controls.specs.Steps.{most_told, reads, step_of, target_of, tells, writes};
 ghost use Rattle.slot_controls.specs.StepRuns.{DoesAct, MeanAll, target_at};
-ghost use Rattle.slot_control_codes.specs.Callees.{callees_of};
 ghost use Rattle.slot_control_codes.specs.Found.{IsTargetOf};
 ghost use Rattle.slot_control_codes.specs.Known.{are_known};
 
 use crate::acts::skip_step;
-use crate::callees::{Callees, register_number, register_width};
+use crate::callees::{CallSteps, register_number, register_width};
 use bit_values::sound_width;
 use lex_text::Name;
 use p4_parts::is_assignable;
@@ -42,7 +41,7 @@ pub fn target_in(places: &Places, path: &[Name]) -> Result<Target, Fault>
     ensures at { IfOk result (λ t. IsTargetOf (places_of places.now) path.now (target_of t)) }
     ensures blames { IfErr result (λ f. f ≡ Unknown → is_some (sight.place_at (places_of places.now).rows path.now) ≡ false) }
 {
-    match place_at(&places.rows, path) {
+    match place_at(places, path) {
         None => Err(Fault::Unknown),
         Some(row) => Ok(target_at(row)),
     }
@@ -92,24 +91,25 @@ fn tell_node(receiver: u32, values: Vec<Typed>) -> Step
 }
 
 /// The step of a register's read. Into what no statement may write it does nothing.
-pub fn read_step(
+pub fn read_step<K: CallSteps>(
     alloc: Global,
     places: &Places,
-    k: &Callees<'_>,
+    k: &K,
     x: &str,
     target: &[Name],
     index: &Expr,
 ) -> Result<Step, Fault>
     requires { IsLaid (places_of places.now) }
     ensures known { OnOk result (is_known_target (places_of places.now) target.now (expr_of index.now) ≡ true) }
-    ensures does { IfOk result (λ c. DoesAct (callees_of k.now) (places_of places.now) (step_of c) (tree_reads x.now target.now (expr_of index.now))) }
+    ensures does { IfOk result (λ c. DoesAct (K.callees k.now) (places_of places.now) (step_of c) (tree_reads x.now target.now (expr_of index.now))) }
     ensures told { IfOk result (λ c. most_told (step_of c) ≡ 0) }
     ensures blames { IfErr result (λ f. f ≡ Unknown → is_known_target (places_of places.now) target.now (expr_of index.now) ≡ false) }
 {
     if is_assignable(target) {
         let target = target_in(places, target)?;
         let index = typed_term(alloc, places, index, 128)?;
-        let register = register_number(k.registers, x)?;
+        let all = k.registers();
+        let register = register_number(all, x)?;
         Ok(read_node(register, target, index))
     } else {
         Ok(skip_step())
@@ -117,36 +117,37 @@ pub fn read_step(
 }
 
 /// The step of a register's write.
-pub fn write_step(
+pub fn write_step<K: CallSteps>(
     alloc: Global,
     places: &Places,
-    k: &Callees<'_>,
+    k: &K,
     x: &str,
     index: &Expr,
     value: &Expr,
 ) -> Result<Step, Fault>
     ensures known { OnOk result ((is_known (places_of places.now) (expr_of index.now) && is_known (places_of places.now) (expr_of value.now)) ≡ true) }
-    ensures does { IfOk result (λ c. DoesAct (callees_of k.now) (places_of places.now) (step_of c) (tree_writes x.now (expr_of index.now) (expr_of value.now))) }
+    ensures does { IfOk result (λ c. DoesAct (K.callees k.now) (places_of places.now) (step_of c) (tree_writes x.now (expr_of index.now) (expr_of value.now))) }
     ensures told { IfOk result (λ c. most_told (step_of c) ≡ 0) }
     ensures blames { IfErr result (λ f. f ≡ Unknown → (is_known (places_of places.now) (expr_of index.now) && is_known (places_of places.now) (expr_of value.now)) ≡ false) }
 {
-    let width = register_width(k.registers, x);
+    let all = k.registers();
+    let width = register_width(all, x);
     let index = typed_term(alloc, places, index, 128)?;
     let value = typed_term(alloc, places, value, width)?;
-    let register = register_number(k.registers, x)?;
+    let register = register_number(all, x)?;
     Ok(write_node(register, index, value))
 }
 
 /// The step of a digest.
-pub fn tell_step(
+pub fn tell_step<K: CallSteps>(
     alloc: Global,
     places: &Places,
-    k: &Callees<'_>,
+    k: &K,
     receiver: u32,
     values: &[Expr],
 ) -> Result<Step, Fault>
     ensures known { OnOk result (are_known (places_of places.now) (map expr_of values.now) ≡ true) }
-    ensures does { IfOk result (λ c. DoesAct (callees_of k.now) (places_of places.now) (step_of c) (tree_tells receiver (map expr_of values.now))) }
+    ensures does { IfOk result (λ c. DoesAct (K.callees k.now) (places_of places.now) (step_of c) (tree_tells receiver (map expr_of values.now))) }
     ensures told { IfOk result (λ c. most_told (step_of c) ≡ 1) }
     ensures blames { IfErr result (λ f. f ≡ Unknown → are_known (places_of places.now) (map expr_of values.now) ≡ false) }
 {

@@ -10,31 +10,30 @@ ghost use Rattle.slot_terms.specs.Places.{IsLaid, Means, places_of};
 ghost use Rattle.slot_terms.specs.Typed.{typed_of};
 ghost use Rattle.slot_terms.specs.declared.fault.Fault.TheVariants.{Unknown};
 ghost use Rattle.slot_statements.specs.Codes.{skip};
-ghost use Rattle.slot_controls.specs.Steps.{branch, by_term, most_told, plain, step_of, target_of, updates, verifies};
+ghost use Rattle.slot_controls.specs.Steps.{branch, most_told, plain, step_of, target_of, updates, verifies};
 ghost use Rattle.slot_controls.specs.StepRuns.{DoesAct};
-ghost use Rattle.slot_control_codes.specs.Callees.{callees_of};
 ghost use Rattle.slot_control_codes.specs.Found.{IsErrorSlot};
-ghost use Rattle.slot_control_codes.specs.Known.{has_act, has_error};
+ghost use Rattle.slot_control_codes.specs.Known.{has_act, has_error, known_calls};
 
 use crate::acts::skip_step;
-use crate::callees::Callees;
+use crate::callees::CallSteps;
 use crate::externs::{target_in, terms_of};
 use lex_text::Name;
 use p4_packets::standard_path;
 use p4_parts::is_assignable;
 use p4_tree::Expr;
 use p4_values::copy_path;
-use slot_controls::{Step, Target, Test};
+use slot_controls::{Step, Target};
 use slot_terms::{Fault, Places, Term, Typed, place_at, typed_term};
 use std::alloc::{AllocError, Global};
 
 /// The step that is done where a term is 1.
 fn if_step(alloc: Global, test: Typed, step: Step) -> Result<Step, AllocError>
-    ensures { IfOk result (λ c. step_of c ≡ branch (by_term (typed_of test).term) (step_of step) (plain skip)) }
+    ensures { IfOk result (λ c. step_of c ≡ branch (typed_of test).term (step_of step) (plain skip)) }
 {
     let step = Box::new(alloc, step)?;
     let other = Box::new(alloc, skip_step())?;
-    Ok(Step::If(Test::Holds(test.term), step, other))
+    Ok(Step::If(test.term, step, other))
 }
 
 /// verify_checksum as a step, where its condition holds.
@@ -70,7 +69,7 @@ fn error_slot(alloc: Global, places: &Places) -> Result<u32, Fault>
     ensures blames { IfErr result (λ f. f ≡ Unknown → has_error (sight.place_at (places_of places.now).rows checksum_error) ≡ false) }
 {
     let path = standard_path(alloc, "checksum_error")?;
-    match place_at(&places.rows, &path) {
+    match place_at(places, &path) {
         None => Err(Fault::Unknown),
         Some(row) => {
             if row.width == 1 {
@@ -83,19 +82,19 @@ fn error_slot(alloc: Global, places: &Places) -> Result<u32, Fault>
 }
 
 /// The step of verify_checksum.
-pub fn verify_step(
+pub fn verify_step<K: CallSteps>(
     alloc: Global,
     places: &Places,
-    k: &Callees<'_>,
+    k: &K,
     condition: &Expr,
     list: &[Expr],
     field: &[Name],
 ) -> Result<Step, Fault>
     requires { IsLaid (places_of places.now) }
-    ensures known { OnOk result (has_act (callees_of k.now) (sums true (expr_of condition.now) (map expr_of list.now) field.now) (places_of places.now) ≡ true) }
-    ensures does { IfOk result (λ c. DoesAct (callees_of k.now) (places_of places.now) (step_of c) (sums true (expr_of condition.now) (map expr_of list.now) field.now)) }
+    ensures known { OnOk result (has_act (known_calls (K.callees k.now)) (sums true (expr_of condition.now) (map expr_of list.now) field.now) (places_of places.now) ≡ true) }
+    ensures does { IfOk result (λ c. DoesAct (K.callees k.now) (places_of places.now) (step_of c) (sums true (expr_of condition.now) (map expr_of list.now) field.now)) }
     ensures told { IfOk result (λ c. most_told (step_of c) ≡ 0) }
-    ensures blames { IfErr result (λ f. f ≡ Unknown → has_act (callees_of k.now) (sums true (expr_of condition.now) (map expr_of list.now) field.now) (places_of places.now) ≡ false) }
+    ensures blames { IfErr result (λ f. f ≡ Unknown → has_act (known_calls (K.callees k.now)) (sums true (expr_of condition.now) (map expr_of list.now) field.now) (places_of places.now) ≡ false) }
 {
     let error = error_slot(alloc, places)?;
     let test = typed_term(alloc, places, condition, 1)?;
@@ -106,19 +105,19 @@ pub fn verify_step(
 }
 
 /// The step of update_checksum. Of what no statement may write it does nothing.
-pub fn update_step(
+pub fn update_step<K: CallSteps>(
     alloc: Global,
     places: &Places,
-    k: &Callees<'_>,
+    k: &K,
     condition: &Expr,
     list: &[Expr],
     field: &[Name],
 ) -> Result<Step, Fault>
     requires { IsLaid (places_of places.now) }
-    ensures known { OnOk result (has_act (callees_of k.now) (sums false (expr_of condition.now) (map expr_of list.now) field.now) (places_of places.now) ≡ true) }
-    ensures does { IfOk result (λ c. DoesAct (callees_of k.now) (places_of places.now) (step_of c) (sums false (expr_of condition.now) (map expr_of list.now) field.now)) }
+    ensures known { OnOk result (has_act (known_calls (K.callees k.now)) (sums false (expr_of condition.now) (map expr_of list.now) field.now) (places_of places.now) ≡ true) }
+    ensures does { IfOk result (λ c. DoesAct (K.callees k.now) (places_of places.now) (step_of c) (sums false (expr_of condition.now) (map expr_of list.now) field.now)) }
     ensures told { IfOk result (λ c. most_told (step_of c) ≡ 0) }
-    ensures blames { IfErr result (λ f. f ≡ Unknown → has_act (callees_of k.now) (sums false (expr_of condition.now) (map expr_of list.now) field.now) (places_of places.now) ≡ false) }
+    ensures blames { IfErr result (λ f. f ≡ Unknown → has_act (known_calls (K.callees k.now)) (sums false (expr_of condition.now) (map expr_of list.now) field.now) (places_of places.now) ≡ false) }
 {
     if is_assignable(field) {
         let target = target_in(places, field)?;

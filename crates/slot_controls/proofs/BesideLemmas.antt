@@ -1,17 +1,14 @@
 -- What has code leaves registers and digests alone.
-use Rattle.std.proofs.Common.{◌≡◌, List, Bool, true, false, ◌&&◌, is_some, is_none, if◌then◌else◌, Option, Some, None, refl, sym, ap, ◌∙◌, subst}
+use Rattle.std.proofs.Common.{◌≡◌, Bool, true, false, ◌&&◌, is_some, is_none, if◌then◌else◌, Option, Some, None, refl, sym, ap, ◌∙◌, subst}
 use Rattle.std.specs.Option.{option_and_then}
-use Rattle.bit_values.specs.Bits.{Word}
 use Rattle.bit_values.specs.Widths.{holds}
 use Rattle.p4_tree.specs.Tree.{Stmt, Stmts, MaybeStmt, nothing, block, var, assign, choice, return_, exit_, call, done, next, without, otherwise}
 use Rattle.p4_meaning.specs.Standard.{egress_spec}
 use Rattle.p4_meaning.specs.Value.{value_of}
-use Rattle.p4_meaning.specs.Statements.{Flow, Go, Return, Exit, Run, Ended, Calls, after, application, tested_by, done_by, no_calls, in_store, meaning_of_stmt, meaning_of_else, meaning_of}
-use Rattle.p4_meaning.specs.Actions.{Action, bound, act}
+use Rattle.p4_meaning.specs.Statements.{Flow, Go, Return, Exit, Run, Ended, Calls, after, application, tested_by, done_by, meaning_of_stmt, meaning_of_else, meaning_of}
 use Rattle.slot_terms.specs.Places.{Places, place_at}
 use Rattle.slot_terms.specs.Known.{is_known}
-use Rattle.slot_statements.specs.Parameters.{with_params}
-use Rattle.slot_statements.specs.Known.{can_drop, has_port, is_drop, is_known_test, only_if, places_behind, places_behind_all, has_else, has_action, are_free, have_code}
+use Rattle.slot_statements.specs.Known.{can_drop, has_port, is_drop, is_known_test, only_if, places_behind, places_behind_all, has_else}
 use Rattle.slot_statements.proofs.KnownLemmas.{and_first, and_second}
 use Rattle.slot_statements.proofs.DropLemmas.{drop_is}
 use Rattle.slot_controls.specs.StepRuns.{HoldsStill}
@@ -77,10 +74,3 @@ module _ (calls : Calls) where
         let all : ((n : Places) → places_behind s m ≡ Some n → is_some (places_behind_all ss n) ≡ true → HoldsStill r (meaning_of calls (next s ss) r).0) =
         λ n there f. still_after (meaning_of_stmt calls s r).1 r (meaning_of_stmt calls s r).0 (meaning_of calls ss) (stmt_still s m (ap is_some there) r) (λ t. stmts_still ss n f t) in
         from_some (places_behind s m) (places_behind_all ss) (HoldsStill r (meaning_of calls (next s ss) r).0) e all
-
--- an action that has code
-pub action_still : (m : Places) (a : Action) (ws : List Word) (r : Run) → has_action m a ≡ true → HoldsStill r (act a ws r).0
-action_still m a ws r e =
-    let z : Run = in_store r (bound a.params ws r.store) in
-    let all : HoldsStill z (meaning_of no_calls a.body z).0 = stmts_still no_calls a.body (with_params m a.params) (and_second (are_free m a.params) (have_code a.body (with_params m a.params)) e) z in
-    record { cells = all.cells; digests = all.digests }

@@ -10,7 +10,7 @@ use Rattle.slot_controls.specs.StepRuns.{DoesAct}
 use Rattle.slot_controls.proofs.ActLemmas.{still_alike}
 
 pub drops_does : (k : Callees) (m : Places) (c : Code) → DoesDrop m c → DoesAct k m (plain c) drops
-drops_does k m c does base held chosen acts u y stands = record {
+drops_does k m c does base held chosen u y stands = record {
   ends = does (calls_of k held) u.state y stands.follows;
-  beside = still_alike k u (run chosen acts (plain c) u).0 y (done_by (calls_of k held) drops y).0 stands.beside refl refl (record { cells = refl; digests = refl });
+  beside = still_alike k u (run chosen (plain c) u).0 y (done_by (calls_of k held) drops y).0 stands.beside refl refl (record { cells = refl; digests = refl });
 }

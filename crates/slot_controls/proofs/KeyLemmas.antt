@@ -1,17 +1,14 @@
 -- How many keys applications have.
-use Rattle.std.proofs.Common.{ℕ, ◌≤◌, List, [], ◌∷◌, ◌++◌, arith}
-use Rattle.slot_controls.specs.Steps.{Test, by_term, by_table, Step, Steps, plain, group, branch, applies, makes, reads, writes, tells, verifies, updates, done, next, steps_from, TestHasFewKeys, HasFewKeys, HaveFewKeys}
-
-pub test_more : (n k : ℕ) (t : Test) → n ≤ k → TestHasFewKeys n t → TestHasFewKeys k t
-test_more n k (by_term t) le h = tt
-test_more n k (by_table x hit) le h = omega (arith, le, h)
+use Rattle.std.proofs.Common.{ℕ, ◌≤◌, List, [], ◌∷◌, ◌++◌, length, Bool, arith}
+use Rattle.slot_controls.specs.Steps.{Application, Step, Steps, plain, group, branch, calls, applies, makes, reads, writes, tells, verifies, updates, done, next, steps_from, HasFewKeys, HaveFewKeys}
 
 mutual
   pub few_more : (n k : ℕ) (c : Step) → n ≤ k → HasFewKeys n c → HasFewKeys k c
   few_more n k (plain c) le h = tt
   few_more n k (group cs) le h = few_more_all n k cs le h
-  few_more n k (branch t a b) le h = (test_more n k t le h.0, few_more n k a le h.1, few_more n k b le h.2)
-  few_more n k (applies x) le h = omega (arith, le, h)
+  few_more n k (branch t a b) le h = (few_more n k a le h.0, few_more n k b le h.1)
+  few_more n k (calls is ts body) le h = few_more_all n k body le h
+  few_more n k (applies bs x asked a b) le h = (omega (arith, le, h.0), few_more_all n k bs le h.1, few_more n k a le h.2, few_more n k b le h.3)
   few_more n k (makes i s b) le h = tt
   few_more n k (reads i t j) le h = tt
   few_more n k (writes i j v) le h = tt
@@ -39,12 +36,12 @@ pub least_more : (most one new : ℕ) (xs : List Step) (c : Step) → ((n : ℕ)
     → (n : ℕ) → HaveFewKeys n (steps_from (xs ++ c ∷ [])) → new ≤ n
 least_more most one new xs c all h greater n few = (let r = few_before n xs c few in greater n (all n r.0) (h n r.1))
 
--- a branch
-pub branch_few :
-    (i j l m n : ℕ) (t : Test) (a b : Step) → i ≤ n → m ≤ n → j ≤ m → l ≤ m → TestHasFewKeys i t → HasFewKeys j a → HasFewKeys l b → HasFewKeys n (branch t a b)
-branch_few i j l m n t a b it is left right f g h = (test_more i n t it f, few_more j n a (omega (arith, is, left)) g, few_more l n b (omega (arith, is, right)) h)
+-- two branches
+pub both_few : (j l n : ℕ) (a b : Step) → j ≤ n → l ≤ n → HasFewKeys j a → HasFewKeys l b → HasFewKeys n a × HasFewKeys n b
+both_few j l n a b left right g h = (few_more j n a left g, few_more l n b right h)
 
-pub branch_least :
-    (i j l m q : ℕ) (t : Test) (a b : Step) → ((n : ℕ) → TestHasFewKeys n t → i ≤ n) → ((n : ℕ) → HasFewKeys n a → j ≤ n) → ((n : ℕ) → HasFewKeys n b → l ≤ n) → ((n : ℕ) → j ≤ n → l ≤ n → m ≤ n) → ((n : ℕ) → i ≤ n → m ≤ n → q ≤ n)
-    → (n : ℕ) → HasFewKeys n (branch t a b) → q ≤ n
-branch_least i j l m q t a b f g h branches all n few = all n (f n few.0) (branches n (g n few.1) (h n few.2))
+-- an application, with its bodies and what is behind it; o: the keys and the bodies, m: the branches
+pub application_few :
+    (i k o j l m n : ℕ) (bs : Steps) (x : Application) (asked : Bool) (a b : Step) → i ≤ o → k ≤ o → j ≤ m → l ≤ m → o ≤ n → m ≤ n → length x.keys ≤ i → HaveFewKeys k bs → HasFewKeys j a → HasFewKeys l b
+    → HasFewKeys n (applies bs x asked a b)
+application_few i k o j l m n bs x asked a b io ko jm lm on mn keys f g h = (omega (arith, io, on, keys), few_more_all k n bs (omega (arith, ko, on)) f, few_more j n a (omega (arith, jm, mn)) g, few_more l n b (omega (arith, lm, mn)) h)

@@ -1,13 +1,15 @@
 pub mod StepLemmas
+pub mod SizeLemmas
 pub mod KeyLemmas
 pub mod LengthLemmas
 pub mod VariableLemmas
 pub mod BesideLemmas
 pub mod ActLemmas
+pub mod CallLemmas
+pub mod TableLemmas
 pub mod DropLemmas
 pub mod WordLemmas
 pub mod RegisterLemmas
 pub mod SumLemmas
 pub mod BitSumLemmas
-pub mod TestLemmas
 pub mod FlowLemmas

@@ -141,7 +141,7 @@ write_named rs cells x i v wide =
 pub reads_into :
     (k : Callees) (m : Places) (x : List ℕ) (p : List (List ℕ)) (i : Expr) (t : Typed) (r : Place) → IsLaid m → place_at m.rows p ≡ Some r → is_assignable p ≡ true → Means m i 128 t
     → DoesAct k m (reads (register_number k.registers x) (target_at r) t.term) (meaning.reads x p i)
-reads_into k m x p i t r laid is may means base held chosen acts u y stands =
+reads_into k m x p i t r laid is may means base held chosen u y stands =
     let s : State = u.state in
     let n : ℕ = register_number k.registers x in
     let index : eval s.slots s.valid t.term ≡ index_of i y.store = number_is m i 128 t s y.store means stands.follows in
@@ -152,15 +152,15 @@ reads_into k m x p i t r laid is may means base held chosen acts u y stands =
     let kept : Follows m z.slots z.valid (assigned y.store p (cell_at (y.cells x) (index_of i y.store))) = subst (λ w. Follows m z.slots z.valid (assigned y.store p w)) same (stored_follows m p r laid is may s y.store cell stands.follows) in
     record {
       ends = record { flow = refl; kept = kept; grown = λ g. kept };
-      beside = still_alike k u (run chosen acts (reads n (target_at r) t.term) u).0 y (in_store y (assigned y.store p (cell_at (y.cells x) (index_of i y.store)))) stands.beside refl refl (record { cells = refl; digests = refl });
+      beside = still_alike k u (run chosen (reads n (target_at r) t.term) u).0 y (in_store y (assigned y.store p (cell_at (y.cells x) (index_of i y.store)))) stands.beside refl refl (record { cells = refl; digests = refl });
     }
 
 pub reads_nowhere : (k : Callees) (m : Places) (x : List ℕ) (p : List (List ℕ)) (i : Expr) → is_assignable p ≡ false → DoesAct k m (plain codes.skip) (meaning.reads x p i)
-reads_nowhere k m x p i not base held chosen acts u y stands =
+reads_nowhere k m x p i not base held chosen u y stands =
     subst (λ z. StepEnds k m m (u, meaning.Go) (in_store y z, meaning.Go)) (sym (none_assigned y.store p (cell_at (y.cells x) (index_of i y.store)) not)) (nothing_ends k m u y stands.follows stands.beside)
 
 pub writes_do : (k : Callees) (m : Places) (x : List ℕ) (i v : Expr) (t w : Typed) → Means m i 128 t → Means m v (register_width k.registers x) w → DoesAct k m (writes (register_number k.registers x) t.term w) (meaning.writes x i v)
-writes_do k m x i v t w index value base held chosen acts u y stands =
+writes_do k m x i v t w index value base held chosen u y stands =
     let s : State = u.state in
     let rs : List Cells = k.registers in
     let n : ℕ = register_number rs x in

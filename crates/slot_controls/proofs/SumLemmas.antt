@@ -17,14 +17,14 @@ use Rattle.slot_terms.specs.States.{State}
 use Rattle.slot_statements.specs.Codes as codes
 use Rattle.slot_statements.specs.Codes.{put}
 use Rattle.slot_statements.proofs.StoreLemmas.{set_follows}
-use Rattle.slot_controls.specs.Steps.{SlotRun, plain, branch, by_term, tells, verifies, updates, in_state, stored, words_at, words_checksum, verified}
+use Rattle.slot_controls.specs.Steps.{SlotRun, plain, branch, tells, verifies, updates, in_state, stored, words_at, words_checksum, verified}
 use Rattle.slot_controls.specs.Callees.{Callees}
 use Rattle.slot_controls.specs.StepRuns.{HoldsAlike, StepEnds, DoesAct, MeanAll, target_at}
 use Rattle.slot_controls.proofs.ActLemmas.{still_alike, nothing_ends}
 use Rattle.slot_controls.proofs.WordLemmas.{stored_follows, none_assigned, number_is, words_are}
 
 pub tells_do : (k : Callees) (m : Places) (n : ℕ) (es : List Expr) (ts : List Typed) → MeanAll m es ts → DoesAct k m (tells n ts) (meaning.tells n es)
-tells_do k m n es ts mean base held chosen acts u r stands =
+tells_do k m n es ts mean base held chosen u r stands =
     let words : words_at u.state ts ≡ map (λ e. value_of e 0 r.store) es = words_are m es ts u.state r.store mean stands.follows in
     record {
       ends = record { flow = refl; kept = stands.follows; grown = λ g. stands.follows };
@@ -75,8 +75,8 @@ test_is m c t s y means follows = ap (λ n. nat_eq n 1) (number_is m c 1 t s y m
 
 pub verifies_do :
     (k : Callees) (m : Places) (c : Expr) (es : List Expr) (p : List (List ℕ)) (r : Place) (t f : Typed) (ts : List Typed) → IsLaid m → place_at m.rows checksum_error ≡ Some r → r.width ≡ 1
-    → Means m c 1 t → MeanAll m es ts → Means m (path 0 p) 16 f → DoesAct k m (branch (by_term t.term) (verifies ts f.term r.slot) (plain codes.skip)) (meaning.sums true c es p)
-verifies_do k m c es p r t f ts laid is one test mean field base held chosen acts u y stands =
+    → Means m c 1 t → MeanAll m es ts → Means m (path 0 p) 16 f → DoesAct k m (branch t.term (verifies ts f.term r.slot) (plain codes.skip)) (meaning.sums true c es p)
+verifies_do k m c es p r t f ts laid is one test mean field base held chosen u y stands =
     let s : State = u.state in
     let z : State = verified (eval s.slots s.valid f.term) (words_checksum (words_at s ts)) r.slot s in
     let b : Bool = nat_eq (eval s.slots s.valid t.term) 1 in
@@ -85,8 +85,8 @@ verifies_do k m c es p r t f ts laid is one test mean field base held chosen act
 
 pub updates_do :
     (k : Callees) (m : Places) (c : Expr) (es : List Expr) (p : List (List ℕ)) (r : Place) (t : Typed) (ts : List Typed) → IsLaid m → place_at m.rows p ≡ Some r → is_assignable p ≡ true
-    → Means m c 1 t → MeanAll m es ts → DoesAct k m (branch (by_term t.term) (updates ts (target_at r)) (plain codes.skip)) (meaning.sums false c es p)
-updates_do k m c es p r t ts laid is may test mean base held chosen acts u y stands =
+    → Means m c 1 t → MeanAll m es ts → DoesAct k m (branch t.term (updates ts (target_at r)) (plain codes.skip)) (meaning.sums false c es p)
+updates_do k m c es p r t ts laid is may test mean base held chosen u y stands =
     let s : State = u.state in
     let z : State = stored (target_at r) (words_checksum (words_at s ts)) s in
     let b : Bool = nat_eq (eval s.slots s.valid t.term) 1 in
@@ -99,6 +99,6 @@ none_summed true r y e = ap (in_store r) e
 none_summed false r y e = refl
 
 pub updates_nowhere : (k : Callees) (m : Places) (c : Expr) (es : List Expr) (p : List (List ℕ)) → is_assignable p ≡ false → DoesAct k m (plain codes.skip) (meaning.sums false c es p)
-updates_nowhere k m c es p not base held chosen acts u y stands =
+updates_nowhere k m c es p not base held chosen u y stands =
     subst (λ z. StepEnds k m m (u, Go) (z, Go)) (sym (none_summed (holds (value_of c 1 y.store)) y (summed false es p y.store) (none_assigned y.store p (word 16 (list_checksum es y.store)) not)))
     (nothing_ends k m u y stands.follows stands.beside)

@@ -1,27 +1,25 @@
 -- Variables behind the places of a control: a variable more, and what stays as it was.
-use Rattle.std.proofs.Common.{◌≡◌, ◌≢◌, inr, ⊎_elim, ℕ, zero, suc, ◌+◌, ◌-◌, ◌<◌, ◌≤◌, length, take, List, [], ◌∷◌, ◌++◌, Bool, true, false, ◌&&◌, is_some, if◌then◌else◌, Option, Some, None, refl, sym, ap, ◌∙◌, subst, arith}
-use Rattle.std.proofs.lemmas.Grind.{common_steps}
+use Rattle.std.proofs.Common.{◌≡◌, ◌≢◌, inr, ⊎_elim, ℕ, zero, suc, ◌+◌, ◌-◌, ◌<◌, ◌≤◌, length, List, [], ◌∷◌, ◌++◌, Bool, true, false, ◌&&◌, is_some, if◌then◌else◌, Option, Some, None, refl, sym, ap, ◌∙◌, subst, arith}
 use Rattle.std.specs.Option.{option_map}
 use Rattle.lex_text.specs.Names.{same_path, parent}
 use Rattle.bit_values.specs.Widths.{sound_width}
 use Rattle.p4_tree.specs.Tree.{Stmt, nothing, block, var, assign, choice, return_, exit_, call}
 use Rattle.p4_meaning.specs.Value.{width_of}
 use Rattle.p4_meaning.specs.Parsing.{Field}
-use Rattle.p4_meaning.specs.Actions.{Action, act}
-use Rattle.slot_terms.specs.Places.{Place, Places, place_at, header_number, Follows, IsLaid}
+use Rattle.p4_meaning.specs.Actions.{Param}
+use Rattle.slot_terms.specs.Places.{Place, Places, place_at, header_number, IsLaid}
 use Rattle.slot_terms.proofs.LaidLemmas.{added_or_old}
 use Rattle.slot_statements.specs.Runs.{Grows}
 use Rattle.slot_statements.specs.Starts.{IsNew}
-use Rattle.slot_statements.specs.Parameters.{with_row}
+use Rattle.slot_statements.specs.Parameters.{with_row, with_params}
 use Rattle.slot_statements.specs.Known.{can_drop, is_free, is_known_start, is_known_target, is_known_test, only_if, places_behind, places_behind_all, has_else}
-use Rattle.slot_statements.specs.Actions.{ActionCode, DoesAction, run_action}
-use Rattle.slot_statements.proofs.KnownLemmas.{free_name, and_second}
-use Rattle.slot_statements.proofs.FlowLemmas.{found_before, follows_before, grows_twice}
+use Rattle.slot_statements.proofs.KnownLemmas.{IsFree, AreFree, free_name, and_second}
+use Rattle.slot_statements.proofs.FlowLemmas.{found_before, grows_twice}
 use Rattle.slot_statements.proofs.CallLemmas.{row_new, row_grows}
 use Rattle.slot_statements.proofs.VarLemmas.{new_row}
 use Rattle.slot_packets.specs.Headers.{FieldsAt, IsHeaderAt}
 use Rattle.slot_controls.specs.Steps.{HeaderSlots}
-use Rattle.slot_controls.specs.Callees.{AddsVariables, DoActions, IsLaidOut, IsVariable}
+use Rattle.slot_controls.specs.Callees.{AddsVariables, IsLaidOut, IsVariable}
 use Rattle.slot_controls.specs.StepRuns.{Widens}
 
 -- ---- a variable more
@@ -39,10 +37,10 @@ is_variable base x w i le p r e k = record {
   path = ap parent k;
 }
 
-pub widens_row : (m : Places) (x : List ℕ) (w : ℕ) → is_free m x ≡ true → Widens m (with_row m x w)
-widens_row m x w free base adds =
+widens_new : (m : Places) (x : List ℕ) (w : ℕ) → IsFree m x → Widens m (with_row m x w)
+widens_new m x w free base adds =
     let n : Places = with_row m x w in
-    let new : IsNew m n x w m.next = row_new m x w (free_name m x free) in
+    let new : IsNew m n x w m.next = row_new m x w free in
     let le : base.next ≤ m.next = adds.next in
     record {
       grows = grows_twice base m n adds.grows (row_grows m x w);
@@ -52,6 +50,9 @@ widens_row m x w free base adds =
           (λ (o : (r ≡ new_row x w m.next) × (p ≡ x ∷ [])). inr (is_variable base x w m.next le p r o.0 o.1))
           (added_or_old m n (x ∷ []) w None m.next new p r e);
     }
+
+pub widens_row : (m : Places) (x : List ℕ) (w : ℕ) → is_free m x ≡ true → Widens m (with_row m x w)
+widens_row m x w free = widens_new m x w (free_name m x free)
 
 only_is : (b : Bool) (m n : Places) → only_if b m ≡ Some n → (b ≡ true) × (m ≡ n)
 only_is true m n e = (refl, cc e)
@@ -74,34 +75,11 @@ code_widens (return_ p) m n e = kept_where true m n e
 code_widens (exit_ p) m n e = kept_where true m n e
 code_widens (call p callee args) m n e = kept_where (can_drop callee m) m n e
 
--- ---- as many places are the same places
-
-rows_same : (m n : List Place) → take (length m) n ≡ m → length m ≡ length n → n ≡ m
-rows_same m n e same = grind (arith, common_steps, e, same)
-
-pub grows_back : (base m : Places) → Grows base m → length base.rows ≡ length m.rows → Grows m base
-grows_back base m grows same =
-    let rows : m.rows ≡ base.rows = rows_same base.rows m.rows grows.rows same in
-    record {
-      rows = subst (λ rs. take (length rs) base.rows ≡ rs) (sym rows) (all_taken base.rows);
-      headers = sym grows.headers;
-      size = sym grows.size;
-    }
-  where
-    all_taken : (xs : List Place) → take (length xs) xs ≡ xs
-    all_taken xs = grind (arith, common_steps)
-
-action_there : (base m : Places) (c : ActionCode) (a : Action) → Grows base m → Grows m base → DoesAction base c a → DoesAction m c a
-action_there base m c a grows back does ws s r follows =
-    let e = does ws s r (follows_before base m grows s r follows) in
-    let kept : Follows m (run_action c ws s).0.slots (run_action c ws s).0.valid (act a ws r).0.store = follows_before m base back (run_action c ws s).0 (act a ws r).0 e.kept in
-    record { flow = e.flow; kept = kept; grown = λ g. kept }
-
-pub actions_there : (base m : Places) (cs : List ActionCode) (as' : List Action) → Grows base m → Grows m base → DoActions base cs as' → DoActions m cs as'
-actions_there base m [] [] grows back do_so = tt
-actions_there base m [] (a ∷ as') grows back do_so = absurd do_so
-actions_there base m (c ∷ cs) [] grows back do_so = absurd do_so
-actions_there base m (c ∷ cs) (a ∷ as') grows back do_so = (action_there base m c a grows back do_so.0, actions_there base m cs as' grows back do_so.1)
+-- the parameters of an action are variables
+pub widens_params : (m : Places) (ps : List Param) → AreFree m ps → Widens m (with_params m ps)
+widens_params m [] free = widens_same m m refl
+widens_params m (p ∷ ps) free =
+    widens_twice m (with_row m p.name (sound_width p.width)) (with_params m (p ∷ ps)) (widens_new m p.name (sound_width p.width) free.0) (widens_params (with_row m p.name (sound_width p.width)) ps free.1)
 
 -- ---- headers
 

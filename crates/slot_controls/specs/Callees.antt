@@ -1,32 +1,34 @@
 -- What the calls of a control stand for: the actions, tables and registers of its program, and its headers. Read `Steps`
 -- before it, and `Tables` of the trees' meaning; `StepRuns` after it.
-use Rattle.std.specs.Prelude.{◌≡◌, ◌≢◌, ◌⊎◌, ℕ, suc, ◌≤◌, List, [], ◌∷◌, length, true, Some, None, if◌then◌else◌, slice_get}
+use Rattle.std.specs.Prelude.{◌≡◌, ◌≢◌, ◌⊎◌, ℕ, suc, ◌≤◌, List, [], ◌∷◌, length, Bool, true, ◌||◌, is_none, Some, None, if◌then◌else◌, slice_get}
+use Rattle.std.specs.List.{AllByRecursion}
 use Rattle.bit_values.specs.Bits.{Word}
 use Rattle.bit_values.specs.Widths.{sound_width}
 use Rattle.lex_text.specs.Names.{same_text, parent}
 use Rattle.p4_meaning.specs.Parsing.{Header}
+use Rattle.p4_meaning.specs.Scope.{is_among}
 use Rattle.p4_meaning.specs.Statements.{Calls}
 use Rattle.p4_meaning.specs.Actions.{Action, action_named}
-use Rattle.p4_meaning.specs.Tables.{Table, Tables, table_named, calls_in}
+use Rattle.p4_meaning.specs.Tables.{Table, Tables, Entries, table_named, calls_in}
 use Rattle.p4_meaning.specs.Parts.{Cells}
 use Rattle.p4_statements.specs.Cells.{Rows, cells_in}
 use Rattle.p4_statements.specs.Outcomes.{Outcome, outcome_in}
 use Rattle.slot_terms.specs.Places.{Place, Places, place_at, header_number, IsLaid}
 use Rattle.slot_statements.specs.Runs.{Grows}
-use Rattle.slot_statements.specs.Actions.{ActionCode, DoesAction}
-use Rattle.slot_statements.specs.Known.{has_action}
 use Rattle.slot_statements.specs.Tables.{NumberedOutcome}
 use Rattle.slot_packets.specs.Headers.{IsHeaderAt}
 use Rattle.slot_controls.specs.Steps.{HeaderSlots}
 
--- the actions, tables and registers of a program, the slots of its headers by their numbers, and how many places are in
--- sight where its actions were compiled
+-- the actions, tables and registers of a program, and the slots of its headers by their numbers
 pub record Callees : Type 0 where
   pub actions : List Action
   pub tables : List Table
   pub registers : List Cells
   pub headers : List HeaderSlots
-  pub rows : ℕ
+
+-- in an action, where no action is called and no table applied
+abbrev pub bare : Callees → Callees
+bare k = record { actions = []; tables = []; registers = k.registers; headers = k.headers }
 
 -- what calls do, where tables hold this
 abbrev pub calls_of : Callees → Tables → Calls
@@ -54,12 +56,18 @@ pub record IsChoice (actions : List Action) (p : NumberedOutcome) (o : Outcome) 
   pub args : p.args ≡ o.args
   pub hit : p.hit ≡ o.hit
 
--- codes do what actions do, one by one
-abbrev pub DoActions : Places → List ActionCode → List Action → Type 0
-DoActions m [] [] = Unit {0}
-DoActions m [] (a ∷ as') = ⊥
-DoActions m (c ∷ cs) [] = ⊥
-DoActions m (c ∷ cs) (a ∷ as') = DoesAction m c a × DoActions m cs as'
+-- a table has an action of this name in its list, or as its default
+abbrev pub lists : Table → (name : List ℕ) → Bool
+lists t x = is_among (t.default.action ∷ t.actions) x
+
+-- it may run what has this name: such an action, or what is no action
+abbrev pub may_run : List Action → Table → (name : List ℕ) → Bool
+may_run as' t x = lists t x || is_none (action_named as' x)
+
+-- so it is of all that a table holds
+pub record RunsOwn (as' : List Action) (t : Table) (h : Entries) : Type 0 where
+  pub entries : AllByRecursion (λ e. may_run as' t e.action ≡ true) h.listed
+  pub default : may_run as' t h.default.action ≡ true
 
 -- the header of a number and a path has its fields in these slots
 pub record IsLaidOut (m : Places) (n : ℕ) (p : List (List ℕ)) (h : HeaderSlots) : Type 0 where
@@ -69,13 +77,11 @@ pub record IsLaidOut (m : Places) (n : ℕ) (p : List (List ℕ)) (h : HeaderSlo
   pub count : h.count ≡ length header.fields
   pub fields : IsHeaderAt m n header h.first
 
--- where places `base` are in sight, which are as many as the callees say: the codes of actions do what actions do, and each
--- action has code; choices by the numbers of tables are the outcomes where tables hold this; and headers are laid out
-pub record Fits (base : Places) (k : Callees) (held : Tables) (chosen : ℕ → List Word → NumberedOutcome) (acts : List ActionCode) : Type 0 where
+-- where places `base` are in sight: tables run actions of their lists, choices by their numbers are the outcomes where they
+-- hold this, and headers are laid out
+pub record Fits (base : Places) (k : Callees) (held : Tables) (chosen : ℕ → List Word → NumberedOutcome) : Type 0 where
   pub laid : IsLaid base
-  pub rows : length base.rows ≡ k.rows
-  pub actions : DoActions base acts k.actions
-  pub coded : (x : List ℕ) (a : Action) → action_named k.actions x ≡ Some a → has_action base a ≡ true
+  pub own : (x : List ℕ) (t : Table) → table_named k.tables x ≡ Some t → RunsOwn k.actions t (held x)
   pub choices : (x : List ℕ) (t : Table) (ws : List Word) → table_named k.tables x ≡ Some t → IsChoice k.actions (chosen (table_number k.tables x) ws) (outcome_in k.actions (Some t) (held x) ws)
   pub headers : (p : List (List ℕ)) (n : ℕ) (h : HeaderSlots) → header_number base.headers p ≡ Some n → slice_get k.headers n ≡ Some h → IsLaidOut base n p h
 

@@ -5,17 +5,17 @@ use Rattle.p4_meaning.specs.Standard.{checksum_error, is_assignable}
 use Rattle.p4_meaning.specs.Statements as meaning
 use Rattle.p4_meaning.specs.Statements.{application}
 use Rattle.p4_meaning.specs.Actions.{Action, action_named}
-use Rattle.slot_terms.specs.Terms.{constant}
+use Rattle.slot_terms.specs.Terms.{Term, constant}
 use Rattle.slot_terms.specs.Typed.{Typed}
 use Rattle.slot_terms.specs.Places.{Place, Places, IsLaid, Means, place_at, header_number}
 use Rattle.slot_statements.specs.Codes.{Code, skip}
 use Rattle.slot_statements.specs.Runs as code_runs
 use Rattle.slot_statements.specs.Runs.{Grows}
-use Rattle.slot_statements.specs.Actions.{DoesCall}
-use Rattle.slot_statements.specs.Known.{places_behind, is_known_call}
-use Rattle.slot_controls.specs.Steps.{Application, HeaderSlots, Test, by_term, by_table, Step, Steps, plain, group, branch, applies, makes, reads, writes, tells, verifies, updates, steps_from}
+use Rattle.slot_statements.specs.Parameters.{FillAll, slots_from}
+use Rattle.slot_statements.specs.Known.{places_behind}
+use Rattle.slot_controls.specs.Steps.{Application, HeaderSlots, Step, Steps, plain, group, branch, calls, applies, makes, reads, writes, tells, verifies, updates, steps_from, run_all}
 use Rattle.slot_controls.specs.Callees.{Callees, register_number, register_width}
-use Rattle.slot_controls.specs.StepRuns.{DoesStep, DoesStepElse, DoesTested, DoesTest, DoesAct, DoAllSteps, MeanAll, Applies, Widens, target_at}
+use Rattle.slot_controls.specs.StepRuns.{DoesStep, DoesStepElse, DoesAct, DoAllSteps, IsBody, MeanAll, Applies, Widens, target_at}
 
 -- code does as a step what it does
 abbrev pub CodeDoes : Type 0
@@ -25,12 +25,14 @@ CodeDoes = (k : Callees) (m n : Places) (c : Code) (st : Stmt) → places_behind
 abbrev pub CallsDo : Type 0
 CallsDo =
     (k : Callees) (m : Places) (x : List ℕ) (es : List Expr)
-    → ((a : Action) (c : Code) → action_named k.actions x ≡ Some a → is_known_call m a es ≡ true → DoesCall m c a es → DoesAct k m (plain c) (meaning.runs x es)) × (action_named k.actions x ≡ None → DoesAct k m (plain skip) (meaning.runs x es))
+    → ((a : Action) (ts : List Term) (body : Steps) → action_named k.actions x ≡ Some a → FillAll m a.params es ts → IsBody k m a (λ chosen. run_all chosen body) → DoesAct k m (calls (slots_from m.next a.params) ts body) (meaning.runs x es))
+    × (action_named k.actions x ≡ None → DoesAct k m (plain skip) (meaning.runs x es))
 
 -- the application of a table does what that of its name does; that of none does nothing
 abbrev pub ApplicationsDo : Type 0
 ApplicationsDo =
-    (k : Callees) (m : Places) (x : List ℕ) → ((a : Application) → Applies k m x (Some a) → DoesAct k m (applies a) (meaning.applies x)) × (Applies k m x None → DoesAct k m (plain skip) (meaning.applies x))
+    (k : Callees) (m : Places) (x : List ℕ)
+    → ((bs : Steps) (a : Application) (asked : Bool) → Applies k m x (Some (bs, a)) → DoesAct k m (applies bs a asked (plain skip) (plain skip)) (meaning.applies x)) × (Applies k m x None → DoesAct k m (plain skip) (meaning.applies x))
 
 -- setValid and setInvalid of a header that has a number and slots
 abbrev pub ValidityDoes : Type 0
@@ -61,34 +63,32 @@ DigestsDo = (k : Callees) (m : Places) (n : ℕ) (es : List Expr) (ts : List Typ
 abbrev pub VerifiesDo : Type 0
 VerifiesDo =
     (k : Callees) (m : Places) (c : Expr) (es : List Expr) (p : List (List ℕ)) (r : Place) (t f : Typed) (ts : List Typed) → IsLaid m → place_at m.rows checksum_error ≡ Some r → r.width ≡ 1
-    → Means m c 1 t → MeanAll m es ts → Means m (path 0 p) 16 f → DoesAct k m (branch (by_term t.term) (verifies ts f.term r.slot) (plain skip)) (meaning.sums true c es p)
+    → Means m c 1 t → MeanAll m es ts → Means m (path 0 p) 16 f → DoesAct k m (branch t.term (verifies ts f.term r.slot) (plain skip)) (meaning.sums true c es p)
 
 -- update_checksum of a place, and of what no statement may write
 abbrev pub UpdatesDo : Type 0
 UpdatesDo =
     (k : Callees) (m : Places) (c : Expr) (es : List Expr) (p : List (List ℕ))
     → ((r : Place) (t : Typed) (ts : List Typed) → IsLaid m → place_at m.rows p ≡ Some r → is_assignable p ≡ true → Means m c 1 t → MeanAll m es ts
-    → DoesAct k m (branch (by_term t.term) (updates ts (target_at r)) (plain skip)) (meaning.sums false c es p))
+    → DoesAct k m (branch t.term (updates ts (target_at r)) (plain skip)) (meaning.sums false c es p))
     × (is_assignable p ≡ false → DoesAct k m (plain skip) (meaning.sums false c es p))
 
 -- a call of a form that does nothing
 abbrev pub IdlesDo : Type 0
 IdlesDo = (k : Callees) (m : Places) → DoesAct k m (plain skip) meaning.idle
 
--- a test of a term
-abbrev pub TermsTest : Type 0
-TermsTest = (k : Callees) (m : Places) (e : Expr) (t : Typed) → application e ≡ None → Means m e 1 t → DoesTest k m (by_term t.term) e
-
--- a test of whether a table hits or misses; the application of none is a miss
-abbrev pub TablesTest : Type 0
-TablesTest =
-    (k : Callees) (m : Places) (x : List ℕ) (asked : Bool) (e : Expr)
-    → ((a : Application) → Applies k m x (Some a) → DoesTested k m (by_table a asked) (Some (x, asked)) e) × (Applies k m x None → DoesTested k m (by_term (constant (if asked then 0 else 1))) (Some (x, asked)) e)
-
--- an `if`
+-- an `if` of a term
 abbrev pub BranchesDo : Type 0
 BranchesDo =
-    (k : Callees) (m : Places) (at : ℕ) (t : Test) (e : Expr) (a b : Step) (st : Stmt) (other : MaybeStmt) → DoesTest k m t e → DoesStep k m m a st → DoesStepElse k m b other → DoesStep k m m (branch t a b) (choice at e st other)
+    (k : Callees) (m : Places) (at : ℕ) (t : Typed) (e : Expr) (a b : Step) (st : Stmt) (other : MaybeStmt) → application e ≡ None → Means m e 1 t → DoesStep k m m a st → DoesStepElse k m b other
+    → DoesStep k m m (branch t.term a b) (choice at e st other)
+
+-- an `if` of whether a table hits or misses; the application of none is a miss
+abbrev pub TablesBranch : Type 0
+TablesBranch =
+    (k : Callees) (m : Places) (at : ℕ) (x : List ℕ) (asked : Bool) (e : Expr) (a b : Step) (st : Stmt) (other : MaybeStmt) → application e ≡ Some (x, asked) → DoesStep k m m a st → DoesStepElse k m b other
+    → ((bs : Steps) (y : Application) → Applies k m x (Some (bs, y)) → DoesStep k m m (applies bs y asked a b) (choice at e st other))
+    × (Applies k m x None → DoesStep k m m (branch (constant (if asked then 0 else 1)) a b) (choice at e st other))
 
 -- a block, behind which its variables are no more in sight
 abbrev pub BlocksDo : Type 0

@@ -1,6 +1,6 @@
 //! That steps do what statements mean. Each law is the contract of a function that does nothing.
 
-ghost use Rattle.slot_controls.specs.Laws.{ApplicationsDo, BlocksDo, BranchesDo, CallsDo, CodeDoes, CodeWidens, DigestsDo, DropsDo, IdlesDo, ListsDo, ReadsDo, TablesTest, TermsTest, UpdatesDo, ValidityDoes, VerifiesDo, WritesDo};
+ghost use Rattle.slot_controls.specs.Laws.{ApplicationsDo, BlocksDo, BranchesDo, CallsDo, CodeDoes, CodeWidens, DigestsDo, DropsDo, IdlesDo, ListsDo, ReadsDo, TablesBranch, UpdatesDo, ValidityDoes, VerifiesDo, WritesDo};
 
 /// Code does as a step what it does.
 pub fn code_does()
@@ -57,19 +57,14 @@ pub fn idles_do()
     ensures { IdlesDo }
 {}
 
-/// A term tests what its expression tests.
-pub fn terms_test()
-    ensures { TermsTest }
-{}
-
-/// An application tests what that of its name tests.
-pub fn tables_test()
-    ensures { TablesTest }
-{}
-
-/// An `if` does what it means, where its test and its branches do.
+/// An `if` of a term does what it means, where its branches do.
 pub fn branches_do()
     ensures { BranchesDo }
+{}
+
+/// An `if` of a table's application does what it means, where its branches do.
+pub fn tables_branch()
+    ensures { TablesBranch }
 {}
 
 /// A block does what it means, where its statements do.

@@ -1,9 +1,10 @@
 //! How many keys the applications in steps have at the most, and how many digests steps give at the most.
 
 ghost use Rattle.std.specs.Prelude.{◌≡◌, ℕ, ◌+◌, ◌≤◌, max, length, IfOk};
-ghost use Rattle.slot_controls.specs.Steps.{application_of, most_told, most_told_all, step_of, steps_of, test_of, HasFewKeys, HaveFewKeys, TestHasFewKeys};
+ghost use Rattle.slot_controls.specs.Steps.{application_of, most_told, most_told_all, most_told_one, step_of, steps_of, HasFewKeys, HaveFewKeys};
 
-use crate::step::{Application, Step, Test};
+use crate::application::Application;
+use crate::step::Step;
 use std::alloc::AllocError;
 
 /// The greater of two numbers.
@@ -22,17 +23,6 @@ fn key_count(a: &Application) -> usize
     a.keys.len()
 }
 
-/// How many keys the application in a test has.
-fn test_keys(t: &Test) -> usize
-    ensures enough { TestHasFewKeys result (test_of t.now) }
-    ensures least { (n : ℕ) → TestHasFewKeys n (test_of t.now) → result ≤ n }
-{
-    match t {
-        Test::Holds(_) => 0,
-        Test::Applied(a, _) => key_count(a),
-    }
-}
-
 /// The most keys that an application in a step has.
 #[cycle(keys)]
 fn step_keys(step: &Step) -> usize
@@ -42,11 +32,12 @@ fn step_keys(step: &Step) -> usize
     match step {
         Step::Plain(_) => 0,
         Step::Group(list) => most_keys(list),
-        Step::If(t, a, b) => {
+        Step::If(_, a, b) => greater(step_keys(a), step_keys(b)),
+        Step::Call(_, _, body) => most_keys(body),
+        Step::Apply(bodies, x, _, a, b) => {
             let branches = greater(step_keys(a), step_keys(b));
-            greater(test_keys(t), branches)
+            greater(greater(key_count(x), most_keys(bodies)), branches)
         }
-        Step::Apply(x) => key_count(x),
         Step::Make(_, _, _) | Step::Read(_, _, _) | Step::Write(_, _, _) => 0,
         Step::Tell(_, _) | Step::Verify(_, _, _) | Step::Update(_, _) => 0,
     }
@@ -75,20 +66,34 @@ fn together(a: usize, b: usize) -> Result<usize, AllocError>
     }
 }
 
+/// The greater of two numbers of digests.
+fn the_greater(a: usize, b: usize) -> usize
+    ensures { result ≡ max a b }
+{
+    if a < b { b } else { a }
+}
+
 /// The most digests that a step gives.
 #[cycle(digests)]
 fn step_digests(step: &Step) -> Result<usize, AllocError>
     ensures { IfOk result (λ n. n ≡ most_told (step_of step.now)) }
 {
     match step {
-        Step::Plain(_) | Step::Apply(_) | Step::Make(_, _, _) => Ok(0),
+        Step::Plain(_) | Step::Make(_, _, _) => Ok(0),
         Step::Read(_, _, _) | Step::Write(_, _, _) => Ok(0),
         Step::Verify(_, _, _) | Step::Update(_, _) => Ok(0),
         Step::Group(list) => most_digests(list),
         Step::If(_, a, b) => {
             let first = step_digests(a)?;
             let second = step_digests(b)?;
-            Ok(if first < second { second } else { first })
+            Ok(the_greater(first, second))
+        }
+        Step::Call(_, _, body) => most_digests(body),
+        Step::Apply(bodies, _, _, a, b) => {
+            let body = most_of_one(bodies)?;
+            let first = step_digests(a)?;
+            let second = step_digests(b)?;
+            together(body, the_greater(first, second))
         }
         Step::Tell(_, _) => Ok(1),
     }
@@ -103,6 +108,18 @@ pub fn most_digests(list: &[Step]) -> Result<usize, AllocError>
     let mut most = 0;
     for step in list {
         most = together(most, step_digests(step)?)?;
+    }
+    Ok(most)
+}
+
+/// The most digests that one of some steps gives.
+#[cycle(digests)]
+fn most_of_one(list: &[Step]) -> Result<usize, AllocError>
+    ensures { IfOk result (λ n. n ≡ most_told_one (steps_of list.now)) }
+{
+    let mut most = 0;
+    for step in list {
+        most = the_greater(most, step_digests(step)?);
     }
     Ok(most)
 }

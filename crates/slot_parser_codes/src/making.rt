@@ -39,7 +39,7 @@ fn assign_step(alloc: Global, places: &Places, path: &[Name], e: &Expr) -> Resul
     ensures blames { IfErr result (λ f. f ≡ Unknown → is_known_stmt (places_of places.now) (assign 0 path.now (expr_of e.now)) ≡ false) }
 {
     if is_assignable(path) {
-        match place_at(&places.rows, path) {
+        match place_at(places, path) {
             None => Err(Fault::Unknown),
             Some(row) => {
                 let t = term_in_place(alloc, places, e, row.width)?;

@@ -8,16 +8,15 @@ use Rattle.p4_meaning.specs.Parts.{Cells, Body, whole}
 use Rattle.p4_meaning.proofs.Sequences.{then_runs}
 use Rattle.slot_terms.specs.Places.{Places, Follows}
 use Rattle.slot_statements.specs.Runs.{Grows}
-use Rattle.slot_statements.specs.Actions.{ActionCode}
 use Rattle.slot_statements.specs.Tables.{NumberedOutcome}
 use Rattle.slot_statements.proofs.FlowLemmas.{follows_before, grows_same}
 use Rattle.slot_controls.specs.Steps.{Steps, SlotRun, run_behind, run_all}
-use Rattle.slot_controls.specs.Callees.{Callees, Fits, AreCells, AddsVariables}
+use Rattle.slot_controls.specs.Callees.{Callees, Fits, AreCells, AddsVariables, calls_of}
 use Rattle.slot_controls.specs.StepRuns.{HoldsAlike, Stands, StepEnds, DoAllSteps}
 use Rattle.slot_controls.proofs.LengthLemmas.{run_all_length}
 use Rattle.slot_passages.specs.Codes.{ControlCode}
 use Rattle.slot_passages.specs.Halves.{run_control}
-use Rattle.slot_passages.specs.Programs.{IsPart, IsControl, IsChecksum}
+use Rattle.slot_passages.specs.Programs.{IsControl, IsChecksum}
 use Rattle.slot_passages.specs.Laws.{AreAlike}
 
 -- no variable is added to places
@@ -25,26 +24,26 @@ adds_none : (m : Places) → AddsVariables m m
 adds_none m = record { grows = grows_same m; next = omega arith; variables = λ p r e. inl e }
 
 -- runs that are alike by other places, with the registers of callees
-module _ (rs : List Cells) (m n : Places) (calls : Calls) (held : Tables) (chosen : ℕ → List Word → NumberedOutcome) (acts : List ActionCode) (k : Callees) (steps : Steps) (b : Stmts)
-    (fits : Fits m k held chosen acts) (part : IsPart rs calls held b k) (do_so : DoAllSteps k m n steps b) where
-  stands : (u : SlotRun) (r : Run) → AreAlike rs m u r → Stands m k m held chosen acts u r
+module _ (rs : List Cells) (base m n : Places) (calls : Calls) (held : Tables) (chosen : ℕ → List Word → NumberedOutcome) (k : Callees) (steps : Steps) (b : Stmts)
+    (fits : Fits base k held chosen) (adds : AddsVariables base m) (same : k.registers ≡ rs) (calls_are : calls_of k held ≡ calls) (do_so : DoAllSteps k m n steps b) where
+  stands : (u : SlotRun) (r : Run) → AreAlike rs m u r → Stands base k m held chosen u r
   stands u r alike = record {
     fits = fits;
-    adds = adds_none m;
+    adds = adds;
     follows = alike.follows;
-    headers = omega (arith, alike.valid);
-    beside = record { cells = subst (λ l. AreCells l u.cells r.cells) (sym part.registers) alike.cells; digests = alike.digests };
+    headers = (let e : length m.headers ≡ length base.headers = ap length adds.grows.headers in omega (arith, alike.valid, e));
+    beside = record { cells = subst (λ l. AreCells l u.cells r.cells) (sym same) alike.cells; digests = alike.digests };
   }
 
-  part_ends : (u : SlotRun) (r : Run) → AreAlike rs m u r → StepEnds k m n (run_all chosen acts steps u) (meaning_of calls b r)
-  part_ends u r alike = subst (StepEnds k m n (run_all chosen acts steps u)) (part.mean r) (do_so m held chosen acts u r (stands u r alike))
+  part_ends : (u : SlotRun) (r : Run) → AreAlike rs m u r → StepEnds k m n (run_all chosen steps u) (meaning_of calls b r)
+  part_ends u r alike = subst (λ (c : Calls). StepEnds k m n (run_all chosen steps u) (meaning_of c b r)) calls_are (do_so base held chosen u r (stands u r alike))
 
-  alike_behind : (u : SlotRun) (r y : Run) (q : Places) → AreAlike rs m u r → HoldsAlike k (run_all chosen acts steps u).0 y → q.headers ≡ m.headers → Follows q (run_all chosen acts steps u).0.state.slots (run_all chosen acts steps u).0.state.valid y.store
-      → AreAlike rs q (run_all chosen acts steps u).0 y
+  alike_behind : (u : SlotRun) (r y : Run) (q : Places) → AreAlike rs m u r → HoldsAlike k (run_all chosen steps u).0 y → q.headers ≡ m.headers → Follows q (run_all chosen steps u).0.state.slots (run_all chosen steps u).0.state.valid y.store
+      → AreAlike rs q (run_all chosen steps u).0 y
   alike_behind u r y q alike beside headers follows = record {
     follows = follows;
-    valid = run_all_length chosen acts steps u ∙ alike.valid ∙ ap length (sym headers);
-    cells = subst (λ l. AreCells l (run_all chosen acts steps u).0.cells y.cells) part.registers beside.cells;
+    valid = run_all_length chosen steps u ∙ alike.valid ∙ ap length (sym headers);
+    cells = subst (λ l. AreCells l (run_all chosen steps u).0.cells y.cells) same beside.cells;
     digests = beside.digests;
   }
 
@@ -75,20 +74,21 @@ pub control_does :
     (rs : List Cells) (m : Places) (calls : Calls) (held : Tables) (chosen : ℕ → List Word → NumberedOutcome) (c : ControlCode) (b : Body) → IsControl rs m calls held chosen c b
     → (u : SlotRun) (r : Run) → AreAlike rs m u r → AreAlike rs m (run_control chosen c u) (meaning_of calls (whole b) r).0
 control_does rs m calls held chosen c b is u r alike =
-    let x : SlotRun × Flow = run_all chosen [] c.settings u in
+    let k : Callees = is.callees in
+    let x : SlotRun × Flow = run_all chosen c.settings u in
     let y : Ended = meaning_of calls b.locals r in
-    let first : StepEnds is.outer m is.behind x y = part_ends rs m is.behind calls held chosen [] is.outer c.settings b.locals is.outer_fits is.outer_part is.settings u r alike in
-    let kept : AreAlike rs m x.0 y.0 = alike_behind rs m is.behind calls held chosen [] is.outer c.settings b.locals is.outer_fits is.outer_part is.settings u r y.0 m alike first.beside refl first.ends.kept in
-    let next : y.1 ≡ Go → AreAlike rs m (run_all chosen c.actions c.body x.0).0 (meaning_of calls b.body y.0).0 = λ g.
+    let first : StepEnds k m is.behind x y = part_ends rs m m is.behind calls held chosen k c.settings b.locals is.fits (adds_none m) is.registers is.calls_are is.settings u r alike in
+    let kept : AreAlike rs m x.0 y.0 = alike_behind rs m m is.behind calls held chosen k c.settings b.locals is.fits (adds_none m) is.registers is.calls_are is.settings u r y.0 m alike first.beside refl first.ends.kept in
+    let next : y.1 ≡ Go → AreAlike rs m (run_all chosen c.body x.0).0 (meaning_of calls b.body y.0).0 = λ g.
     let grown : AreAlike rs is.behind x.0 y.0 =
-    alike_behind rs m is.behind calls held chosen [] is.outer c.settings b.locals is.outer_fits is.outer_part is.settings u r y.0 is.behind alike first.beside is.grows.headers (first.ends.grown g) in
-    let second : StepEnds is.inner is.behind is.last (run_all chosen c.actions c.body x.0) (meaning_of calls b.body y.0) =
-    part_ends rs is.behind is.last calls held chosen c.actions is.inner c.body b.body is.inner_fits is.inner_part is.body x.0 y.0 grown in
-    let all : AreAlike rs is.behind (run_all chosen c.actions c.body x.0).0 (meaning_of calls b.body y.0).0 =
-    alike_behind rs is.behind is.last calls held chosen c.actions is.inner c.body b.body is.inner_fits is.inner_part is.body x.0 y.0 (meaning_of calls b.body y.0).0 is.behind grown second.beside refl second.ends.kept in
-    alike_before rs m is.behind (run_all chosen c.actions c.body x.0).0 (meaning_of calls b.body y.0).0 is.grows all in
+    alike_behind rs m m is.behind calls held chosen k c.settings b.locals is.fits (adds_none m) is.registers is.calls_are is.settings u r y.0 is.behind alike first.beside is.grows.headers (first.ends.grown g) in
+    let second : StepEnds k is.behind is.last (run_all chosen c.body x.0) (meaning_of calls b.body y.0) =
+    part_ends rs m is.behind is.last calls held chosen k c.body b.body is.fits is.adds is.registers is.calls_are is.body x.0 y.0 grown in
+    let all : AreAlike rs is.behind (run_all chosen c.body x.0).0 (meaning_of calls b.body y.0).0 =
+    alike_behind rs m is.behind is.last calls held chosen k c.body b.body is.fits is.adds is.registers is.calls_are is.body x.0 y.0 (meaning_of calls b.body y.0).0 is.behind grown second.beside refl second.ends.kept in
+    alike_before rs m is.behind (run_all chosen c.body x.0).0 (meaning_of calls b.body y.0).0 is.grows all in
     subst (λ (e : Ended). AreAlike rs m (run_control chosen c u) e.0) (sym (then_runs calls b.locals b.body r))
-    (then_alike rs m x.1 y.1 x.0 y.0 (run_all chosen c.actions c.body) (meaning_of calls b.body) first.ends.flow kept next)
+    (then_alike rs m x.1 y.1 x.0 y.0 (run_all chosen c.body) (meaning_of calls b.body) first.ends.flow kept next)
 
 -- the same where no action is called and no table applied
 pub checksum_does :

@@ -55,9 +55,9 @@ abbrev pub frame_of : ProgramCode → State → (rest : List ℕ) → List ℕ
 frame_of c s rest = bytes_of (emitted_bits c.headers c.emits s ++ rest)
 
 module _ (chosen : ℕ → List Word → NumberedOutcome) where
-  -- a control: no action and no table is in sight where its variables are set first
+  -- a control: its variables are set first, and its body runs where that did not leave
   abbrev pub run_control : ControlCode → SlotRun → SlotRun
-  run_control c u = (run_behind (run_all chosen [] c.settings u).1 (run_all chosen [] c.settings u).0 (run_all chosen c.actions c.body)).0
+  run_control c u = (run_behind (run_all chosen c.settings u).1 (run_all chosen c.settings u).0 (run_all chosen c.body)).0
 
   -- verify checksum and ingress
   abbrev pub run_entry : ProgramCode → SlotRun → SlotRun

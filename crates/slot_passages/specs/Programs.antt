@@ -2,7 +2,7 @@
 -- `slot_parsers`, and `Parts` of the trees' meaning; `Laws` after it.
 use Rattle.std.specs.Prelude.{◌≡◌, ℕ, List, []}
 use Rattle.bit_values.specs.Bits.{Word}
-use Rattle.p4_meaning.specs.Statements.{Calls, Run, no_calls, meaning_of}
+use Rattle.p4_meaning.specs.Statements.{Calls, no_calls}
 use Rattle.p4_meaning.specs.Tables.{Tables}
 use Rattle.p4_meaning.specs.Parts.{Cells, Body, Parts, whole}
 use Rattle.p4_meaning.specs.Pass as meaning
@@ -11,32 +11,25 @@ use Rattle.slot_terms.specs.Places.{Places}
 use Rattle.slot_statements.specs.Runs.{Grows}
 use Rattle.slot_statements.specs.Tables.{NumberedOutcome}
 use Rattle.slot_places.specs.ProgramPlaces.{ArePlaced}
-use Rattle.slot_controls.specs.Callees.{Callees, Fits, calls_of}
+use Rattle.slot_controls.specs.Callees.{AddsVariables, Callees, Fits, calls_of}
 use Rattle.slot_controls.specs.StepRuns.{DoAllSteps}
 use Rattle.slot_parsers.specs.Parses.{Parses, heads_of}
 use Rattle.slot_deparsers.specs.Emits.{numbers_of}
 use Rattle.slot_passages.specs.Codes.{ControlCode, ProgramCode}
 
--- steps that do what statements mean, over callees whose codes fit where tables hold this: their registers are these, and
--- with these calls the statements mean the same
-pub record IsPart (rs : List Cells) (calls : Calls) (held : Tables) (b : Stmts) (k : Callees) : Type 0 where
-  pub registers : k.registers ≡ rs
-  pub mean : (r : Run) → meaning_of (calls_of k held) b r ≡ meaning_of calls b r
-
--- the code of a control, by the places in sight before it: first its variables are set, and then, where these are in sight,
--- its actions and its body
+-- the code of a control, by the places in sight before it: first its variables are set, and then, where these are in sight, its
+-- body runs; both over callees that fit where tables hold this, whose registers are these, and whose calls are these
 pub record IsControl (rs : List Cells) (m : Places) (calls : Calls) (held : Tables) (chosen : ℕ → List Word → NumberedOutcome) (c : ControlCode) (b : Body) : Type 0 where
-  pub outer : Callees
-  pub inner : Callees
+  pub callees : Callees
   pub behind : Places
   pub last : Places
   pub grows : Grows m behind
-  pub settings : DoAllSteps outer m behind c.settings b.locals
-  pub body : DoAllSteps inner behind last c.body b.body
-  pub outer_fits : Fits m outer held chosen []
-  pub inner_fits : Fits behind inner held chosen c.actions
-  pub outer_part : IsPart rs calls held b.locals outer
-  pub inner_part : IsPart rs calls held b.body inner
+  pub adds : AddsVariables m behind
+  pub settings : DoAllSteps callees m behind c.settings b.locals
+  pub body : DoAllSteps callees behind last c.body b.body
+  pub fits : Fits m callees held chosen
+  pub registers : callees.registers ≡ rs
+  pub calls_are : calls_of callees held ≡ calls
 
 -- the same of the statements of a control in which no action is called and no table applied
 pub record IsChecksum (rs : List Cells) (m : Places) (held : Tables) (chosen : ℕ → List Word → NumberedOutcome) (c : ControlCode) (b : Stmts) : Type 0 where

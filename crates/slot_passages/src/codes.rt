@@ -3,14 +3,11 @@
 use slot_controls::Step;
 use slot_parsers::ParserCode;
 use slot_places::SlotHeader;
-use slot_statements::ActionCode;
 
-/// A control: the steps that set its variables first, those of its body, and the codes of the actions
-/// that these run, by their numbers.
+/// A control: the steps that set its variables first, and those of its body.
 pub struct ControlCode {
     pub settings: Vec<Step>,
     pub body: Vec<Step>,
-    pub actions: Vec<ActionCode>,
 }
 
 impl Drop for ControlCode {
@@ -18,7 +15,6 @@ impl Drop for ControlCode {
         let ControlCode {
             settings: _settings,
             body: _body,
-            actions: _actions,
         } = self;
     }
 }

@@ -1,6 +1,6 @@
 //! What controls do.
 
-ghost use Rattle.std.specs.Prelude.{◌≡◌, ◌+◌, ◌≤◌, [], length, vec_len, vec_capacity};
+ghost use Rattle.std.specs.Prelude.{◌≡◌, ◌+◌, ◌≤◌, length, vec_len, vec_capacity};
 ghost use Rattle.slot_terms.specs.States.{state_of};
 ghost use Rattle.slot_controls.specs.Steps.{slot_run};
 ghost use Rattle.slot_passages.specs.Codes.{control_of, program_of};
@@ -28,9 +28,9 @@ pub(crate) fn run_control<T: NumberedTables>(
     ensures told { vec_len x.new.digests ≤ vec_len x.old.digests + most_digests (control_of c.now) }
     ensures room { vec_capacity x.new.digests ≡ vec_capacity x.old.digests }
 {
-    match run_steps(tables, &[], &c.settings, keys, s, x) {
+    match run_steps(tables, &c.settings, keys, s, x) {
         Flow::Go => {
-            let _ = run_steps(tables, &c.actions, &c.body, keys, s, x);
+            let _ = run_steps(tables, &c.body, keys, s, x);
         }
         Flow::Return => {}
         Flow::Exit => {}

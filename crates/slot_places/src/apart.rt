@@ -1,13 +1,25 @@
 //! Whether the paths of a program are apart.
 
-ghost use Rattle.std.specs.Prelude.{◌≡◌, ◌&&◌, map, IfOk};
-ghost use Rattle.slot_terms.specs.Places.{path_of, place_of};
+ghost use Rattle.std.specs.Prelude.{◌≡◌, ◌&&◌, is_some, map, IfOk};
+ghost use Rattle.slot_terms.specs.Places.{path_of, place_at, place_of};
 ghost use Rattle.slot_places.specs.ProgramPlaces.{are_apart, are_headers, is_root};
 
 use lex_text::Name;
-use p4_values::same_text;
-use slot_terms::{Place, header_number, place_at};
+use p4_values::{same_path, same_text};
+use slot_terms::{Place, header_number};
 use std::alloc::AllocError;
+
+/// Whether one of the rows has this path.
+fn is_among(rows: &[Place], path: &[Name]) -> bool
+    ensures { result ≡ is_some (place_at (map place_of rows.now) path.now) }
+{
+    for row in rows {
+        if same_path(&row.path, path) {
+            return true;
+        }
+    }
+    false
+}
 
 /// Whether no two rows have one path.
 fn are_apart(rows: &[Place]) -> bool
@@ -18,7 +30,7 @@ fn are_apart(rows: &[Place]) -> bool
         match left {
             [] => return true,
             [row, rest @ ..] => {
-                if place_at(rest, &row.path).is_some() {
+                if is_among(rest, &row.path) {
                     return false;
                 }
                 left = rest;

@@ -8,7 +8,7 @@ ghost use Rattle.slot_places.specs.ProgramPlaces.{ArePlaced, AreProgramPlaces, B
 use crate::apart::is_apart;
 use crate::declared::{header_paths, program_rows, row_count};
 use p4_parts::Parts;
-use slot_terms::{Fault, Places};
+use slot_terms::{Fault, Places, places_in_order};
 use std::alloc::Global;
 
 /// The places of all paths that a program declares, with `room` slots more for variables. `Unknown` where
@@ -36,11 +36,6 @@ fn placed(alloc: Global, p: &Parts, room: u32) -> Result<Places, Fault>
     let next = row_count(&rows)?;
     match next.checked_add(room) {
         None => Err(Fault::Unknown),
-        Some(size) => Ok(Places {
-            rows,
-            headers,
-            next,
-            size,
-        }),
+        Some(size) => Ok(places_in_order(alloc, rows, headers, next, size)?),
     }
 }

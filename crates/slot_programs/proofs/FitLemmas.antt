@@ -1,16 +1,13 @@
 -- What is in sight in the controls of a program fits.
-use Rattle.std.proofs.Common.{◌≡◌, inl, ℕ, ◌+◌, List, [], map, true, Some, refl, sym, ap, ◌∙◌, subst, arith}
+use Rattle.std.proofs.Common.{◌≡◌, inl, ℕ, ◌+◌, List, map, Some, refl, sym, ap, ◌∙◌, subst, arith}
 use Rattle.std.specs.Prelude.{slice_get}
 use Rattle.std.specs.Option.{option_map}
 use Rattle.std.proofs.lemmas.List.{length-map}
 use Rattle.std.proofs.lemmas.Option.{slice_get-map}
 use Rattle.bit_values.specs.Bits.{Word}
-use Rattle.p4_tree.specs.Tree.{Stmts}
 use Rattle.p4_meaning.specs.Tables.{Tables}
 use Rattle.p4_meaning.specs.Parts.{Cells, Parts}
-use Rattle.slot_terms.specs.Places.{Places, header_number, IsLaid}
-use Rattle.slot_statements.specs.Actions.{ActionCode}
-use Rattle.slot_statements.specs.Known.{has_action}
+use Rattle.slot_terms.specs.Places.{Places, header_number}
 use Rattle.slot_statements.specs.Tables.{NumberedOutcome}
 use Rattle.slot_statements.proofs.FlowLemmas.{grows_same}
 use Rattle.slot_packets.specs.Headers.{width_in, IsHeaderAt}
@@ -19,17 +16,11 @@ use Rattle.slot_places.specs.ProgramRows.{first_header}
 use Rattle.slot_places.specs.ProgramPlaces.{AreProgramPlaces}
 use Rattle.slot_places.specs.HeaderSlots as places
 use Rattle.slot_controls.specs.Steps.{HeaderSlots}
-use Rattle.slot_controls.specs.Callees.{Fits, DoActions, IsLaidOut, AddsVariables}
-use Rattle.slot_controls.proofs.VariableLemmas.{laid_out_there}
+use Rattle.slot_controls.specs.Callees.{Fits, IsLaidOut, AddsVariables}
 use Rattle.slot_parsers.specs.Parses.{heads_of}
 use Rattle.slot_parsers.proofs.TakeLemmas.{IsExtract, header_found}
-use Rattle.slot_parser_codes.specs.KnownParsers.{all_pass}
-use Rattle.slot_programs.specs.Used.{kept_actions}
-use Rattle.slot_programs.specs.Sight.{slots_at, header_slots, bare_callees, body_callees}
+use Rattle.slot_programs.specs.Sight.{slots_at, header_slots, bare_callees, program_callees}
 use Rattle.slot_programs.specs.Chooses.{Chooses}
-use Rattle.slot_programs.proofs.NameLemmas.{named_passes}
-use Rattle.slot_programs.proofs.KeptLemmas.{kept_names}
-use Rattle.slot_programs.proofs.KeptLemmas.{kept_names}
 
 -- no variable is added to places
 pub adds_none : (m : Places) → AddsVariables m m
@@ -54,26 +45,8 @@ module _ (p : Parts) (m : Places) (are : AreProgramPlaces p m) where
         fields = subst (λ k. IsHeaderAt m n f.header k) (ap (λ (s : HeaderSlots). s.first) same) at;
       }
 
-  laid_out_behind : (base : Places) → AddsVariables m base → (q : List (List ℕ)) (n : ℕ) (h : HeaderSlots) → header_number base.headers q ≡ Some n → slice_get (header_slots p) n ≡ Some h → IsLaidOut base n q h
-  laid_out_behind base adds q n h e got = laid_out_there m base n q h are.laid adds (laid_out q n h (ap (λ hs. header_number hs q) (sym adds.grows.headers) ∙ e) got)
+  pub bare_fits : (rs : List Cells) (held : Tables) (chosen : ℕ → List Word → NumberedOutcome) → Fits m (bare_callees p rs) held chosen
+  bare_fits rs held chosen = record { laid = are.laid; own = λ x t e. absurd (cc e); choices = λ x t ws e. absurd (cc e); headers = laid_out }
 
-  pub bare_fits : (rs : List Cells) (base : Places) (held : Tables) (chosen : ℕ → List Word → NumberedOutcome) → IsLaid base → AddsVariables m base → Fits base (bare_callees p rs base) held chosen []
-  bare_fits rs base held chosen laid adds = record {
-    laid = laid;
-    rows = refl;
-    actions = tt;
-    coded = λ x a e. absurd (cc e);
-    choices = λ x t ws e. absurd (cc e);
-    headers = laid_out_behind base adds;
-  }
-
-  pub body_fits : (ss : Stmts) (base : Places) (held : Tables) (chosen : ℕ → List Word → NumberedOutcome) (acts : List ActionCode) → IsLaid base → AddsVariables m base → DoActions base acts (kept_actions p.tables ss p.actions)
-      → all_pass (has_action base) (kept_actions p.tables ss p.actions) ≡ true → Chooses p held chosen → Fits base (body_callees p ss base) held chosen acts
-  body_fits ss base held chosen acts laid adds do_so pass chooses = record {
-    laid = laid;
-    rows = refl;
-    actions = do_so;
-    coded = λ x a e. named_passes (has_action base) (kept_actions p.tables ss p.actions) x a pass e;
-    choices = λ x t ws e. chooses.numbers (kept_actions p.tables ss p.actions) (kept_names p.tables ss p.actions) x t ws e;
-    headers = laid_out_behind base adds;
-  }
+  pub program_fits : (held : Tables) (chosen : ℕ → List Word → NumberedOutcome) → Chooses p held chosen → Fits m (program_callees p) held chosen
+  program_fits held chosen chooses = record { laid = are.laid; own = chooses.own; choices = λ x t ws e. chooses.numbers p.actions refl x t ws e; headers = laid_out }

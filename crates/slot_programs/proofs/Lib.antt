@@ -1,9 +1,7 @@
 pub mod NameLemmas
-pub mod KeptLemmas
-pub mod CallLemmas
+pub mod UseLemmas
 pub mod KnownLemmas
 pub mod FitLemmas
 pub mod DigestLemmas
 pub mod ControlLemmas
-pub mod UseLemmas
 pub mod KeyLemmas

@@ -1,28 +1,18 @@
 -- When tables choose by numbers what they choose by names. Read `Callees` of `slot_controls` before it, and `Tables` of the
 -- trees' meaning; `CodesOf` after it.
-use Rattle.std.specs.Prelude.{◌≡◌, ℕ, List, ◌∷◌, map, Bool, true, ◌||◌, is_none, Some}
-use Rattle.std.specs.List.{AllByRecursion}
+use Rattle.std.specs.Prelude.{◌≡◌, ℕ, List, map, Some}
 use Rattle.bit_values.specs.Bits.{Word}
-use Rattle.p4_meaning.specs.Scope.{is_among}
-use Rattle.p4_meaning.specs.Actions.{Action, action_named}
-use Rattle.p4_meaning.specs.Tables.{Table, Entries, Tables, table_named}
+use Rattle.p4_meaning.specs.Actions.{Action}
+use Rattle.p4_meaning.specs.Tables.{Table, Tables, table_named}
 use Rattle.p4_meaning.specs.Parts.{Parts}
 use Rattle.p4_statements.specs.Outcomes.{outcome_in}
 use Rattle.slot_statements.specs.Tables.{NumberedOutcome}
 use Rattle.slot_controls.specs.Callees.{IsChoice, table_number}
+pub use Rattle.slot_controls.specs.Callees.{may_run, RunsOwn}
 
 -- the names of actions
 abbrev pub names_of : List Action → List (List ℕ)
 names_of as' = map (λ a. a.name) as'
-
--- a table may run what has this name: an action of its list, the default that is written, or what is no action
-abbrev pub may_run : List Action → Table → (x : List ℕ) → Bool
-may_run as' t x = is_among (t.default.action ∷ t.actions) x || is_none (action_named as' x)
-
--- so it is of all that a table holds
-pub record RunsOwn (as' : List Action) (t : Table) (h : Entries) : Type 0 where
-  pub entries : AllByRecursion (λ e. may_run as' t e.action ≡ true) h.listed
-  pub default : may_run as' t h.default.action ≡ true
 
 -- the tables of a program hold this, and by their numbers choose this: they run actions of their lists, and whatever actions
 -- of the program's names do, the choice by numbers is the one by names

@@ -9,6 +9,9 @@ use Rattle.p4_meaning.specs.Pass.{calls_of}
 use Rattle.p4_meaning.specs.DigestBound.{enter_bound, leave_bound}
 use Rattle.slot_terms.specs.Places.{Places}
 use Rattle.slot_statements.specs.Tables.{NumberedOutcome}
+use Rattle.slot_statements.specs.Runs.{Grows}
+use Rattle.slot_controls.specs.Callees.{AddsVariables, Callees}
+use Rattle.slot_controls.specs.StepRuns.{DoAllSteps}
 use Rattle.slot_parsers.specs.Parses.{Parses, heads_of}
 use Rattle.slot_deparsers.specs.Emits.{numbers_of}
 use Rattle.slot_passages.specs.Codes.{ControlCode, ProgramCode}
@@ -29,6 +32,15 @@ abbrev pub IsCodeOf : Parts → (room : ℕ) → Places → ProgramCode → Type
 IsCodeOf p room m c = (held : Tables) (chosen : ℕ → List Word → NumberedOutcome) → Chooses p held chosen → IsProgramCode p room m held chosen c
 
 -- ---- what serves the proof
+
+-- the steps of a control by what its calls stand for: those that set its variables, and those of its body behind them
+pub record AreStepsOf (k : Callees) (m : Places) (b : Body) (c : ControlCode) : Type 0 where
+  pub behind : Places
+  pub last : Places
+  pub grows : Grows m behind
+  pub adds : AddsVariables m behind
+  pub settings : DoAllSteps k m behind c.settings b.locals
+  pub body : DoAllSteps k behind last c.body b.body
 
 -- the codes of a program's controls, which give no more digests than the program's statements
 pub record AreControlsOf (p : Parts) (m : Places) (verify ingress egress compute : ControlCode) : Type 0 where

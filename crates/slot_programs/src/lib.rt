@@ -8,19 +8,16 @@
 //! Follows: P4_16 Language Specification and v1model, this project's subset.
 //!
 //! Each control is compiled by the places of its own variables. Tables and actions keep the numbers that they
-//! have in the whole program, and of the actions that a control does not run none does anything in it
-//! (`specs/Used`). Verify and compute checksum call no action and apply no table.
+//! have in the whole program. Verify and compute checksum call no action and apply no table.
 #![tactic(auto)]
 
 mod coded;
 mod controls;
 mod emits;
-mod kept;
 mod keys;
 mod program;
 mod room;
 mod source;
-mod uses;
 
 pub use coded::Coded;
 pub use program::program_code;

@@ -1,28 +1,24 @@
 -- An action on any words.
-use Rattle.std.proofs.Common.{◌≡◌, ℕ, ◌%◌, ◌^◌, List, [], ◌∷◌, true, refl, sym, ap, subst, bit_and}
+use Rattle.std.proofs.Common.{◌≡◌, ℕ, ◌%◌, ◌^◌, List, [], ◌∷◌, refl, sym, subst, bit_and}
 use Rattle.std.specs.Prelude.{slice_set}
 use Rattle.bit_values.specs.Bits.{Word, word, IsWord}
 use Rattle.bit_values.specs.Widths.{sound_width, cast_word}
 use Rattle.p4_meaning.specs.Store.{Store, set_value}
-use Rattle.p4_meaning.specs.Statements.{in_store, no_calls, meaning_of}
-use Rattle.p4_meaning.specs.Actions.{Param, Action, bound, flow_behind}
+use Rattle.p4_meaning.specs.Actions.{Param, bound}
 use Rattle.slot_terms.specs.Typed.{mask_of}
 use Rattle.slot_terms.specs.Places.{Places, Follows, IsLaid}
 use Rattle.slot_terms.proofs.MaskedLemmas.{masked, cut_word}
 use Rattle.std.proofs.lemmas.Nat.{pow_pos}
 use Rattle.slot_terms.proofs.PlaceLemmas.{sound_wide, sound_narrow}
 use Rattle.slot_terms.specs.States.{State}
-use Rattle.slot_statements.specs.Codes.{Codes, put, exec_all}
-use Rattle.slot_statements.specs.Runs.{Ends, DoAll}
+use Rattle.slot_statements.specs.Codes.{put}
 use Rattle.slot_statements.specs.Starts.{IsNew}
 use Rattle.slot_statements.specs.Parameters.{with_row, with_params}
-use Rattle.slot_statements.specs.Known.{are_free}
-use Rattle.slot_statements.proofs.KnownLemmas.{AreFree, free_names}
-use Rattle.slot_statements.specs.Actions.{bind_words, DoesAction}
+use Rattle.slot_statements.proofs.KnownLemmas.{AreFree}
+use Rattle.slot_statements.specs.Actions.{bind_words}
 use Rattle.slot_statements.specs.Parameters.{masked_from}
 use Rattle.slot_statements.proofs.VarLemmas.{new_laid, var_grown}
-use Rattle.slot_statements.proofs.FlowLemmas.{follows_before}
-use Rattle.slot_statements.proofs.CallLemmas.{params_grow, row_new}
+use Rattle.slot_statements.proofs.CallLemmas.{row_new}
 
 -- a parameter gets a number of its width
 one_bound :
@@ -48,14 +44,3 @@ words_follow m (p ∷ ps) (x ∷ ws) s now laid free follows =
     words_follow (with_row m p.name w) ps ws (put s m.next (bit_and x.value (mask_of w))) (set_value now (p.name ∷ []) (cast_word w x)) (new_laid m (with_row m p.name w) p.name w m.next laid new) free.1
     (subst (λ v. Follows (with_row m p.name w) (slice_set s.slots m.next v) s.valid (set_value now (p.name ∷ []) (cast_word w x))) (sym cut)
     (one_bound m p s now (x.value % 2 ^ w) laid new follows word_is))
-
-pub action_does :
-    (m k : Places) (a : Action) (body : Codes) → IsLaid m → are_free m a.params ≡ true → DoAll (with_params m a.params) k body a.body → DoesAction m (record { params = masked_from m.next a.params; body = body }) a
-action_does m k a body laid free all ws s y follows =
-    let start : State = bind_words (masked_from m.next a.params) ws s in
-    let store : Store = bound a.params ws y.store in
-    let begun : Follows (with_params m a.params) start.slots start.valid store = words_follow m a.params ws s y.store laid (free_names m a.params free) follows in
-    let e : Ends (with_params m a.params) k (exec_all body start) (meaning_of no_calls a.body (in_store y store)) = all no_calls start (in_store y store) begun in
-    let kept : Follows m (exec_all body start).0.slots (exec_all body start).0.valid (meaning_of no_calls a.body (in_store y store)).0.store =
-    follows_before m (with_params m a.params) (params_grow m a.params) (exec_all body start).0 (meaning_of no_calls a.body (in_store y store)).0 e.kept in
-    record { flow = ap flow_behind e.flow; kept = kept; grown = λ g. kept }

@@ -1,4 +1,4 @@
--- An action on arguments: its parameters have the next slots, and its body runs there.
+-- An action on arguments: its parameters have the next slots.
 use Rattle.std.proofs.Common.{◌≡◌, ◌≢◌, ◌⊎◌, ⊎_elim, ℕ, ◌<◌, length, take, map, List, [], ◌∷◌, ◌++◌, Bool, true, Some, refl, sym, ap, ◌∙◌, subst, arith}
 use Rattle.std.proofs.lemmas.Grind.{common_steps}
 use Rattle.std.specs.Prelude.{slice_set}
@@ -8,23 +8,21 @@ use Rattle.bit_values.specs.Widths.{sound_width, cast_word}
 use Rattle.p4_tree.specs.Tree.{Expr}
 use Rattle.p4_meaning.specs.Store.{Store, set_value}
 use Rattle.p4_meaning.specs.Value.{value_of}
-use Rattle.p4_meaning.specs.Statements.{in_store, no_calls, meaning_of}
-use Rattle.p4_meaning.specs.Actions.{Param, Action, args_of, bound, flow_behind}
+use Rattle.p4_meaning.specs.Actions.{Param, args_of, bound}
 use Rattle.slot_terms.specs.Terms.{Term, term_of, eval}
 use Rattle.slot_terms.specs.declared.term.Term as code_term
 use Rattle.slot_terms.specs.Typed.{Typed, Gives}
 use Rattle.slot_terms.specs.Places.{Place, Places, place_at, ShowsPlace, Shows, Follows, IsLaid, Fills}
-use Rattle.slot_statements.specs.Codes as codes
 use Rattle.slot_terms.specs.States.{State}
-use Rattle.slot_statements.specs.Codes.{Codes, put, bind, exec_all}
-use Rattle.slot_statements.specs.Runs.{Ends, DoAll, Grows}
+use Rattle.slot_statements.specs.Codes.{put}
+use Rattle.slot_statements.specs.Runs.{Grows}
 use Rattle.slot_statements.specs.Starts.{IsNew}
 use Rattle.slot_statements.specs.Parameters.{with_row, with_params, slots_from, FillAll}
 use Rattle.slot_statements.specs.Known.{are_free}
 use Rattle.slot_statements.proofs.KnownLemmas.{IsFree, AreFree, free_names}
-use Rattle.slot_statements.specs.Actions.{DoesCall}
+use Rattle.slot_statements.specs.Actions.{bind}
 use Rattle.slot_statements.proofs.VarLemmas.{new_laid, var_grown}
-use Rattle.slot_statements.proofs.FlowLemmas.{follows_before, grows_twice}
+use Rattle.slot_statements.proofs.FlowLemmas.{grows_twice}
 
 pub row_new : (m : Places) (x : List ℕ) (w : ℕ) → IsFree m x → IsNew m (with_row m x w) x w m.next
 row_new m x w free = record { room = free.room; unknown = free.unknown; at = refl; rows = refl; headers = refl; next = refl; size = refl }
@@ -87,20 +85,6 @@ bind_follows base m (p ∷ ps) (e ∷ es) (t ∷ ts) s store now laid below free
     free.1 fills.1
     (shows_still base m.next s.slots s.valid store v below shows)
     grown
-
--- an action's code does what the action does
-pub call_does :
-    (m k : Places) (a : Action) (es : List Expr) (ts : List Term) (body : Codes) → IsLaid m → are_free m a.params ≡ true → FillAll m a.params es ts → DoAll (with_params m a.params) k body a.body
-    → DoesCall m (codes.act (slots_from m.next a.params) ts body) a es
-call_does m k a es ts body laid free fills all s y follows =
-    let start : State = bind (slots_from m.next a.params) ts s in
-    let store : Store = bound a.params (args_of a.params es y.store) y.store in
-    let begun : Follows (with_params m a.params) start.slots start.valid store =
-    bind_follows m m a.params es ts s y.store y.store laid (record { below = laid.below }) (free_names m a.params free) fills follows.shows follows in
-    let e : Ends (with_params m a.params) k (exec_all body start) (meaning_of no_calls a.body (in_store y store)) = all no_calls start (in_store y store) begun in
-    let kept : Follows m (exec_all body start).0.slots (exec_all body start).0.valid (meaning_of no_calls a.body (in_store y store)).0.store =
-    follows_before m (with_params m a.params) (params_grow m a.params) (exec_all body start).0 (meaning_of no_calls a.body (in_store y store)).0 e.kept in
-    record { flow = ap flow_behind e.flow; kept = kept; grown = λ g. kept }
 
 -- where no slot or no argument is left, nothing more is bound
 pub bind_none : (is : List ℕ) (ts : List code_term.Term) (s : State) → (is ≡ []) ⊎ (ts ≡ []) → bind is (map term_of ts) s ≡ s

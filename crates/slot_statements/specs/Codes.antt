@@ -1,7 +1,6 @@
 -- Statements over slots, and what they do. Read `Terms` of `slot_terms` before it and `Runs` after it.
 use Rattle.std.specs.Prelude.{ℕ, List, [], ◌∷◌, map, Bool, true, Option, Some, None, if◌then◌else◌, nat_eq, slice_set}
 use Rattle.p4_meaning.specs.Statements.{Flow, Go, Return, Exit}
-use Rattle.p4_meaning.specs.Actions.{flow_behind}
 use Rattle.slot_terms.specs.States.{State}
 use Rattle.slot_terms.specs.Terms.{Term, term_of, eval, valid_at}
 use Rattle.slot_statements.specs.declared.code.Code as code_code
@@ -17,7 +16,6 @@ mutual
     branch : (test : Term) (where_it_holds elsewhere : Code) → Code
     returns : Code
     exits : Code
-    act : (slots : List ℕ) (args : List Term) (body : Codes) → Code
 
   -- statements one after the other
   pub data Codes : Type 0 where
@@ -37,7 +35,6 @@ code_layer (layer.Set i h t) = set i h (term_of t)
 code_layer (layer.If t a b) = branch (term_of t) a.value b.value
 code_layer layer.Return = returns
 code_layer layer.Exit = exits
-code_layer (layer.Act is ts cs) = act is.items (map term_of ts.items) (codes_from cs.items)
 
 -- the same as the code has them
 abbrev pub code_of : code_code.Code → Code
@@ -59,12 +56,6 @@ writes (Some n) valid = valid_at valid n
 abbrev pub put : State → ℕ → ℕ → State
 put s i v = record s { slots = slice_set s.slots i v }
 
--- slots get the values of terms, one after the other
-abbrev pub bind : List ℕ → List Term → State → State
-bind [] ts s = s
-bind (i ∷ is) [] s = s
-bind (i ∷ is) (t ∷ ts) s = bind is ts (put s i (eval s.slots s.valid t))
-
 -- what follows is done where what was before did not leave
 abbrev pub behind : Flow → State → (State → State × Flow) → State × Flow
 behind Go s more = more s
@@ -72,7 +63,7 @@ behind Return s more = (s, Return)
 behind Exit s more = (s, Exit)
 
 abbrev mutual
-  -- what a statement does, and how it ends; `return` ends the action that is called alone
+  -- what a statement does, and how it ends
   pub exec : Code → State → State × Flow
   exec skip s = (s, Go)
   exec (group cs) s = exec_all cs s
@@ -80,7 +71,6 @@ abbrev mutual
   exec (branch t a b) s = if nat_eq (eval s.slots s.valid t) 1 then exec a s else exec b s
   exec returns s = (s, Return)
   exec exits s = (s, Exit)
-  exec (act is ts body) s = ((exec_all body (bind is ts s)).0, flow_behind (exec_all body (bind is ts s)).1)
 
   pub exec_all : Codes → State → State × Flow
   exec_all done s = (s, Go)

@@ -7,11 +7,11 @@ use Rattle.p4_tree.specs.Tree.{Expr, Stmt, Stmts, MaybeStmt, nothing, block, var
 use Rattle.p4_meaning.specs.Value.{width_of}
 use Rattle.p4_meaning.specs.Standard.{egress_spec, is_assignable}
 use Rattle.p4_meaning.specs.Statements.{application}
-use Rattle.p4_meaning.specs.Actions.{Param, Action}
+use Rattle.p4_meaning.specs.Actions.{Param}
 use Rattle.p4_meaning.specs.Tables.{Key}
 use Rattle.slot_terms.specs.Places.{Place, Places, place_at}
 use Rattle.slot_terms.specs.Known.{is_known}
-use Rattle.slot_statements.specs.Parameters.{with_row, with_params}
+use Rattle.slot_statements.specs.Parameters.{with_row}
 
 -- a variable's name has a place already, or no slot is left
 abbrev pub is_full : Places → (name : List ℕ) → Bool
@@ -78,24 +78,12 @@ abbrev mutual
   places_behind_all done m = Some m
   places_behind_all (next s ss) m = option_and_then (places_behind_all ss) (places_behind s m)
 
--- whether statements have code
-abbrev pub have_code : Stmts → Places → Bool
-have_code ss m = is_some (places_behind_all ss m)
-
--- whether an action has code: its parameters are new, and its body has code behind them
-abbrev pub has_action : Places → Action → Bool
-has_action m a = are_free m a.params && have_code a.body (with_params m a.params)
-
 -- there is an argument for each parameter, and its paths have places
 abbrev pub are_known_args : Places → List Param → List Expr → Bool
 are_known_args m [] [] = true
 are_known_args m [] (e ∷ es) = false
 are_known_args m (p ∷ ps) [] = false
 are_known_args m (p ∷ ps) (e ∷ es) = is_known m e && are_known_args m ps es
-
--- whether an action on the arguments of a call has code
-abbrev pub is_known_call : Places → Action → List Expr → Bool
-is_known_call m a es = are_known_args m a.params es && has_action m a
 
 -- the paths in a table's keys have places
 abbrev pub are_known_keys : Places → List Key → Bool

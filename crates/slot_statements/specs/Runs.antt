@@ -1,5 +1,5 @@
 -- Code does what statements mean. Read `Codes` before it, `Places` of `slot_terms`, and `Statements` of the trees' meaning;
--- `Actions` after it.
+-- `Tables` after it.
 use Rattle.std.specs.Prelude.{◌≡◌, ℕ, List, take, length}
 use Rattle.p4_tree.specs.Tree.{Arg, Stmt, Stmts, MaybeStmt, call}
 use Rattle.p4_meaning.specs.Statements.{Flow, Go, Run, Calls, Ended, drops, done_by, meaning_of_stmt, meaning_of, meaning_of_else}

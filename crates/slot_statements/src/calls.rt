@@ -1,24 +1,47 @@
-//! The code of actions on the arguments of a call.
+//! The parameters of actions, and what they get of the arguments of a call.
 
 ghost use Rattle.std.specs.Prelude.{◌≡◌, ◌++◌, ◌∷◌, [], length, map, true, false, IfOk, IfErr, OnOk};
 ghost use Rattle.p4_tree.specs.View.{expr_of};
-ghost use Rattle.p4_parts.specs.PartsIn.{action_in, param_in};
+ghost use Rattle.p4_meaning.specs.Actions.{flow_behind};
+ghost use Rattle.p4_parts.specs.PartsIn.{param_in};
+ghost use Rattle.p4_statements.specs.Runs.{flow_of};
 ghost use Rattle.slot_terms.specs.Terms.{term_of};
 ghost use Rattle.slot_terms.specs.Typed.{typed_of};
-ghost use Rattle.slot_terms.specs.Places.{IsLaid, places_of};
+ghost use Rattle.slot_terms.specs.Places.{places_of};
+ghost use Rattle.slot_terms.specs.States.{state_of};
 ghost use Rattle.slot_terms.specs.declared.fault.Fault.TheVariants.{Unknown};
-ghost use Rattle.slot_statements.specs.Codes.{act, code_of, codes_of};
+ghost use Rattle.slot_statements.specs.Actions.{bind};
 ghost use Rattle.slot_statements.specs.Parameters.{FillAll, slots_from, with_params};
-ghost use Rattle.slot_statements.specs.Known.{are_free, are_known_args, is_known_call};
-ghost use Rattle.slot_statements.specs.Actions.{DoesCall};
+ghost use Rattle.slot_statements.specs.Known.{are_free, are_known_args};
 
-use crate::code::Code;
-use crate::statements::{cut_back, row_count, stmts_code, variable_slot};
+use crate::statements::variable_slot;
 use bit_values::sound_width;
-use p4_parts::{Action, Taken};
+use p4_parts::Taken;
+use p4_statements::Flow;
 use p4_tree::Expr;
-use slot_terms::{Fault, Places, Term, Typed, term_in_place};
+use slot_terms::{Fault, Places, State, Term, Typed, eval, put_number, term_in_place};
 use std::alloc::{AllocError, Global};
+
+/// How a call of an action ends, by how its body ends: `return` ends the action alone.
+pub fn flow_behind(flow: Flow) -> Flow
+    ensures { flow_of result ≡ flow_behind (flow_of flow) }
+{
+    match flow {
+        Flow::Go => Flow::Go,
+        Flow::Return => Flow::Go,
+        Flow::Exit => Flow::Exit,
+    }
+}
+
+/// Slots get the values of terms, one after the other.
+pub fn bind(slots: &[u32], args: &[Term], s: &mut State)
+    ensures { state_of s.new ≡ bind slots.now (map term_of args.now) (state_of s.old) }
+{
+    for (slot, t) in slots.iter().zip(args) {
+        let number = eval(t, &s.slots, &s.valid);
+        put_number(&mut s.slots, *slot, number);
+    }
+}
 
 /// A term behind others.
 fn push_term(terms: &mut Vec<Term>, t: Typed) -> Result<(), AllocError>
@@ -37,8 +60,8 @@ fn push_slot(slots: &mut Vec<u32>, slot: u32) -> Result<(), AllocError>
 }
 
 /// The terms of a call's arguments, in the widths of the parameters. `Unknown` where there are more or
-/// fewer arguments than parameters.
-fn arguments(
+/// fewer arguments than parameters, and where a path has no place.
+pub fn arguments(
     alloc: Global,
     places: &Places,
     params: &[Taken],
@@ -59,8 +82,9 @@ fn arguments(
     Ok(terms)
 }
 
-/// The parameters get the next slots, which go behind others.
-fn parameters(
+/// The parameters get the next slots, which go behind others. `Unknown` where a name has a place or no slot
+/// is left. After an `Err` nothing is said of the places.
+pub fn parameters(
     alloc: Global,
     places: &mut Places,
     params: &[Taken],
@@ -76,36 +100,4 @@ fn parameters(
         push_slot(slots, slot)?;
     }
     Ok(())
-}
-
-/// The call of an action, of its parts.
-fn call_node(slots: Vec<u32>, args: Vec<Term>, body: Vec<Code>) -> Code
-    ensures { code_of result ≡ act slots.items (map term_of args.items) (codes_of body.items) }
-{
-    Code::Act(slots, args, body)
-}
-
-/// The code of an action on the arguments of a call, with the places in sight at the call. `Unknown` where
-/// there are more or fewer arguments than parameters, where a parameter's name has a place or no slot is
-/// left, and where `stmt_code` says so of the body. After an `Err` nothing is said of the places.
-pub fn call_code(
-    alloc: Global,
-    places: &mut Places,
-    a: &Action,
-    args: &[Expr],
-) -> Result<Code, Fault>
-    requires { IsLaid (places_of places.old) }
-    ensures same { OnOk result (places_of places.new ≡ places_of places.old) }
-    ensures known { OnOk result (is_known_call (places_of places.old) (action_in a.now) (map expr_of args.now) ≡ true) }
-    ensures acts { IfOk result (λ c. DoesCall (places_of places.old) (code_of c) (action_in a.now) (map expr_of args.now)) }
-    ensures blames { IfErr result (λ f. f ≡ Unknown → is_known_call (places_of places.old) (action_in a.now) (map expr_of args.now) ≡ false) }
-{
-    let count = row_count(places);
-    let next = places.next;
-    let terms = arguments(alloc, places, &a.params, args)?;
-    let mut slots = Vec::new(alloc);
-    parameters(alloc, places, &a.params, &mut slots)?;
-    let body = stmts_code(alloc, places, &a.body)?;
-    cut_back(places, count, next);
-    Ok(call_node(slots, terms, body))
 }

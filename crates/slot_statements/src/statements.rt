@@ -26,7 +26,8 @@ use p4_parts::is_assignable;
 use p4_tree::{Expr, PTy, Stmt};
 use p4_values::{path_of_one, same_text, width_of};
 use slot_terms::{
-    Fault, Places, Term, Typed, add_place, constant, place_at, term_in_place, typed_term,
+    Fault, Places, Term, Typed, add_place, constant, cut_back, place_at, row_count, term_in_place,
+    typed_term,
 };
 use std::alloc::{AllocError, Global};
 
@@ -60,7 +61,7 @@ fn assign_code(alloc: Global, places: &Places, path: &[Name], e: &Expr) -> Resul
     ensures blames { IfErr result (λ f. f ≡ Unknown → is_known_target (places_of places.now) path.now (expr_of e.now) ≡ false) }
 {
     if is_assignable(path) {
-        match place_at(&places.rows, path) {
+        match place_at(places, path) {
             None => Err(Fault::Unknown),
             Some(row) => {
                 let t = term_in_place(alloc, places, e, row.width)?;
@@ -87,7 +88,7 @@ pub fn drop_code(alloc: Global, places: &Places) -> Result<Code, Fault>
     ensures blames { IfErr result (λ f. f ≡ Unknown → has_port (sight.place_at (places_of places.now).rows egress_spec) ≡ false) }
 {
     let path = standard_path(alloc, "egress_spec")?;
-    match place_at(&places.rows, &path) {
+    match place_at(places, &path) {
         None => Err(Fault::Unknown),
         Some(row) => {
             if row.width == 9 {
@@ -179,21 +180,6 @@ fn variable_code(
     let t = start_term(alloc, places, ty, start)?;
     let slot = variable_slot(alloc, places, name, sound_width(width_of(ty)))?;
     Ok(set_code(slot, None, t))
-}
-
-/// How many rows there are.
-pub(crate) fn row_count(places: &Places) -> usize
-    ensures { result ≡ length (places_of places.now).rows }
-{
-    places.rows.len()
-}
-
-/// Forgets the rows behind the first few, and goes back to the slot that was the next one.
-pub(crate) fn cut_back(places: &mut Places, count: usize, next: u32)
-    ensures { places_of places.new ≡ record (places_of places.old) { rows = take count (places_of places.old).rows; next = next } }
-{
-    places.rows.truncate(count);
-    places.next = next;
 }
 
 /// Code behind others.

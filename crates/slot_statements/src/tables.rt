@@ -1,24 +1,17 @@
-//! The application of a table over slots.
+//! What tables are asked over slots.
 
 ghost use Rattle.std.specs.Prelude.{◌≡◌, ℕ, List, ◌++◌, ◌∷◌, [], length, map, true, false, IfOk, IfErr, OnOk};
-ghost use Rattle.std.specs.Option.{option_map};
 ghost use Rattle.bit_values.specs.Bits.{Word};
 ghost use Rattle.p4_parts.specs.PartsIn.{key_in};
-ghost use Rattle.p4_resolved.specs.Lent.{lent};
 ghost use Rattle.slot_terms.specs.Typed.{typed_of};
 ghost use Rattle.slot_terms.specs.Places.{places_of};
 ghost use Rattle.slot_terms.specs.declared.fault.Fault.TheVariants.{Unknown};
-ghost use Rattle.p4_statements.specs.Runs.{flow_of};
 ghost use Rattle.slot_terms.specs.States.{state_of};
-ghost use Rattle.slot_statements.specs.Codes.{ended};
-ghost use Rattle.slot_statements.specs.Actions.{action_code_of};
 ghost use Rattle.slot_statements.specs.Known.{are_known_keys};
-ghost use Rattle.slot_statements.specs.Tables.{NumberedOutcome, numbered_of, MeanKeys, key_word, run_if, applied, tested_of};
+ghost use Rattle.slot_statements.specs.Tables.{NumberedOutcome, numbered_of, MeanKeys, key_word};
 
-use crate::actions::{ActionCode, run_action};
 use bit_values::{Bits, sound_width};
 use p4_parts::Key;
-use p4_statements::Flow;
 use slot_terms::{Fault, Places, State, Typed, eval, typed_term};
 use std::alloc::{AllocError, Global};
 
@@ -78,34 +71,4 @@ pub fn put_keys(keys: &[Typed], s: &State, buffer: &mut [Bits])
     for i in 0..keys.len() {
         buffer[i] = key_word(&keys[i], s);
     }
-}
-
-/// What an action does that may be there, and how it ends.
-fn run_if(a: Option<&ActionCode>, words: &[Bits], s: &mut State) -> Flow
-    ensures { ended (state_of s.new) (flow_of result) ≡ run_if (option_map action_code_of (lent a.entry)) words.now (state_of s.old) }
-{
-    match a {
-        None => Flow::Go,
-        Some(a) => run_action(a, words, s),
-    }
-}
-
-/// Applies the table of a number, over the terms of its keys and the actions by their numbers, and says
-/// how that ends and whether it was a hit. The words of the keys go into the buffer, which has as many.
-pub fn apply_table<T: NumberedTables>(
-    tables: &T,
-    table: u32,
-    keys: &[Typed],
-    actions: &[ActionCode],
-    buffer: &mut [Bits],
-    s: &mut State,
-) -> (Flow, bool)
-    requires { length buffer.old ≡ length keys.now }
-    ensures { tested_of (state_of s.new) (flow_of result.0) result.1
-        ≡ applied (T.chosen tables.now) table (map typed_of keys.now) (map action_code_of actions.now) (state_of s.old) }
-{
-    put_keys(keys, s, buffer);
-    let outcome = tables.choose(table, buffer);
-    let flow = run_if(actions.get(outcome.action as usize), outcome.args, s);
-    (flow, outcome.hit)
 }

@@ -1,3 +1,4 @@
+pub mod HashLemmas
 pub mod MaskedLemmas
 pub mod PlaceLemmas
 pub mod ReadLemmas

@@ -7,3 +7,4 @@ pub mod Known
 -- What serves the proofs.
 pub mod Nodes
 pub mod Own
+pub mod Hashes

@@ -11,8 +11,9 @@ ghost use Rattle.slot_terms.specs.Places as sight;
 ghost use Rattle.slot_terms.specs.Known.{is_known, Blames};
 
 use crate::fault::Fault;
+use crate::laying::{header_number, place_at};
 use crate::nodes::place_node;
-use crate::places::{Places, header_number, place_at};
+use crate::places::Places;
 use crate::term::Term;
 use crate::typed::{Typed, binary, cast, choice, constant, inversion, negation, opposite, slice};
 use bit_values::{Bits, either_width, sound_width};
@@ -27,7 +28,7 @@ fn path_term(places: &Places, names: &[Name]) -> Result<Typed, Fault>
     ensures known { OnOk result (is_known (places_of places.now) (path 0 names.now) ≡ true) }
     ensures blames { IfErr result (λ f. Blames (places_of places.now) (path 0 names.now) f) }
 {
-    match place_at(&places.rows, names) {
+    match place_at(places, names) {
         None => Err(Fault::Unknown),
         Some(row) => Ok(Typed {
             term: place_node(row.slot, row.header),
@@ -56,7 +57,7 @@ fn path_width(places: &Places, names: &[Name]) -> Result<u8, Fault>
     ensures own { IfOk result (λ n. IsOwn (places_of places.now) (path 0 names.now) n) }
     ensures blames { IfErr result (λ f. Blames (places_of places.now) (path 0 names.now) f) }
 {
-    match place_at(&places.rows, names) {
+    match place_at(places, names) {
         None => Err(Fault::Unknown),
         Some(row) => Ok(row.width),
     }

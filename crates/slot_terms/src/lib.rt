@@ -14,6 +14,8 @@
 
 mod expressions;
 mod fault;
+mod hashes;
+mod laying;
 mod nodes;
 mod places;
 mod state;
@@ -22,7 +24,10 @@ mod typed;
 
 pub use expressions::{term_in_place, typed_term};
 pub use fault::Fault;
-pub use places::{Place, Places, add_place, header_number, no_places, place_at};
+pub use laying::{
+    add_place, cut_back, header_number, no_places, place_at, places_in_order, row_count,
+};
+pub use places::{Place, Places};
 pub use state::State;
 pub use term::{Term, eval, is_valid, number_in, put_number};
 pub use typed::{Typed, constant, mask};
