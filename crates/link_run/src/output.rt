@@ -17,7 +17,7 @@ use network_file::Network;
 use program_linker::{Linked, simplify_linked};
 use run_headline::linked_programs_keep_the_claims;
 use run_job::{Base, Site};
-use run_texts::put_linked;
+use run_texts::put_own_linked;
 use simplify_rules::RuleSet;
 use std::alloc::{AllocError, Global};
 
@@ -45,34 +45,28 @@ pub fn write_linked(
         ..
     } = site;
     let linked = simplify_linked(alloc, linked, rules)?;
-    linked_output(alloc, &property, &network, &linked, out)
+    linked_output(alloc, &property, &network, linked, out)
 }
 
-/// The texts of the programs, and the tables in them that hold control variables.
+/// The texts of the programs, and the tables in them that hold control variables. Each program is let go of when its
+/// text is made.
 fn linked_output(
     alloc: Global,
     property: &TypedProperty,
     network: &Network,
-    linked: &Linked,
+    linked: Linked,
     out: &str,
 ) -> Result<Output, AllocError>
-    requires count { length (programs_in linked.now) ≡ length network.now.names }
-    requires spelled { All (λ t. CanSpell (program_of t)) linked.now.programs.items }
-    ensures files { IfOk result (λ o. (out_of o).files ≡ linked_files out.now (programs_in linked.now) (rows_in linked.now)
+    requires count { length (programs_in linked) ≡ length network.now.names }
+    requires spelled { All (λ t. CanSpell (program_of t)) linked.programs.items }
+    ensures files { IfOk result (λ o. (out_of o).files ≡ linked_files out.now (programs_in linked) (rows_in linked)
         (property_of property.now).decls network.now.names) }
     ensures text { IfOk result (λ o. (out_of o).text ≡ linked_line (length network.now.names)) }
 {
+    let Linked { programs, map, .. } = linked;
     let mut files = Vec::new(alloc);
     let decls = &property.property().decls;
-    put_linked(
-        alloc,
-        &mut files,
-        out,
-        network,
-        &linked.programs,
-        &linked.map,
-        decls,
-    )?;
+    put_own_linked(alloc, &mut files, out, network, programs, &map, decls)?;
     let count = network.count();
     let text = format!(in alloc; "linked {count}\n")?;
     Ok(Output { files, text })

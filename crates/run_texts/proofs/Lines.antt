@@ -72,3 +72,14 @@ program_more o qs ns i q n before now total here name so_far is =
 pub programs_end : (o : List ℕ) (qs : List Program) (ns : List (List ℕ)) (i : ℕ) (before total : List (List ℕ × List ℕ)) → length qs ≤ i → before ++ programs_files o (drop i qs) (drop i ns) ≡ total → before ≡ total
 programs_end o qs ns i before total le so_far =
     sym (append-nil before) ∙ ap (λ (ps : List Program). before ++ programs_files o ps (drop i ns)) (sym (drop_past qs i le)) ∙ so_far
+
+-- the first of the programs that are left, and those behind it
+pub program_step :
+    (o : List ℕ) (qs rest : List Program) (ns : List (List ℕ)) (i : ℕ) (q : Program) (n : List ℕ) (before now total : List (List ℕ × List ℕ)) → qs ≡ q ∷ rest → slice_get ns i ≡ Some n →
+    before ++ programs_files o qs (drop i ns) ≡ total → now ≡ before ++ program_file o n q ∷ [] → now ++ programs_files o rest (drop (i + 1) ns) ≡ total
+program_step o qs rest ns i q n before now total here name so_far is =
+    let more = programs_files o rest (drop (i + 1) ns) in
+    ap (λ (fs : List (List ℕ × List ℕ)). fs ++ more) is
+    ∙ append_assoc before (program_file o n q ∷ []) more
+    ∙ ap (λ (fs : List (List ℕ × List ℕ)). before ++ fs) (sym (ap₂ (programs_files o) here (drop_at ns i n name)))
+    ∙ so_far

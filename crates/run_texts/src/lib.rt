@@ -2,7 +2,8 @@
 //! registers.
 //!
 //! The layer above gets `put_programs`, which puts the files of the programs behind others, and `put_linked`,
-//! which puts those of their tables behind them; `reports_text` and `digests_text`, which part what switches
+//! which puts those of their tables behind them (`put_own_linked` where the programs are not needed any more);
+//! `reports_text` and `digests_text`, which part what switches
 //! told, and `registers_text`; for the summary `rejected` and `reports`. `specs/Files` says which files a run
 //! writes, and how its summary counts.
 #![tactic(auto)]
@@ -15,7 +16,7 @@ mod tables;
 mod told;
 
 pub use counts::{rejected, reports};
-pub use linked::put_linked;
+pub use linked::{put_linked, put_own_linked};
 pub use programs::put_programs;
 pub use registers::registers_text;
 pub use told::{digests_text, reports_text};

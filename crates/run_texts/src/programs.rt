@@ -26,7 +26,8 @@ fn put_program(
         ≡ files_of files.old.items ++ program_file out.now switch.now (program_of program.now) ∷ []) }
 {
     let name = format!(in alloc; "{out}.linked.{switch}.p4")?;
-    let text = print_program(alloc, program)?;
+    let mut text = print_program(alloc, program)?;
+    text.shrink_to_fit();
     files.push((name, text.into_bytes()))?;
     Ok(())
 }
@@ -47,6 +48,28 @@ pub fn put_programs(
     for switch in 0..network.count() {
         let name = network.name(switch);
         put_program(alloc, files, out, name, programs[switch as usize].program())?;
+    }
+    Ok(())
+}
+
+/// The same of programs that are handed over: each is let go of when its text is made.
+pub fn put_own_programs(
+    alloc: Global,
+    files: &mut Vec<(String, Vec<u8>)>,
+    out: &str,
+    network: &Network,
+    programs: Vec<TypedProgram>,
+) -> Result<(), AllocError>
+    requires count { length programs.items ≡ length network.now.names }
+    requires spelled { All (λ t. CanSpell (program_of t)) programs.items }
+    ensures { OnOk result (files_of files.new.items
+        ≡ files_of files.old.items ++ programs_files out.now (map program_of programs.items) network.now.names) }
+{
+    files.reserve(network.count() as usize)?;
+    let mut switch = 0;
+    for program in programs {
+        put_program(alloc, files, out, network.name(switch), program.program())?;
+        switch += 1;
     }
     Ok(())
 }
