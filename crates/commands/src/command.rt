@@ -1,18 +1,19 @@
-//! What each command reads and makes.
+//! The commands, and what each does.
 
 ghost use Rattle.std.specs.Prelude.{◌≡◌, ◌∷◌, [], MatchOption, None, Some, map, string_bytes};
-ghost use Rattle.job_course.specs.Plan.{Plans};
+ghost use Rattle.job_course.specs.Ending.{AnswersAll, AnswersCommand};
 ghost use Rattle.commands.specs.Command.{command_of, course_of, load_of, said_by};
 ghost use Rattle.commands.specs.Output.{Outputs};
 
-use crate::check::check;
-use crate::forward::forward;
-use crate::link::link;
-use crate::load::{load, number_of};
-use crate::run::run;
-use crate::wire::wire;
-use job_course::{Output, Stop};
-use outside::Store;
+use crate::check::CheckSteps;
+use crate::forward::ForwardSteps;
+use crate::link::LinkSteps;
+use crate::load::{LoadSteps, number_of};
+use crate::run::RunSteps;
+use crate::wire::WireSteps;
+use command_steps::answer;
+use job_course::Status;
+use outside::{Sink, Store};
 use simplify_rules::RuleSet;
 use std::alloc::Global;
 use switch_benches::Bench;
@@ -98,24 +99,70 @@ fn read_load_words<'a>(number: &str, out: &'a str) -> Option<Command<'a>>
     }
 }
 
-/// What a command writes.
-pub fn plan<S: Store, B: Bench>(
+/// Does what a command says.
+pub fn answer_to<S: Store, K: Sink, B: Bench>(
     alloc: Global,
     store: &mut S,
+    out: &mut K,
     bench: &mut B,
     command: Command<'_>,
     rules: &RuleSet,
-) -> Result<Output, Stop>
-    ensures { Plans Outputs (course_of (said_by command.entry)) (S.state store.old) (S.state store.new) result }
+) -> Status
+    ensures answer { AnswersCommand Outputs (course_of (said_by command.entry)) (S.state store.old) (S.state store.new) (K.state out.old) (K.state out.new) result }
+    ensures complete { AnswersAll (course_of (said_by command.entry)) (S.state store.old) (S.state store.new) (K.state out.old) (K.state out.new) result }
 {
     match command {
-        Command::Wire(property, frame, out) => wire(
-            alloc, store, bench, property, frame, out, rules,
-        ),
-        Command::Check(property) => check(alloc, store, property),
-        Command::Forward(case, out) => forward(alloc, store, bench, case, out),
-        Command::Run(case, out) => run(alloc, store, bench, case, out, rules),
-        Command::Link(case, out) => link(alloc, store, case, out, rules),
-        Command::Load(number, out) => load(alloc, store, bench, number, out, rules),
+        Command::Wire(property, frame, name) => {
+            let steps = WireSteps {
+                property,
+                frame,
+                out: name,
+                rules,
+            };
+            answer(alloc, store, out, bench, &steps)
+        }
+        Command::Check(property) => answer(alloc, store, out, bench, &CheckSteps { property }),
+        Command::Forward(case, name) => {
+            answer(alloc, store, out, bench, &ForwardSteps { case, out: name })
+        }
+        Command::Run(case, name) => {
+            answer(
+                alloc,
+                store,
+                out,
+                bench,
+                &RunSteps {
+                    case,
+                    out: name,
+                    rules,
+                },
+            )
+        }
+        Command::Link(case, name) => {
+            answer(
+                alloc,
+                store,
+                out,
+                bench,
+                &LinkSteps {
+                    case,
+                    out: name,
+                    rules,
+                },
+            )
+        }
+        Command::Load(number, name) => {
+            answer(
+                alloc,
+                store,
+                out,
+                bench,
+                &LoadSteps {
+                    number,
+                    out: name,
+                    rules,
+                },
+            )
+        }
     }
 }

@@ -21,7 +21,7 @@ mod load;
 mod run;
 mod wire;
 
-use job_course::{Status, deliver, refuse, say};
+use job_course::{Status, say};
 use outside::{Sink, Store};
 use simplify_rules::RuleSet;
 use std::alloc::Global;
@@ -48,9 +48,6 @@ pub fn hydra<S: Store, K: Sink, B: Bench>(
             say(out, b"hydra: words\n");
             Status::BadWords
         }
-        Some(command) => match command::plan(alloc, store, bench, command, rules) {
-            Ok(output) => deliver(alloc, store, out, &output),
-            Err(stop) => refuse(out, &stop),
-        },
+        Some(command) => command::answer_to(alloc, store, out, bench, command, rules),
     }
 }

@@ -2,12 +2,16 @@
 
 ghost use Rattle.std.specs.Prelude.{◌≡◌, ◌==◌, ℕ, IfOk, slice_index};
 ghost use Rattle.job_course.specs.Output.{files_of, out_of};
-ghost use Rattle.job_course.specs.Plan.{Plans};
 ghost use Rattle.linked_jobs.specs.Views.{IsLinkedJob, job_of};
 ghost use Rattle.load_maker.specs.Made.{made_files};
-ghost use Rattle.commands.specs.Command.{course_of, load, number_in};
+ghost use Rattle.run_job.specs.Course.{Task};
+ghost use Rattle.load_job.specs.Course.{load_course};
+ghost use Rattle.load_job.specs.Views.{task_in};
+ghost use Rattle.commands.specs.Job as jobs;
+ghost use Rattle.commands.specs.Command.{number_in};
 ghost use Rattle.commands.specs.Output.{LoadHeadline, Outputs};
 
+use command_steps::{Steps, put_behind};
 use job_course::{Output, Stop};
 use linked_jobs::LinkedJob;
 use linked_run::run_linked;
@@ -33,27 +37,49 @@ fn begins_with_plus(word: &str) -> bool
     word.starts_with('+')
 }
 
-/// Makes the case, runs the linked programs on it, with answers of the rules in them, and writes its files and behind them those of the run. The
-/// store is not asked for a file.
-pub fn load<S: Store, B: Bench>(
-    alloc: Global,
-    store: &mut S,
-    bench: &mut B,
-    number: u64,
-    out: &str,
-    rules: &RuleSet,
-) -> Result<Output, Stop>
-    ensures { Plans Outputs (course_of (load number out.now)) (S.state store.old) (S.state store.new) result }
-{
-    let MadeJob { files, job } = load_made(alloc, number, out)?;
-    Ok(run_made(alloc, bench, files, job, out, rules)?)
+/// The number of a made case, the front of the names of its files and of what is written, and the rules whose answers
+/// stand in linked programs.
+#[derive(Clone, Copy)]
+pub struct LoadSteps<'a> {
+    pub number: u64,
+    pub out: &'a str,
+    pub rules: &'a RuleSet,
+}
+
+impl<'a, B: Bench> Steps<B> for LoadSteps<'a> {
+    type Read = MadeJob;
+
+    ghost Found = { Task };
+
+    ghost view = { task_in };
+
+    ghost course = { λ s. load_course s.number s.out.now };
+
+    ghost is_read = { λ s made. IsLinkedJob made.job × (files_of made.files.items ≡ made_files s.number s.out.now) };
+
+    ghost Job = { jobs.Job };
+
+    ghost job_of = { λ s task. jobs.load s.number task s.out.now };
+
+    ghost outputs = { Outputs };
+
+    /// Makes the case. The store is not asked for a file.
+    fn read<S: Store>(&self, alloc: Global, _store: &mut S) -> Result<MadeJob, Stop> {
+        load_made(alloc, self.number, self.out)
+    }
+
+    /// Runs the linked programs on the case, and writes its files and behind them those of the run.
+    fn make(&self, alloc: Global, bench: &mut B, made: MadeJob) -> Result<Output, AllocError> {
+        let MadeJob { files, job } = made;
+        run_made(alloc, bench, files, job, self.out, self.rules)
+    }
 }
 
 /// The files of a made case, and behind them those of its run.
 fn run_made<B: Bench>(
     alloc: Global,
     bench: &mut B,
-    mut files: Vec<(String, Vec<u8>)>,
+    files: Vec<(String, Vec<u8>)>,
     job: LinkedJob,
     out: &str,
     rules: &RuleSet,
@@ -61,10 +87,6 @@ fn run_made<B: Bench>(
     requires { IsLinkedJob job }
     ensures { IfOk result (λ o. (n : ℕ) → files_of files.items ≡ made_files n out.now → LoadHeadline n (job_of job) out.now (out_of o)) }
 {
-    let mut ran = run_linked(alloc, bench, job, out, rules)?;
-    files.append(&mut ran.files)?;
-    Ok(Output {
-        files,
-        text: ran.text,
-    })
+    let ran = run_linked(alloc, bench, job, out, rules)?;
+    put_behind(files, ran)
 }

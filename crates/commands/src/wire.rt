@@ -1,30 +1,56 @@
 //! `wire`: a property linked into the built-in program, and one raw frame at three switches.
 
-ghost use Rattle.job_course.specs.Plan.{Plans};
-ghost use Rattle.commands.specs.Command.{course_of, wire};
+ghost use Rattle.run_job.specs.Course.{Task};
+ghost use Rattle.run_job.specs.Views.{task_of};
+ghost use Rattle.wire_job.specs.Course.{wire_course};
+ghost use Rattle.linked_jobs.specs.Views.{IsLinkedJob};
+ghost use Rattle.commands.specs.Job as jobs;
 ghost use Rattle.commands.specs.Output.{Outputs};
 
+use command_steps::Steps;
 use job_course::{Output, Stop};
+use linked_jobs::LinkedJob;
 use linked_run::run_wire;
 use outside::Store;
 use simplify_rules::RuleSet;
-use std::alloc::Global;
+use std::alloc::{AllocError, Global};
 use switch_benches::Bench;
 use wire_job::load_wire;
 
-/// Reads the files of the property and of the frame, links, and runs the linked programs on the frame, with
-/// answers of the rules in them.
-pub fn wire<S: Store, B: Bench>(
-    alloc: Global,
-    store: &mut S,
-    bench: &mut B,
-    property: &str,
-    frame: &str,
-    out: &str,
-    rules: &RuleSet,
-) -> Result<Output, Stop>
-    ensures { Plans Outputs (course_of (wire property.now frame.now out.now)) (S.state store.old) (S.state store.new) result }
-{
-    let job = load_wire(alloc, store, property, frame)?;
-    Ok(run_wire(alloc, bench, job, out, rules)?)
+/// The names of the files of the property, of the frame and of what is written, and the rules whose answers stand in
+/// linked programs.
+#[derive(Clone, Copy)]
+pub struct WireSteps<'a> {
+    pub property: &'a str,
+    pub frame: &'a str,
+    pub out: &'a str,
+    pub rules: &'a RuleSet,
+}
+
+impl<'a, B: Bench> Steps<B> for WireSteps<'a> {
+    type Read = LinkedJob;
+
+    ghost Found = { Task };
+
+    ghost view = { task_of };
+
+    ghost course = { λ s. wire_course s.property.now s.frame.now };
+
+    ghost is_read = { λ s job. IsLinkedJob job };
+
+    ghost Job = { jobs.Job };
+
+    ghost job_of = { λ s task. jobs.wire task s.out.now };
+
+    ghost outputs = { Outputs };
+
+    /// Reads the files of the property and of the frame, and links.
+    fn read<S: Store>(&self, alloc: Global, store: &mut S) -> Result<LinkedJob, Stop> {
+        load_wire(alloc, store, self.property, self.frame)
+    }
+
+    /// Runs the linked programs on the frame.
+    fn make(&self, alloc: Global, bench: &mut B, job: LinkedJob) -> Result<Output, AllocError> {
+        run_wire(alloc, bench, job, self.out, self.rules)
+    }
 }

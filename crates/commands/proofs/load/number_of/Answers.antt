@@ -1,4 +1,4 @@
-use Rattle.std.proofs.Common.{◌≡◌, ◌∙◌, sym, arith}
+use Rattle.std.proofs.Common.{◌∙◌, sym, arith}
 use Rattle.commands.proofs.Numbers.{parsed}
 use Rattle.commands.proofs.load.number_of.Goals as goal
 

@@ -1,0 +1,2 @@
+-- What callers rest on: the course of a whole command.
+pub mod Whole
