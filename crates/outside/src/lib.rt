@@ -6,7 +6,8 @@
 //!
 //! - `SureStore` and `SureSink` are in memory and never fail.
 //! - `MemStore` and `MemSink` are in memory and fail at the calls of a list.
-//! - `RealStore` is the system's files and `RealSink` the standard output.
+//! - `RealStore` is the system's files and `RealSink` the standard output. They read and write by
+//!   `read_up_to` and `write_whole`, on which a kind of another crate may stand too.
 //!
 //! Not promised: what the system's files and standard output hold, or that they answer. The kinds
 //! that work on them tell nothing of content; tests alone show that they reach the right file.
@@ -35,6 +36,4 @@ pub use stops::{SinkStop, StoreStop};
 pub use store::Store;
 pub use sure_sink::SureSink;
 pub use sure_store::SureStore;
-
-#[cfg(test)]
-mod tests;
+pub use transfer::{read_up_to, write_whole};

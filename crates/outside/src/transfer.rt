@@ -9,7 +9,7 @@ use crate::{SinkStop, StoreStop};
 use std::alloc::Global;
 use std::io::{ErrorKind, Read, Write};
 
-// All that a reader gives, of which not more than one byte past the limit is taken.
+/// All that a reader gives, of which not more than one byte past the limit is taken.
 pub fn read_up_to<R: Read>(alloc: Global, reader: &mut R, limit: u64) -> Result<Vec<u8>, StoreStop>
     ensures within { IfOk result (λ b. length b.items ≤ limit) }
     ensures bytes { IfOk result (λ b. IfSome (R.remaining reader.old) (λ all. b.items ≡ all)) }
@@ -40,7 +40,7 @@ pub fn read_up_to<R: Read>(alloc: Global, reader: &mut R, limit: u64) -> Result<
     Err(StoreStop::Failed)
 }
 
-// Writes all the bytes, or fails after some of them.
+/// Writes all the bytes, or fails after some of them.
 pub fn write_whole<W: Write>(writer: &mut W, bytes: &[u8]) -> Result<(), SinkStop>
     ensures whole { OnOk result (Appends (W.contents writer.old) (W.contents writer.new) bytes.now) }
     ensures some { (n : ℕ) × (n ≤ length bytes.now) × Appends (W.contents writer.old) (W.contents writer.new) (take n bytes.now) }

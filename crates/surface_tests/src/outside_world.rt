@@ -4,8 +4,10 @@ use crate::never::never;
 use job_course::Status;
 use outside::{
     MemSink, MemStore, RealSink, RealStore, Sink, SinkStop, Store, StoreStop, SureSink, SureStore,
+    read_up_to, write_whole,
 };
 use std::alloc::{AllocError, Global};
+use std::io::{Read, Write};
 use std::mem::forget;
 
 /// Any store and any sink.
@@ -55,6 +57,20 @@ pub fn real(rt: &HostRuntime) {
     if never() {
         let _: RealStore<'_, HostRuntime> = RealStore::new(rt);
         let _: RealSink<'_, HostRuntime> = RealSink::new(rt);
+    }
+}
+
+/// Whole files and bytes, through any reader and any writer.
+pub fn transfers<R: Read, W: Write>(
+    alloc: Global,
+    reader: &mut R,
+    writer: &mut W,
+    limit: u64,
+    bytes: &[u8],
+) {
+    if never() {
+        forget::<Result<Vec<u8>, StoreStop>>(read_up_to(alloc, reader, limit));
+        forget::<Result<(), SinkStop>>(write_whole(writer, bytes));
     }
 }
 
