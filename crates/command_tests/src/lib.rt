@@ -1,5 +1,5 @@
 //! Tests of commands over stores and sinks in memory: whole command lines, with what fails, what is answered and what is
-//! written, on plain switches and on switches over slots.
+//! written.
 #![tactic(auto)]
 
 #[cfg(test)]

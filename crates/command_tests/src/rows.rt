@@ -2,6 +2,7 @@
 //! system's files stands in the rows under `tests/` at the top of the repository.
 
 use commands::hydra;
+use hex::decode;
 use job_course::Status;
 use outside::{MemSink, MemStore, SureSink, SureStore};
 use p4_slots::SlotBench;
@@ -9,7 +10,7 @@ use simplify_rules::RuleSet;
 use std::alloc::Global;
 use std::mem::forget;
 use std::process::Abort;
-use switch_benches::{Bench, StoppingBench};
+use switch_benches::StoppingBench;
 
 /// Parts of rows, by their names: networks, programs, cases, and properties.
 const PARTS: &str = r#"one =n {"switches": ["s1"], "links": []}
@@ -142,60 +143,43 @@ const TIME: &[u8] = b"\x01\0\0\0\x05\0\0\0";
 
 // ---- files
 
-/// Puts a byte behind others.
-fn put(rt: &impl Abort, bytes: &mut Vec<u8>, byte: u8) {
-    bytes.push(byte).expect(rt, "memory");
-}
-
 /// Puts bytes behind others.
 fn put_all(rt: &impl Abort, bytes: &mut Vec<u8>, more: &[u8]) {
     bytes.extend_from_slice(more).expect(rt, "memory");
 }
 
 /// The bytes of hexadecimal digits, or so many bytes 0 behind `*`.
-fn put_hex(rt: &impl Abort, bytes: &mut Vec<u8>, text: &str) {
-    if let Some(count) = text.strip_prefix("*") {
-        for _ in 0..count.parse::<u32>().unwrap_or(0) {
-            put(rt, bytes, 0);
+fn hexadecimal(rt: &impl Abort, alloc: Global, text: &str) -> Vec<u8> {
+    match text.strip_prefix("*") {
+        Some(count) => {
+            let mut bytes = Vec::new(alloc);
+            let count = count.parse().expect(rt, "a count");
+            bytes.resize(count, 0).expect(rt, "memory");
+            bytes
         }
-        return;
-    }
-    let mut high = None;
-    for digit in text.chars() {
-        let digit = digit.to_digit(16).unwrap_or(0) as u8;
-        match high {
-            None => high = Some(digit),
-            Some(first) => {
-                put(rt, bytes, first.wrapping_mul(16).wrapping_add(digit));
-                high = None;
-            }
-        }
+        None => decode(alloc, text).expect(rt, "hexadecimal digits"),
     }
 }
 
-/// A frame with its time and its lengths.
-fn put_frame(rt: &impl Abort, alloc: Global, bytes: &mut Vec<u8>, text: &str) {
-    let mut frame = Vec::new(alloc);
-    put_hex(rt, &mut frame, text);
-    let length = u32::try_from(frame.len()).unwrap_or(0).to_le_bytes();
-    put_all(rt, bytes, TIME);
-    put_all(rt, bytes, &length);
-    put_all(rt, bytes, &length);
-    put_all(rt, bytes, frame.as_slice());
-}
-
+/// A capture of frames, each with its time and its lengths.
 fn put_capture(rt: &impl Abort, alloc: Global, bytes: &mut Vec<u8>, frames: &str) {
     put_all(rt, bytes, HEAD);
     for text in frames.split(',') {
-        put_frame(rt, alloc, bytes, text);
+        let frame = hexadecimal(rt, alloc, text);
+        let length = (frame.len() as u32).to_le_bytes();
+        put_all(rt, bytes, TIME);
+        put_all(rt, bytes, &length);
+        put_all(rt, bytes, &length);
+        put_all(rt, bytes, frame.as_slice());
     }
 }
 
 /// A text with a line feed for each `/`.
-fn put_lines(rt: &impl Abort, bytes: &mut Vec<u8>, text: &str) {
-    for byte in text.as_bytes() {
-        put(rt, bytes, if *byte == b'/' { b'\n' } else { *byte });
-    }
+fn lines_of(rt: &impl Abort, alloc: Global, text: &str) -> String {
+    String::from_str(alloc, text)
+        .expect(rt, "memory")
+        .replace(alloc, "/", "\n")
+        .expect(rt, "memory")
 }
 
 fn put_texts(rt: &impl Abort, bytes: &mut Vec<u8>, texts: &[&str]) {
@@ -208,9 +192,9 @@ fn put_texts(rt: &impl Abort, bytes: &mut Vec<u8>, texts: &[&str]) {
 fn bytes_of(rt: &impl Abort, alloc: Global, kind: u8, value: &str) -> Vec<u8> {
     let mut bytes = Vec::new(alloc);
     match kind {
-        b'#' => put_hex(rt, &mut bytes, value),
+        b'#' => put_all(rt, &mut bytes, hexadecimal(rt, alloc, value).as_slice()),
         b'~' => put_capture(rt, alloc, &mut bytes, value),
-        b'/' => put_lines(rt, &mut bytes, value),
+        b'/' => put_all(rt, &mut bytes, lines_of(rt, alloc, value).as_bytes()),
         b'$' => {
             let (ingress, egress) = value.split_once('|').unwrap_or((value, ""));
             put_texts(rt, &mut bytes, &[FRONT, ingress, MIDDLE, egress, BACK])
@@ -319,11 +303,7 @@ fn name_of(status: Status) -> &'static str {
 /// Whether this is the status, and behind a blank what was put, if anything, with `/` for each line feed.
 fn is_answer(rt: &impl Abort, alloc: Global, status: Status, taken: &[u8], wanted: &str) -> bool {
     let (name, text) = wanted.split_once(' ').unwrap_or((wanted, ""));
-    let mut found = Vec::new(alloc);
-    for byte in taken {
-        put(rt, &mut found, if *byte == b'\n' { b'/' } else { *byte });
-    }
-    name == name_of(status) && found.as_slice() == text.as_bytes()
+    name == name_of(status) && taken == lines_of(rt, alloc, text).as_bytes()
 }
 
 /// Whether a file of the store is as a row says.
@@ -411,32 +391,18 @@ fn first_wrong<'a>(rt: &impl Abort, alloc: Global, row: &'a str, behind: &Behind
     ""
 }
 
-/// Does what the words of a row say with the switches of a bench: the status, what was put, and the files.
-fn done<B: Bench>(
-    rt: &impl Abort,
-    alloc: Global,
-    row: &str,
-    bench: &mut B,
-    rules: &RuleSet,
-) -> (Status, MemSink, MemStore) {
+/// Does what the words of a row say, with the switches of a bench of which one may stop: the first part of the row that does
+/// not hold then.
+pub fn wrong<'a>(rt: &impl Abort, alloc: Global, row: &'a str, rules: &RuleSet) -> &'a str {
     let (line, _) = row.split_once(" @ ").unwrap_or((row, ""));
     let words = words_of(rt, alloc, line);
     let mut store = held(rt, alloc, row);
     let mut out = MemSink::new(alloc, 1000, failing(rt, alloc, row, "?")).expect(rt, "memory");
-    let status = hydra(alloc, &words, &mut store, &mut out, bench, rules);
-    forget(words);
-    (status, out, store)
-}
-
-/// The first part of a row that does not hold behind its words. The bench is asked for the texts that it kept.
-fn wrong_behind<'a>(
-    rt: &impl Abort,
-    alloc: Global,
-    row: &'a str,
-    done: (Status, MemSink, MemStore),
-    bench: StoppingBench,
-) -> &'a str {
-    let (status, out, store) = done;
+    let mut bench = StoppingBench {
+        texts: Vec::new(alloc),
+        stop: stop_of(row),
+    };
+    let status = hydra(alloc, &words, &mut store, &mut out, &mut bench, rules);
     let behind = Behind {
         status,
         taken: out.taken(),
@@ -444,30 +410,11 @@ fn wrong_behind<'a>(
         bench: &bench,
     };
     let first = first_wrong(rt, alloc, row, &behind);
+    forget(words);
     forget(store);
     forget(out);
     forget(bench);
     first
-}
-
-/// The first part of a row that does not hold on a bench of plain switches, of which one may stop.
-pub fn wrong<'a>(rt: &impl Abort, alloc: Global, row: &'a str, rules: &RuleSet) -> &'a str {
-    let mut bench = StoppingBench {
-        texts: Vec::new(alloc),
-        stop: stop_of(row),
-    };
-    let done = done(rt, alloc, row, &mut bench, rules);
-    wrong_behind(rt, alloc, row, done, bench)
-}
-
-/// The same on a bench of switches over slots, for a row in which no switch stops.
-fn wrong_over_slots<'a>(rt: &impl Abort, alloc: Global, row: &'a str, rules: &RuleSet) -> &'a str {
-    let done = done(rt, alloc, row, &mut SlotBench, rules);
-    let bench = StoppingBench {
-        texts: Vec::new(alloc),
-        stop: None,
-    };
-    wrong_behind(rt, alloc, row, done, bench)
 }
 
 #[test]
@@ -481,22 +428,9 @@ fn rows_are_answered(rt: HostRuntime) {
     }
 }
 
-#[test]
-fn rows_are_answered_over_slots(rt: HostRuntime) {
-    let alloc = rt.alloc();
-    let rules = RuleSet::new(alloc);
-    for row in ROWS.lines() {
-        let row = whole(&rt, alloc, row);
-        if stop_of(row.as_str()).is_none() {
-            let part = wrong_over_slots(&rt, alloc, row.as_str(), &rules);
-            assert_eq!(rt; part, "", "{row}");
-        }
-    }
-}
+// ---- switches over slots, and stores and sinks without faults
 
-// ---- stores and sinks without faults
-
-/// Whether `wire` answers so, and whether the frame leaves, over the kinds that have no faults.
+/// Whether `wire` answers so, and whether the frame leaves, over slots and the kinds that have no faults.
 fn surely(rt: &impl Abort, alloc: Global, property: &str, frame: &[u8], wanted: &str) -> bool {
     let mut store = SureStore::new(alloc);
     store
