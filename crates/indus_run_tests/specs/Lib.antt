@@ -1,3 +1,4 @@
 -- What serves the worked rows.
 pub mod Properties
 pub mod Logs
+pub mod Single

@@ -243,3 +243,84 @@ fn reports_of_each_block(rt: HostRuntime) {
     leaves(&rt, alloc, &p, &hop, "/ [8w0] / #0(1w1)");
     forget(p);
 }
+
+// ---- what two packets of a run show
+
+/// What is left and told at the last of two hops of a packet, where each switch keeps its own.
+fn second_hop(rt: &impl Abort, alloc: Global, p: &Property, kept: &mut [SensorState]) -> String {
+    let mut tele = TeleState::start(alloc, p).expect(rt, "memory");
+    let mut left = String::new(alloc);
+    for (switch, sensors) in kept.iter_mut().enumerate() {
+        let number = u16::try_from(switch).unwrap_or(0);
+        let hop = view(alloc, number, switch == 0, switch == 1);
+        let last = step(rt, alloc, p, &hop, &mut tele, sensors);
+        left = show_state(rt, alloc, &tele, sensors, &last);
+        forget(hop);
+        forget(last);
+    }
+    forget(tele);
+    left
+}
+
+/// A sensor at each of two switches counts, and the packet carries what the last one counts.
+#[test]
+fn packets_behind_each_other(rt: HostRuntime) {
+    let alloc = rt.alloc();
+    let text =
+        "sensor bit<8> seen; tele bit<8> mine; {} {seen = seen + 1; mine = seen;} {report(mine);}";
+    let p = read(&rt, alloc, text);
+    let mut kept = Vec::new(alloc);
+    for _ in 0..2 {
+        let sensors = SensorState::start(alloc, &p).expect(&rt, "memory");
+        kept.push(sensors).expect(&rt, "memory");
+    }
+    for wanted in ["[8w1] / [8w1] / #0(8w1)", "[8w2] / [8w2] / #0(8w2)"] {
+        same(
+            &rt,
+            &second_hop(&rt, alloc, &p, &mut kept),
+            wanted,
+            "a packet",
+        );
+    }
+    forget(kept);
+    forget(p);
+}
+
+/// The pair of a key of 9 bits and a value of 8.
+fn put_pair(
+    rt: &impl Abort,
+    alloc: Global,
+    pairs: &mut Vec<(Vec<Bits>, Bits)>,
+    key: u128,
+    to: u128,
+) {
+    let mut words = Vec::new(alloc);
+    words.push(Bits::new(9, key % 512)).expect(rt, "memory");
+    pairs
+        .push((words, Bits::new(8, to % 256)))
+        .expect(rt, "memory");
+}
+
+/// The contents that a schedule sets, at the second of two hops: the packet comes by port 1 and goes by port 2.
+#[test]
+fn contents_at_the_last_hop(rt: HostRuntime) {
+    let alloc = rt.alloc();
+    let text =
+        "control dict<bit<9>, bit<8>> tenants; header bit<9> i = standard_metadata.ingress_port; header bit<9> o = standard_metadata.egress_port; {} {} {report(tenants[o], tenants[i]);}";
+    let p = read(&rt, alloc, text);
+    let mut pairs = Vec::new(alloc);
+    put_pair(&rt, alloc, &mut pairs, 1, 7);
+    put_pair(&rt, alloc, &mut pairs, 2, 8);
+    let mut hop = view(alloc, 1, false, true);
+    hop.control
+        .push(ControlValue::Pairs(pairs))
+        .expect(&rt, "memory");
+    let mut exit = Vec::new(alloc);
+    for port in [1, 2] {
+        exit.push(Bits::new(9, port)).expect(&rt, "memory");
+    }
+    hop.exit_ = Some(exit);
+    leaves(&rt, alloc, &p, &hop, "/ / #0(8w8 8w7)");
+    forget(hop);
+    forget(p);
+}

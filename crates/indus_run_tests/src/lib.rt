@@ -1,5 +1,5 @@
-//! Worked rows of the meaning of Indus, and tests of the trees' copies and of the direct evaluator on
-//! properties that are written as texts.
+//! Worked rows of the meaning of Indus and of its rules on trees that no text spells, and tests of the trees' copies and of the
+//! direct evaluator on properties that are written as texts.
 #![tactic(auto)]
 
 #[cfg(test)]
@@ -12,5 +12,7 @@ mod hops;
 mod meaning_rows;
 #[cfg(test)]
 mod path_rows;
+#[cfg(test)]
+mod rule_rows;
 #[cfg(test)]
 mod texts;

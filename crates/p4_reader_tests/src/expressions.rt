@@ -7,7 +7,7 @@ ghost use Rattle.lex_text.specs.declared.token.Words.TheVariants.{P4};
 ghost use Rattle.lex_words.specs.Seen.{lexemes_of};
 ghost use Rattle.lex_words.specs.Written.{AreLexemes};
 
-use crate::show::{counted, put, same, show, sides};
+use crate::show::{counted, put, same, shorter, sides};
 use lex_text::{Token, Words, tokens};
 use lex_words::{Cursor, Halt};
 use p4_expressions::expr;
@@ -17,11 +17,10 @@ use std::mem::forget;
 use std::process::Abort;
 
 /// An expression as a text. It is let go of, since to drop a tree costs the proof more than all else.
-fn shown(rt: &impl Abort, alloc: Global, tree: Expr) -> String {
-    let mut out = String::new(alloc);
-    show(rt, alloc, &mut out, &tree);
+pub fn shown(rt: &impl Abort, alloc: Global, tree: Expr) -> String {
+    let out = format!(in alloc; "{tree:?}").expect(rt, "memory");
     forget(tree);
-    out
+    shorter(rt, alloc, out)
 }
 
 /// A fault.
@@ -79,23 +78,23 @@ fn operands(rt: HostRuntime) {
         &rt,
         rt.alloc(),
         "\
-a => a@0
-8w5 => 8w5@0
-a.b.c => a.b.c@0
-a.isValid => a.isValid@0
-(a) => a@1
-a.b.isValid() => (valid@0 a.b)
-isValid.isValid() => (valid@0 isValid)
-t.apply().hit => (hit@0 t)
-!apply.apply().miss => (!@0 (miss@1 apply))
-error.NoError => (error@0 NoError)
--a[7:8w4] => (-@0 ([7:4]@1 a@1))
-a[255:0][3:0] => ([3:0]@0 ([255:0]@0 a@0))
-(a + b)[3:0] => ([3:0]@0 (+@1 a@1 b@3))
-(bit<8>) a + 1 => (+@0 (bit8@0 a@6) 1@8)
-(bit<8w9>) a => (bit9@0 a@6)
-(bit) a[0:0] => (bit1@0 ([0:0]@3 a@3))
-(bool) ~a => (bool@0 (~@3 a@4))",
+a => Path(0, [a])
+8w5 => Num(0, 8w5)
+a.b.c => Path(0, [a, b, c])
+a.isValid => Path(0, [a, isValid])
+(a) => Path(1, [a])
+a.b.isValid() => Valid(0, [a, b])
+isValid.isValid() => Valid(0, [isValid])
+t.apply().hit => Applied(0, t, true)
+!apply.apply().miss => Not(0, Applied(1, apply, false))
+error.NoError => ErrorName(0, NoError)
+-a[7:8w4] => Negate(0, Slice(1, Path(1, [a]), 7, 4))
+a[255:0][3:0] => Slice(0, Slice(0, Path(0, [a]), 255, 0), 3, 0)
+(a + b)[3:0] => Slice(0, Bin(1, Add, Path(1, [a]), Path(3, [b])), 3, 0)
+(bit<8>) a + 1 => Bin(0, Add, Cast(0, Bit(8), Path(6, [a])), Num(8, 0w1))
+(bit<8w9>) a => Cast(0, Bit(9), Path(6, [a]))
+(bit) a[0:0] => Cast(0, Bit(1), Slice(3, Path(3, [a]), 0, 0))
+(bool) ~a => Cast(0, Bool, Invert(3, Path(4, [a])))",
     );
 }
 
@@ -105,16 +104,16 @@ fn operators(rt: HostRuntime) {
         &rt,
         rt.alloc(),
         "\
-a - b - c => (-@0 (-@0 a@0 b@2) c@4)
-a + b ++ c => (++@0 (+@0 a@0 b@2) c@4)
-a ++ b * c => (++@0 a@0 (*@2 b@2 c@4))
-a << b + c => (<<@0 a@0 (+@2 b@2 c@4))
-a & b == c => (==@0 (&@0 a@0 b@2) c@4)
-a || b && c => (||@0 a@0 (&&@2 b@2 c@4))
-a ? b : c ? d : e => (?@0 a@0 b@2 (?@4 c@4 d@6 e@8))
-a ? b ? c : d : e => (?@0 a@0 (?@2 b@2 c@4 d@6) e@8)
-a || b ? c : d => (?@0 (||@0 a@0 b@2) c@4 d@6)
-(a ? b : c) ? d : e => (?@0 (?@1 a@1 b@3 c@5) d@8 e@10)",
+a - b - c => Bin(0, Sub, Bin(0, Sub, Path(0, [a]), Path(2, [b])), Path(4, [c]))
+a + b ++ c => Bin(0, Concat, Bin(0, Add, Path(0, [a]), Path(2, [b])), Path(4, [c]))
+a ++ b * c => Bin(0, Concat, Path(0, [a]), Bin(2, Mul, Path(2, [b]), Path(4, [c])))
+a << b + c => Bin(0, Shl, Path(0, [a]), Bin(2, Add, Path(2, [b]), Path(4, [c])))
+a & b == c => Bin(0, Equal, Bin(0, BitAnd, Path(0, [a]), Path(2, [b])), Path(4, [c]))
+a || b && c => Bin(0, Either, Path(0, [a]), Bin(2, Both, Path(2, [b]), Path(4, [c])))
+a ? b : c ? d : e => Choice(0, Path(0, [a]), Path(2, [b]), Choice(4, Path(4, [c]), Path(6, [d]), Path(8, [e])))
+a ? b ? c : d : e => Choice(0, Path(0, [a]), Choice(2, Path(2, [b]), Path(4, [c]), Path(6, [d])), Path(8, [e]))
+a || b ? c : d => Choice(0, Bin(0, Either, Path(0, [a]), Path(2, [b])), Path(4, [c]), Path(6, [d]))
+(a ? b : c) ? d : e => Choice(0, Choice(1, Path(1, [a]), Path(3, [b]), Path(5, [c])), Path(8, [d]), Path(10, [e]))",
     );
 }
 

@@ -14,5 +14,3 @@ mod programs;
 mod samples;
 #[cfg(test)]
 mod show;
-#[cfg(test)]
-mod show_statements;

@@ -1,2 +1,0 @@
--- Declarations that no text spells.
-pub mod Single

@@ -1,0 +1,2 @@
+-- What serves the rows.
+pub mod Choices
