@@ -29,14 +29,14 @@ rejected =p tele bit<8> n; {} {n = n + 1;} {if (n == 3) {reject;}} @ #f 0102
 passes %c , "control": "k", "schedule": "e" @ =k {} @ =e [] @ ~h.pcap 0102 @ =p {} {} {} @ $f standard_metadata.egress_spec = 2;| @ =n {"switches": ["s1", "s2"], "links": [["s1", 2, "s2", 1]]}
 goes =c {"captures": [{"switch": "s1", "port": 1, "file": "h.pcap"}], "network": "n", "program": "f", "entries": "t", "schedule": "e"} @ =t {} @ =e [] @ ~h.pcap 0102 @ $f standard_metadata.egress_spec = 2;| @ =n {"switches": ["s1"], "links": []}"#;
 
-/// A row is words, and behind ` @ ` each what is given, what fails, what is answered and what is written. Of files are given
-/// a text `=NAME TEXT`, bytes `#NAME HEX`, a capture of frames `~NAME HEX,HEX` or of a frame of so many bytes 0
-/// `~NAME *COUNT`, a program `$NAME INGRESS|EGRESS`, and a case `%NAME MEMBERS`. `&NAME` stands for parts with a name. `!N`
-/// and `?N` are the numbers of the calls of the store and of the sink that fail. `>` is the status and what was put, with `/`
-/// for each line feed. Behind `:` is a file that is written: as files are given, or `/NAME TEXT` with `/` for each line feed,
-/// or `?NAME` whatever it holds; and `!NAME` is not written. `^N K` is the number of a switch and of its entry that answers
-/// want of memory, and `;N NAME` says that the program of that switch is the one whose text the file holds. `+NAME TEXT` says
-/// that the text stands in a file that is written.
+/// A row is words, and behind ` @ ` each what is given, what fails, what is answered and what is written. Of files are given a
+/// text `=NAME TEXT`, bytes `#NAME HEX`, a capture of frames `~NAME HEX,HEX` or of a frame of so many bytes 0 `~NAME *COUNT`,
+/// a program `$NAME INGRESS|EGRESS`, and a case `%NAME MEMBERS`. `&NAME` stands for parts with a name. `!N` and `?N` are the
+/// numbers of the calls of the store and of the sink that fail. `>` is the status and what was put, with `/` for each line
+/// feed and `\` for each `/`. Behind `:` is a file that is written: as files are given, or `/NAME TEXT`, likewise, or `?NAME`
+/// whatever it holds; and `!NAME` is not written. `^N K` is the number of a switch and of its entry that answers want of
+/// memory, and `;N NAME` says that the program of that switch is the one whose text the file holds. `+NAME TEXT` says that the
+/// text stands in a file that is written.
 const ROWS: &str = r#" @ >BadWords hydra: words/
 wire p f o @ &rejected @ >Done packets 1/sent 0/dropped 0/rejected 1/lost 0/reports 0/ @ :?o.linked.s1.p4 @ :?o.linked.s2.p4 @ :?o.linked.s3.p4 @ :!o.frame
 wire p f o @ &leaves @ >Done packets 1/sent 1/dropped 0/rejected 0/lost 0/reports 0/ @ :#o.frame 0102
@@ -70,7 +70,7 @@ check p @ =p tele bit<8> n; {m = 1;} {} {} @ >BadProperty hydra: property p Type
 run c o @ &case @ &one @ =f header_union @ &frame @ &plain @ >BadProgram hydra: program f LeftOut 0 header_union/
 run c o @ &case @ &one @ $f bit<8> hydra_x = 0; standard_metadata.egress_spec = 2;| @ &frame @ =p {} {} {} @ >NotLinked hydra: link NameTaken hydra_x/ @ :!o.summary.txt
 run c o @ &case @ &one @ &two @ &frame @ =p header bit<16> d = hdr.tcp.dport; {} {} {} @ >NotLinked hydra: link NoSuchField hdr.tcp.dport/ @ :!o.summary.txt
-run c o @ %c , "control": "k" @ =k {"s2": {"tenants": [[1, 5], [1, 6]]}} @ &line2 @ &wire @ &frame @ =p control dict<bit<9>, bit<8>> tenants; {} {} {report(tenants[1]);} @ >BadNetwork hydra: network k KeyTwice /s2/tenants/1/ @ :!o.summary.txt
+run c o @ %c , "control": "k" @ =k {"s2": {"tenants": [[1, 5], [1, 6]]}} @ &line2 @ &wire @ &frame @ =p control dict<bit<9>, bit<8>> tenants; {} {} {report(tenants[1]);} @ >BadNetwork hydra: network k KeyTwice \s2\tenants\1/ @ :!o.summary.txt
 wire p f o @ &leaves @ !3 @ >WriteFault hydra: write o.linked.s2.p4/ @ :?o.linked.s1.p4 @ :!o.linked.s2.p4 @ :!o.linked.s3.p4 @ :!o.frame
 wire q f o @ #f 0102 @ >ReadFault hydra: read q/
 wire p f o @ &leaves @ !0 @ >ReadFault hydra: read p/
@@ -174,11 +174,13 @@ fn put_capture(rt: &impl Abort, alloc: Global, bytes: &mut Vec<u8>, frames: &str
     }
 }
 
-/// A text with a line feed for each `/`.
+/// A text with a line feed for each `/`, and a `/` for each `\`.
 fn lines_of(rt: &impl Abort, alloc: Global, text: &str) -> String {
     String::from_str(alloc, text)
         .expect(rt, "memory")
         .replace(alloc, "/", "\n")
+        .expect(rt, "memory")
+        .replace(alloc, "\\", "/")
         .expect(rt, "memory")
 }
 
@@ -300,7 +302,7 @@ fn name_of(status: Status) -> &'static str {
     }
 }
 
-/// Whether this is the status, and behind a blank what was put, if anything, with `/` for each line feed.
+/// Whether this is the status, and behind a blank what was put, if anything.
 fn is_answer(rt: &impl Abort, alloc: Global, status: Status, taken: &[u8], wanted: &str) -> bool {
     let (name, text) = wanted.split_once(' ').unwrap_or((wanted, ""));
     name == name_of(status) && taken == lines_of(rt, alloc, text).as_bytes()
