@@ -1,5 +1,7 @@
 //! What actions do on words, and on the arguments of a call.
 
+ghost use Rattle.slot_terms.specs.Places.{places_of, IsLaid};
+
 use crate::places::{ends, expression, holds, name, number, places, state, statements, width};
 use bit_values::{Bits, sound_width};
 use p4_parts::{Action, Taken};
@@ -106,7 +108,9 @@ fn words_code(
     alloc: Global,
     places: &mut Places,
     a: &Action,
-) -> Result<(Vec<(u32, u128)>, Vec<Code>), Fault> {
+) -> Result<(Vec<(u32, u128)>, Vec<Code>), Fault>
+    requires { IsLaid (places_of places.old) }
+{
     let mut slots = Vec::new(alloc);
     masked(alloc, places, &a.params, &mut slots)?;
     let body = stmts_code(alloc, places, &a.body)?;
@@ -119,7 +123,9 @@ fn call_code(
     places: &mut Places,
     a: &Action,
     args: &[Expr],
-) -> Result<(Vec<u32>, Vec<Term>, Vec<Code>), Fault> {
+) -> Result<(Vec<u32>, Vec<Term>, Vec<Code>), Fault>
+    requires { IsLaid (places_of places.old) }
+{
     let terms = argument_terms(alloc, places, &a.params, args)?;
     let mut slots = Vec::new(alloc);
     parameters(alloc, places, &a.params, &mut slots)?;

@@ -169,8 +169,8 @@ fn registers(rt: &impl Abort, alloc: Global) -> Vec<Declared> {
 /// What the register holds.
 fn cells(rt: &impl Abort, alloc: Global) -> Vec<Cells> {
     let mut cells = Cells::new(alloc, 8, 4).expect(rt, "memory");
-    for i in 0..4 {
-        cells.write(i, Bits::new(8, i * 10 + 10));
+    for (at, value) in [10, 20, 30, 40].into_iter().enumerate() {
+        cells.write(at as u128, Bits::new(8, value));
     }
     let mut all = Vec::new(alloc);
     all.push(cells).expect(rt, "memory");
@@ -209,17 +209,13 @@ fn entry(rt: &impl Abort, alloc: Global) -> OneEntry {
 
 /// The register holds these numbers.
 fn hold_cells(rt: &impl Abort, x: &Externs, numbers: &str) -> bool {
-    let mut at = 0;
-    for digits in numbers.split(' ') {
-        match x.registers.first() {
-            None => return false,
-            Some(cells) => {
-                if cells.read(at).value != number(rt, digits) {
-                    return false;
-                }
-            }
+    let Some(cells) = x.registers.first() else {
+        return false;
+    };
+    for (at, digits) in numbers.split(' ').enumerate() {
+        if cells.read(at as u128).value != number(rt, digits) {
+            return false;
         }
-        at += 1;
     }
     true
 }
@@ -237,7 +233,10 @@ fn is_told(rt: &impl Abort, receiver: u32, values: &[Bits], text: &str) -> bool 
     }
     let mut at = 0;
     for digits in numbers {
-        if at >= values.len() || values[at].value != number(rt, digits) {
+        let Some(value) = values.get(at) else {
+            return false;
+        };
+        if value.value != number(rt, digits) {
             return false;
         }
         at += 1;
