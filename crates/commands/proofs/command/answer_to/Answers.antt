@@ -1,6 +1,7 @@
 use Rattle.std.proofs.Common.{sym, subst}
-use Rattle.job_course.specs.Ending.{AnswersAll}
+use Rattle.job_course.specs.Ending.{AnswersAll, AnswersCommand}
 use Rattle.commands.specs.Command.{course_of, said_by}
+use Rattle.commands.specs.Output.{Outputs}
 use Rattle.commands.proofs.command.answer_to.Goals as goal
 
 pub returns-in-Wire-clause-complete : goal.returns-in-Wire-clause-complete
@@ -17,3 +18,6 @@ returns-in-Link-clause-complete g c = subst (λ x. AnswersAll (course_of (said_b
 
 pub returns-in-Load-clause-complete : goal.returns-in-Load-clause-complete
 returns-in-Load-clause-complete g c = subst (λ x. AnswersAll (course_of (said_by x)) (g.S.Store.state c.args.store.now) (g.S.Store.state c.answer-in-Load.new.store) (g.K.Sink.state c.args.out.now) (g.K.Sink.state c.answer-in-Load.new.out) c.answer-in-Load.result) (sym c.in-Load.is) c.answer-in-Load.ensures.complete
+
+pub returns-in-Load-clause-answer : goal.returns-in-Load-clause-answer
+returns-in-Load-clause-answer g c = subst (λ x. AnswersCommand Outputs (course_of (said_by x)) (g.S.Store.state c.args.store.now) (g.S.Store.state c.answer-in-Load.new.store) (g.K.Sink.state c.args.out.now) (g.K.Sink.state c.answer-in-Load.new.out) c.answer-in-Load.result) (sym c.in-Load.is) c.answer-in-Load.ensures.answer
