@@ -166,7 +166,9 @@ fn put_capture(rt: &impl Abort, alloc: Global, bytes: &mut Vec<u8>, frames: &str
     put_all(rt, bytes, HEAD);
     for text in frames.split(',') {
         let frame = hexadecimal(rt, alloc, text);
-        let length = (frame.len() as u32).to_le_bytes();
+        let length = u32::try_from(frame.len())
+            .expect(rt, "a length")
+            .to_le_bytes();
         put_all(rt, bytes, TIME);
         put_all(rt, bytes, &length);
         put_all(rt, bytes, &length);
